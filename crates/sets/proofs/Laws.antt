@@ -1,0 +1,155 @@
+-- Laws of counts, of masks and of membership, for every n together and over the width. Assumes nothing.
+use Prim.Native.Nat.{ℕ, zero, suc, _+_, _-_, _*_, _/_, _%_, _^_, _≤_, _<_, zero-le, suc-le-suc}
+use mathlib.Core.Path.{_≡_, refl, sym, ap, ap₂, _∙_, subst}
+use mathlib.Core.Logic.{_⊎_, inl, inr}
+use mathlib.Core.Bool.{Bool, true, false, not}
+use native.Mathlib.Nat.{le-refl, le-of-suc-le-suc, not-suc-le-zero, zero-lt-suc, add-le-add}
+use native.Mathlib.Numerals.{add-one}
+use native.Mathlib.Omega.{arith}
+use lib.Dec.{eqb, ltb, eqb·zero-suc, eqb·suc-zero, eqb·suc-suc}
+use borrow.Author.Tests.{ltb-true, ltb-false, lt-ltb, le-ltb}
+use Rattle.sets.specs.Tests.{_and_, _or_}
+use Rattle.sets.specs.Sets.{bit, mem, count, all, mask, many, within}
+use Rattle.sets.proofs.Bools.{clash, and-l, and-r, and-i}
+use Rattle.sets.proofs.Digits.{bit-test, low-of, high-of, half-lt, twice-lt, digits-same}
+
+-- ---- membership
+
+pub mem-zero : (i : ℕ) → mem i 0 ≡ false
+unfolding mem
+mem-zero zero = refl
+mem-zero (suc i) = mem-zero i
+
+-- a number below 2 ^ n has no bit at or above n
+pub mem-above : (n i s : ℕ) → s < 2 ^ n → n ≤ i → mem i s ≡ false
+unfolding mem
+mem-above zero i s h k = let e : s ≡ 0 = omega arith in ap (mem i) e ∙ mem-zero i
+mem-above (suc n) zero s h k = absurd (omega arith)
+mem-above (suc n) (suc i) s h k = mem-above n i (s / 2) (half-lt n h) (le-of-suc-le-suc k)
+
+-- two sets of n terminals with the same members are one
+pub set-ext : (n a b : ℕ) → a < 2 ^ n → b < 2 ^ n → ((i : ℕ) → i < n → mem i a ≡ mem i b) → a ≡ b
+unfolding mem
+set-ext zero a b p q e = omega arith
+set-ext (suc n) a b p q e =
+    digits-same a b (e 0 (zero-lt-suc n)) (set-ext n (a / 2) (b / 2) (half-lt n p) (half-lt n q) (λ i h. e (suc i) (suc-le-suc h)))
+
+-- ---- the mask of a property
+
+pub mask-lt : (n : ℕ) (P : ℕ → Bool) → mask n P < 2 ^ n
+unfolding mask
+mask-lt zero P = zero-lt-suc 0
+mask-lt (suc n) P = twice-lt (P 0) n (mask-lt n (λ i. P (suc i)))
+
+pub mem-mask : (n i : ℕ) (P : ℕ → Bool) → i < n → mem i (mask n P) ≡ P i
+unfolding mem mask
+mem-mask zero i P h = absurd (not-suc-le-zero h)
+mem-mask (suc n) zero P h = ap (λ (d : ℕ). eqb d 1) (low-of (P 0) (mask n (λ i. P (suc i)))) ∙ bit-test (P 0)
+mem-mask (suc n) (suc i) P h =
+    ap (mem i) (high-of (P 0) (mask n (λ j. P (suc j)))) ∙ mem-mask n i (λ j. P (suc j)) (le-of-suc-le-suc h)
+
+pub mem-mask-above : (n i : ℕ) (P : ℕ → Bool) → n ≤ i → mem i (mask n P) ≡ false
+mem-mask-above n i P h = mem-above n i (mask n P) (mask-lt n P) h
+
+-- a number of n bits is the mask of any property that its bits have
+pub mask-of : (n s : ℕ) (P : ℕ → Bool) → s < 2 ^ n → ((i : ℕ) → i < n → mem i s ≡ P i) → s ≡ mask n P
+mask-of n s P h e = set-ext n s (mask n P) h (mask-lt n P) (λ i k. e i k ∙ sym (mem-mask n i P k))
+
+pub mask-cong : (n : ℕ) (P Q : ℕ → Bool) → ((i : ℕ) → i < n → P i ≡ Q i) → mask n P ≡ mask n Q
+mask-cong n P Q e = mask-of n (mask n P) Q (mask-lt n P) (λ i k. mem-mask n i P k ∙ e i k)
+
+-- ---- every terminal
+
+pub all-at : (n : ℕ) (P : ℕ → Bool) → all n P ≡ true → (i : ℕ) → i < n → P i ≡ true
+unfolding all
+all-at zero P h i k = absurd (not-suc-le-zero k)
+all-at (suc n) P h zero k = and-l _ _ h
+all-at (suc n) P h (suc i) k = all-at n (λ j. P (suc j)) (and-r _ _ h) i (le-of-suc-le-suc k)
+
+pub all-i : (n : ℕ) (P : ℕ → Bool) → ((i : ℕ) → i < n → P i ≡ true) → all n P ≡ true
+unfolding all
+all-i zero P f = refl
+all-i (suc n) P f = and-i _ _ (f 0 (zero-lt-suc n)) (all-i n (λ j. P (suc j)) (λ i k. f (suc i) (suc-le-suc k)))
+
+-- where not all have P, one of them lacks it
+pub all-not : (n : ℕ) (P : ℕ → Bool) → all n P ≡ false → (i : ℕ) × (i < n) × (P i ≡ false)
+unfolding all _and_
+all-not zero P h = clash refl h
+all-not (suc n) P h = go (P 0) refl h (all-not n (λ j. P (suc j)))
+  where
+    go : (b : Bool) → P 0 ≡ b → b and all n (λ j. P (suc j)) ≡ false
+        → (all n (λ j. P (suc j)) ≡ false → (i : ℕ) × (i < n) × (P (suc i) ≡ false)) → (i : ℕ) × (i < suc n) × (P i ≡ false)
+    go true e k rest = let r = rest k in (suc (r .0), suc-le-suc (r .1), r .2)
+    go false e k rest = (0, zero-lt-suc n, e)
+
+-- ---- counts
+
+bit-mono : (a b : Bool) → (a ≡ true → b ≡ true) → bit a ≤ bit b
+bit-mono true b f = subst (λ (x : Bool). 1 ≤ bit x) (sym (f refl)) (le-refl 1)
+bit-mono false b f = zero-le
+
+pub count-cong : (n : ℕ) (P Q : ℕ → Bool) → ((i : ℕ) → i < n → P i ≡ Q i) → count n P ≡ count n Q
+unfolding count
+count-cong zero P Q e = refl
+count-cong (suc n) P Q e =
+    ap₂ (λ (b : Bool) (m : ℕ). bit b + m) (e 0 (zero-lt-suc n)) (count-cong n (λ j. P (suc j)) (λ j. Q (suc j)) (λ i k. e (suc i) (suc-le-suc k)))
+
+pub count-mono : (n : ℕ) (P Q : ℕ → Bool) → ((i : ℕ) → i < n → P i ≡ true → Q i ≡ true) → count n P ≤ count n Q
+unfolding count
+count-mono zero P Q f = zero-le
+count-mono (suc n) P Q f =
+    add-le-add (bit-mono (P 0) (Q 0) (f 0 (zero-lt-suc n))) (count-mono n (λ j. P (suc j)) (λ j. Q (suc j)) (λ i k. f (suc i) (suc-le-suc k)))
+
+pub count-none : (n : ℕ) (P : ℕ → Bool) → ((i : ℕ) → i < n → P i ≡ false) → count n P ≡ 0
+unfolding count
+count-none zero P f = refl
+count-none (suc n) P f =
+    ap₂ (λ (b : Bool) (m : ℕ). bit b + m) (f 0 (zero-lt-suc n)) (count-none n (λ j. P (suc j)) (λ i k. f (suc i) (suc-le-suc k)))
+
+bit-le : (b : Bool) → bit b ≤ 1
+bit-le true = le-refl 1
+bit-le false = zero-le
+
+pub count-le : (n : ℕ) (P : ℕ → Bool) → count n P ≤ n
+unfolding count
+count-le zero P = zero-le
+count-le (suc n) P = let t : count n (λ j. P (suc j)) ≤ n = count-le n (λ j. P (suc j)) in omega (arith, bit-le (P 0))
+
+-- one more member counts one more
+pub count-more : (n : ℕ) (P Q : ℕ → Bool) → ((i : ℕ) → i < n → P i ≡ true → Q i ≡ true)
+    → (j : ℕ) → j < n → P j ≡ false → Q j ≡ true → count n P < count n Q
+unfolding count
+count-more zero P Q f j k p q = absurd (not-suc-le-zero k)
+count-more (suc n) P Q f zero k p q =
+    let t : count n (λ j. P (suc j)) ≤ count n (λ j. Q (suc j)) = count-mono n (λ j. P (suc j)) (λ j. Q (suc j)) (λ i h. f (suc i) (suc-le-suc h)) in
+    omega (arith, ap bit p, ap bit q)
+count-more (suc n) P Q f (suc j) k p q =
+    let t : count n (λ j. P (suc j)) < count n (λ j. Q (suc j)) =
+    count-more n (λ j. P (suc j)) (λ j. Q (suc j)) (λ i h. f (suc i) (suc-le-suc h)) j (le-of-suc-le-suc k) p q in
+    let u : bit (P 0) ≤ bit (Q 0) = bit-mono (P 0) (Q 0) (f 0 (zero-lt-suc n)) in
+    omega arith
+
+-- a count upwards: the terminals below i + 1 are those below i, and i
+pub count-next : (i : ℕ) (P : ℕ → Bool) → count (suc i) P ≡ count i P + bit (P i)
+unfolding count
+count-next zero P = omega arith
+count-next (suc i) P =
+    let t : count (suc i) (λ j. P (suc j)) ≡ count i (λ j. P (suc j)) + bit (P (suc i)) = count-next i (λ j. P (suc j)) in
+    omega arith
+
+-- ---- `many`: all that the layers above use of it
+
+pub many-mono : (n f : ℕ) (P Q : ℕ → Bool) → ((i : ℕ) → i < n → P i ≡ true → Q i ≡ true) → many n f P ≡ true → many n f Q ≡ true
+unfolding many
+many-mono n f P Q s h =
+    let a : f < count n P = ltb-true f (count n P) h in
+    let b : count n P ≤ count n Q = count-mono n P Q s in
+    lt-ltb f (count n Q) (omega arith)
+
+pub many-none : (n f : ℕ) (P : ℕ → Bool) → ((i : ℕ) → i < n → P i ≡ false) → many n f P ≡ false
+unfolding many
+many-none n f P e = le-ltb f (count n P) (omega (arith, count-none n P e))
+
+pub many-cong : (n f : ℕ) (P Q : ℕ → Bool) → ((i : ℕ) → i < n → P i ≡ Q i) → many n f P ≡ many n f Q
+unfolding many
+many-cong n f P Q e = ap (ltb f) (count-cong n P Q e)

@@ -1,0 +1,6 @@
+-- The laws that this crate's proofs and the layers above cite.
+pub mod Bools
+pub mod Digits
+pub mod Laws
+pub mod Masks
+pub mod Operations

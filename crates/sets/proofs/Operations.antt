@@ -1,0 +1,63 @@
+-- Each operation of specs/Sets.antt as the shifts and masks that compute it, over the width. Assumes nothing.
+use Prim.Native.Nat.{ℕ, zero, suc, _+_, _-_, _*_, _/_, _%_, _^_, _≤_, _<_}
+use mathlib.Core.Path.{_≡_, refl, sym, ap, ap₂, _∙_, subst}
+use mathlib.Core.Bool.{Bool, true, false, not}
+use native.Mathlib.Nat.{lt-of-le-of-lt, div-lt-iff-lt-mul, le-div-iff-mul-le, one-mul, mod-eq-of-lt}
+use native.Mathlib.Omega.{arith}
+use lib.Dec.{eqb, ltb}
+use lib.Bits.{bitAnd, bitOr, and-le-l, or-lt, and-mask}
+use lib.Pow.{pow-lt, pow-pos}
+use borrow.Author.Tests.{ne-eqb, lt-ltb, le-ltb}
+use Rattle.sets.specs.Tests.{_and_, _or_}
+use Rattle.sets.specs.Sets.{mem, mask, within, singleton, with, without, union, difference}
+use Rattle.sets.proofs.Laws.{mem-zero, mem-mask, mask-of, mask-lt}
+use Rattle.sets.proofs.Masks.{mem-and, mem-or, mem-not, mem-power, mem-shift}
+
+pub test-member : (i s : ℕ) → eqb (bitAnd (s / 2 ^ i) 1) 1 ≡ mem i s
+test-member i s = ap (λ (d : ℕ). eqb d 1) (and-mask (s / 2 ^ i) 1) ∙ sym (mem-shift i s)
+
+pub test-within : (n s : ℕ) → eqb (s / 2 ^ n) 0 ≡ within n s
+unfolding within
+test-within n s = go (s / 2 ^ n) refl
+  where
+    go : (q : ℕ) → s / 2 ^ n ≡ q → eqb q 0 ≡ ltb s (2 ^ n)
+    go zero e =
+        sym (lt-ltb s (2 ^ n) (subst (λ (x : ℕ). s < x) (one-mul (2 ^ n)) (div-lt-iff-lt-mul (pow-pos n) .0 (omega arith))))
+    go (suc q) e =
+        ne-eqb (suc q) 0 (λ z. omega arith)
+        ∙ sym (le-ltb s (2 ^ n) (subst (λ (x : ℕ). x ≤ s) (one-mul (2 ^ n)) (le-div-iff-mul-le (pow-pos n) .0 (omega arith))))
+
+pub power-singleton : (w i : ℕ) → i < w → (1 * 2 ^ i) % 2 ^ w ≡ singleton w i
+unfolding singleton
+power-singleton w i h =
+    ap (λ (x : ℕ). x % 2 ^ w) (one-mul (2 ^ i)) ∙ mod-eq-of-lt (pow-lt h) ∙ mask-of w (2 ^ i) (λ j. eqb j i) (pow-lt h) (λ j k. mem-power i j)
+
+pub zero-singleton : (w i : ℕ) → w ≤ i → 0 ≡ singleton w i
+unfolding singleton
+zero-singleton w i h = mask-of w 0 (λ j. eqb j i) (pow-pos w) (λ j k. mem-zero j ∙ sym (ne-eqb j i (λ e. omega arith)))
+
+pub or-union : (w a b : ℕ) → a < 2 ^ w → b < 2 ^ w → bitOr a b ≡ union w a b
+unfolding union
+or-union w a b p q = mask-of w (bitOr a b) (λ j. mem j a or mem j b) (or-lt w a b p q) (λ j k. mem-or j a b)
+
+pub and-difference : (w a b : ℕ) → a < 2 ^ w → b < 2 ^ w → bitAnd a (2 ^ w - 1 - b) ≡ difference w a b
+unfolding difference
+and-difference w a b p q =
+    mask-of w (bitAnd a (2 ^ w - 1 - b)) (λ j. mem j a and not (mem j b)) (lt-of-le-of-lt (and-le-l a (2 ^ w - 1 - b)) p)
+    (λ j k. mem-and j a (2 ^ w - 1 - b) ∙ ap (λ (t : Bool). mem j a and t) (mem-not w j b q k))
+
+pub or-with : (w s i : ℕ) → s < 2 ^ w → bitOr s (singleton w i) ≡ with w s i
+unfolding singleton with
+or-with w s i p =
+    mask-of w (bitOr s (mask w (λ j. eqb j i))) (λ j. mem j s or eqb j i) (or-lt w s (mask w (λ j. eqb j i)) p (mask-lt w (λ j. eqb j i)))
+    (λ j k. mem-or j s (mask w (λ j. eqb j i)) ∙ ap (λ (t : Bool). mem j s or t) (mem-mask w j (λ j. eqb j i) k))
+
+pub and-without : (w s i : ℕ) → s < 2 ^ w → bitAnd s (2 ^ w - 1 - singleton w i) ≡ without w s i
+unfolding singleton without
+and-without w s i p =
+    mask-of w (bitAnd s (2 ^ w - 1 - mask w (λ j. eqb j i))) (λ j. mem j s and not (eqb j i))
+    (lt-of-le-of-lt (and-le-l s (2 ^ w - 1 - mask w (λ j. eqb j i))) p)
+    (λ j k.
+    mem-and j s (2 ^ w - 1 - mask w (λ j. eqb j i))
+    ∙ ap (λ (t : Bool). mem j s and t)
+    (mem-not w j (mask w (λ j. eqb j i)) (mask-lt w (λ j. eqb j i)) k ∙ ap not (mem-mask w j (λ j. eqb j i) k)))

@@ -1,0 +1,3 @@
+-- What the contracts of this crate cite, and what the layers above state their own rules with.
+pub mod Tests
+pub mod Sets
