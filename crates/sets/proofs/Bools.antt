@@ -36,6 +36,13 @@ unfolding _and_
 and-no-r true b h = h
 and-no-r false b h = refl
 
+pub and-swap : (a b : Bool) → a and b ≡ b and a
+unfolding _and_
+and-swap true true = refl
+and-swap true false = refl
+and-swap false true = refl
+and-swap false false = refl
+
 pub or-l : (a b : Bool) → a ≡ true → a or b ≡ true
 unfolding _or_
 or-l true b h = refl
@@ -110,3 +117,17 @@ module _ {ℓ} {A : Type ℓ} where
   unfolding pick
   pick-case Q true x y f g = f refl
   pick-case Q false x y f g = g refl
+
+pub implies-no-l : (a b : Bool) → a implies b ≡ false → a ≡ true
+unfolding _implies_
+implies-no-l true b h = refl
+implies-no-l false b h = clash refl h
+
+pub implies-no-r : (a b : Bool) → a implies b ≡ false → b ≡ false
+unfolding _implies_
+implies-no-r true b h = h
+implies-no-r false b h = clash refl h
+
+pub not-no : (a : Bool) → not a ≡ false → a ≡ true
+not-no true h = refl
+not-no false h = sym h

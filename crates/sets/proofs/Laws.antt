@@ -1,17 +1,25 @@
 -- Laws of counts, of masks and of membership, for every n together and over the width. Assumes nothing.
 use Prim.Native.Nat.{ℕ, zero, suc, _+_, _-_, _*_, _/_, _%_, _^_, _≤_, _<_, zero-le, suc-le-suc}
 use mathlib.Core.Path.{_≡_, refl, sym, ap, ap₂, _∙_, subst}
-use mathlib.Core.Logic.{_⊎_, inl, inr}
+use mathlib.Core.Logic.{_⊎_, inl, inr, ⊎-elim}
 use mathlib.Core.Bool.{Bool, true, false, not}
-use native.Mathlib.Nat.{le-refl, le-of-suc-le-suc, not-suc-le-zero, zero-lt-suc, add-le-add}
+use native.Mathlib.Nat.{le-refl, le-of-suc-le-suc, not-suc-le-zero, zero-lt-suc, add-le-add, pow-suc, mul-one, mul-assoc}
 use native.Mathlib.Numerals.{add-one}
 use native.Mathlib.Omega.{arith}
-use lib.Dec.{eqb, ltb, eqb·zero-suc, eqb·suc-zero, eqb·suc-suc}
-use borrow.Author.Tests.{ltb-true, ltb-false, lt-ltb, le-ltb}
-use Rattle.sets.specs.Tests.{_and_, _or_}
+use lib.Dec.{eqb, ltb}
+use lib.Pow.{pow-pos}
+use borrow.Author.Count.{below-more}
+use borrow.Author.Tests.{ltb-true, ltb-false, lt-ltb, le-ltb, eqb-true, eqb-false}
+use Rattle.sets.specs.Tests.{_and_, _or_, _implies_}
 use Rattle.sets.specs.Sets.{bit, mem, count, all, mask, many, within}
-use Rattle.sets.proofs.Bools.{clash, and-l, and-r, and-i}
+use Rattle.sets.proofs.Bools.{clash, decide, and-l, and-r, and-i, implies-e, implies-no-l, implies-no-r, not-e, not-no, no-by, same-test}
 use Rattle.sets.proofs.Digits.{bit-test, low-of, high-of, half-lt, twice-lt, digits-same}
+
+pub below-or-not : (i n : ℕ) → (i < n) ⊎ (n ≤ i)
+below-or-not i n = ⊎-elim (λ e. inl (ltb-true i n e)) (λ e. inr (ltb-false i n e)) (decide (ltb i n))
+
+pub equal-or-not : (i j : ℕ) → (i ≡ j) ⊎ (i ≡ j → ⊥)
+equal-or-not i j = ⊎-elim (λ e. inl (eqb-true i j e)) (λ e. inr (eqb-false i j e)) (decide (eqb i j))
 
 -- ---- membership
 
@@ -70,6 +78,12 @@ pub all-i : (n : ℕ) (P : ℕ → Bool) → ((i : ℕ) → i < n → P i ≡ tr
 unfolding all
 all-i zero P f = refl
 all-i (suc n) P f = and-i _ _ (f 0 (zero-lt-suc n)) (all-i n (λ j. P (suc j)) (λ i k. f (suc i) (suc-le-suc k)))
+
+pub all-cong : (n : ℕ) (P Q : ℕ → Bool) → ((i : ℕ) → i < n → P i ≡ Q i) → all n P ≡ all n Q
+unfolding all
+all-cong zero P Q e = refl
+all-cong (suc n) P Q e =
+    ap₂ _and_ (e 0 (zero-lt-suc n)) (all-cong n (λ j. P (suc j)) (λ j. Q (suc j)) (λ i k. e (suc i) (suc-le-suc k)))
 
 -- where not all have P, one of them lacks it
 pub all-not : (n : ℕ) (P : ℕ → Bool) → all n P ≡ false → (i : ℕ) × (i < n) × (P i ≡ false)
@@ -137,6 +151,9 @@ count-next (suc i) P =
     let t : count (suc i) (λ j. P (suc j)) ≡ count i (λ j. P (suc j)) + bit (P (suc i)) = count-next i (λ j. P (suc j)) in
     omega arith
 
+pub few : (f : ℕ) {m : ℕ} → m ≡ 0 → ltb f m ≡ false
+few f {m} e = le-ltb f m (omega arith)
+
 -- ---- `many`: all that the layers above use of it
 
 pub many-mono : (n f : ℕ) (P Q : ℕ → Bool) → ((i : ℕ) → i < n → P i ≡ true → Q i ≡ true) → many n f P ≡ true → many n f Q ≡ true
@@ -153,3 +170,58 @@ many-none n f P e = le-ltb f (count n P) (omega (arith, count-none n P e))
 pub many-cong : (n f : ℕ) (P Q : ℕ → Bool) → ((i : ℕ) → i < n → P i ≡ Q i) → many n f P ≡ many n f Q
 unfolding many
 many-cong n f P Q e = ap (ltb f) (count-cong n P Q e)
+
+-- ---- sets of n terminals, one within the other
+
+-- a set within another is that set, or has fewer members
+pub subset-fewer : (n s t : ℕ) → s < 2 ^ n → t < 2 ^ n → ((i : ℕ) → i < n → mem i s ≡ true → mem i t ≡ true)
+    → (s ≡ t) ⊎ (count n (λ i. mem i s) < count n (λ i. mem i t))
+subset-fewer n s t p q sub = go (decide (all n (λ i. mem i t implies mem i s)))
+  where
+    go : (all n (λ i. mem i t implies mem i s) ≡ true) ⊎ (all n (λ i. mem i t implies mem i s) ≡ false)
+        → (s ≡ t) ⊎ (count n (λ i. mem i s) < count n (λ i. mem i t))
+    go (inl a) =
+        inl (set-ext n s t p q (λ i k. same-test _ _ (sub i k) (implies-e _ _ (all-at n (λ i. mem i t implies mem i s) a i k))))
+    go (inr a) =
+        let w = all-not n (λ i. mem i t implies mem i s) a in
+        inr (count-more n (λ i. mem i s) (λ i. mem i t) sub (w .0) (w .1) (implies-no-r _ _ (w .2)) (implies-no-l _ _ (w .2)))
+
+-- a set that is not empty has a member
+pub some-member : (n s : ℕ) → s < 2 ^ n → (s ≡ 0 → ⊥) → (i : ℕ) × (i < n) × (mem i s ≡ true)
+some-member n s h z = go (decide (all n (λ i. not (mem i s))))
+  where
+    go : (all n (λ i. not (mem i s)) ≡ true) ⊎ (all n (λ i. not (mem i s)) ≡ false) → (i : ℕ) × (i < n) × (mem i s ≡ true)
+    go (inl a) =
+        absurd (z (set-ext n s 0 h (pow-pos n) (λ i k. not-e (mem i s) (all-at n (λ i. not (mem i s)) a i k) ∙ sym (mem-zero i))))
+    go (inr a) =
+        let w = all-not n (λ i. not (mem i s)) a in
+        (w .0, w .1, not-no (mem (w .0) s) (w .2))
+
+-- a member is below n
+pub mem-below : (n i s : ℕ) → s < 2 ^ n → mem i s ≡ true → i < n
+mem-below n i s h m = ⊎-elim (λ k. k) (λ k. clash m (mem-above n i s h k)) (below-or-not i n)
+
+-- a loop over all terminals: one that lacks P decides, and the terminals below i + 1 are those below i, and i
+pub all-no : (n : ℕ) (P : ℕ → Bool) (i : ℕ) → i < n → P i ≡ false → all n P ≡ false
+all-no n P i k e = no-by (λ h. clash (all-at n P h i k) e)
+
+pub all-next : (i : ℕ) (P : ℕ → Bool) → all i P ≡ true → P i ≡ true → all (i + 1) P ≡ true
+all-next i P h e = all-i (i + 1) P (below-more (λ (j : ℕ). P j ≡ true) i (all-at i P h) e)
+
+-- a count over more terminals than have the property
+pub count-width : (n w : ℕ) (P : ℕ → Bool) → n ≤ w → ((i : ℕ) → n ≤ i → P i ≡ false) → count w P ≡ count n P
+unfolding count
+count-width zero w P h f = count-none w P (λ i k. f i zero-le)
+count-width (suc n) zero P h f = absurd (not-suc-le-zero h)
+count-width (suc n) (suc w) P h f =
+    ap (λ (m : ℕ). bit (P 0) + m) (count-width n w (λ j. P (suc j)) (le-of-suc-le-suc h) (λ i k. f (suc i) (suc-le-suc k)))
+
+-- a mask upwards: the terminals below i + 1 are those below i, and i
+pub mask-next : (i : ℕ) (P : ℕ → Bool) → mask (suc i) P ≡ mask i P + bit (P i) * 2 ^ i
+unfolding mask
+mask-next zero P = let e : bit (P 0) * 2 ^ 0 ≡ bit (P 0) = mul-one (bit (P 0)) in omega arith
+mask-next (suc i) P =
+    let t : mask (suc i) (λ j. P (suc j)) ≡ mask i (λ j. P (suc j)) + bit (P (suc i)) * 2 ^ i = mask-next i (λ j. P (suc j)) in
+    let e : bit (P (suc i)) * 2 ^ suc i ≡ bit (P (suc i)) * 2 ^ i * 2 =
+    ap (λ (x : ℕ). bit (P (suc i)) * x) (pow-suc 2 i) ∙ sym (mul-assoc (bit (P (suc i))) (2 ^ i) 2) in
+    omega arith

@@ -2,17 +2,17 @@
 use Prim.Native.Nat.{ℕ, zero, suc, _+_, _-_, _*_, _/_, _%_, _^_, _≤_, _<_, min, max}
 use mathlib.Core.Path.{_≡_, refl, sym, ap, ap₂, _∙_, subst}
 use mathlib.Core.Bool.{Bool, true, false, not}
-use native.Mathlib.Nat.{le-of-suc-le-suc, not-suc-le-zero, div-one}
-use native.Mathlib.Numerals.{one-add}
+use native.Mathlib.Nat.{le-of-suc-le-suc, not-suc-le-zero, lt-of-le-of-lt, div-one, one-mul, zero-mul, mod-eq-of-lt}
+use native.Mathlib.Numerals.{one-add, add-one}
 use native.Mathlib.Omega.{arith}
 use lib.Dec.{eqb, eqb·zero-suc, eqb·suc-zero, eqb·suc-suc}
-use lib.Bits.{bitAnd, bitOr, and-step, or-step, and-shr, or-shr, and-mask}
+use lib.Bits.{bitAnd, bitOr, and-step, or-step, and-shr, or-shr, and-le-l, or-shifted-r}
 use lib.Count.{ones, ones-step}
-use lib.Pow.{shr-shr, shl-exact}
+use lib.Pow.{shr-shr, pow-lt, pow-pos}
 use Rattle.sets.specs.Tests.{_and_, _or_}
-use Rattle.sets.specs.Sets.{bit, mem, count}
+use Rattle.sets.specs.Sets.{bit, mem, count, mask}
 use Rattle.sets.proofs.Digits.{bit-test, low-bit, bit-and, bit-or, bit-not, half-lt, flip-low, flip-high, power-low, power-high}
-use Rattle.sets.proofs.Laws.{mem-zero}
+use Rattle.sets.proofs.Laws.{mem-zero, count-cong, mask-lt, mask-next}
 
 -- the lowest bit decides: a number whose lowest digit is `bit b` has terminal 0 exactly if b
 low : (s : ℕ) (b : Bool) → s % 2 ≡ bit b → eqb (s % 2) 1 ≡ b
@@ -64,3 +64,20 @@ pub ones-count : (w s : ℕ) → s < 2 ^ w → ones s ≡ count w (λ i. mem i s
 unfolding mem count ones
 ones-count zero s h = let e : s ≡ 0 = omega arith in ap ones e
 ones-count (suc w) s h = ones-step s ∙ ap₂ _+_ (sym (low-bit s)) (ones-count w (s / 2) (half-lt w h))
+
+-- the members that two sets share, counted
+pub ones-and : (w a b : ℕ) → a < 2 ^ w → ones (bitAnd a b) ≡ count w (λ i. mem i a and mem i b)
+ones-and w a b h =
+    ones-count w (bitAnd a b) (lt-of-le-of-lt (and-le-l a b) h) ∙ count-cong w (λ i. mem i (bitAnd a b)) (λ i. mem i a and mem i b) (λ i k. mem-and i a b)
+
+-- a loop that builds a mask of at most w bits: one more bit, set or not
+pub mask-or : (w i : ℕ) (P : ℕ → Bool) → i < w → bitOr (mask i P) ((bit (P i) * 2 ^ i) % 2 ^ w) ≡ mask (i + 1) P
+mask-or w i P h =
+    ap (bitOr (mask i P)) (mod-eq-of-lt (one-bit (P i))) ∙ or-shifted-r (bit (P i)) i (mask i P) (mask-lt i P)
+    ∙ (let t : mask (suc i) P ≡ mask i P + bit (P i) * 2 ^ i = mask-next i P in
+    let u : bit (P i) * 2 ^ i + mask i P ≡ mask (suc i) P = omega arith in
+    u ∙ ap (λ (k : ℕ). mask k P) (sym (add-one i)))
+  where
+    one-bit : (b : Bool) → bit b * 2 ^ i < 2 ^ w
+    one-bit true = subst (λ (x : ℕ). x < 2 ^ w) (sym (one-mul (2 ^ i))) (pow-lt h)
+    one-bit false = subst (λ (x : ℕ). x < 2 ^ w) (sym (zero-mul (2 ^ i))) (pow-pos w)

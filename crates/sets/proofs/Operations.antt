@@ -2,19 +2,24 @@
 use Prim.Native.Nat.{ℕ, zero, suc, _+_, _-_, _*_, _/_, _%_, _^_, _≤_, _<_}
 use mathlib.Core.Path.{_≡_, refl, sym, ap, ap₂, _∙_, subst}
 use mathlib.Core.Bool.{Bool, true, false, not}
-use native.Mathlib.Nat.{lt-of-le-of-lt, div-lt-iff-lt-mul, le-div-iff-mul-le, one-mul, mod-eq-of-lt}
+use native.Mathlib.Nat.{lt-of-le-of-lt, lt-of-lt-of-le, div-lt-iff-lt-mul, le-div-iff-mul-le, one-mul, mod-eq-of-lt}
 use native.Mathlib.Omega.{arith}
 use lib.Dec.{eqb, ltb}
 use lib.Bits.{bitAnd, bitOr, and-le-l, or-lt, and-mask}
 use lib.Pow.{pow-lt, pow-pos}
-use borrow.Author.Tests.{ne-eqb, lt-ltb, le-ltb}
-use Rattle.sets.specs.Tests.{_and_, _or_}
-use Rattle.sets.specs.Sets.{mem, mask, within, singleton, with, without, union, difference}
-use Rattle.sets.proofs.Laws.{mem-zero, mem-mask, mask-of, mask-lt}
+use borrow.Author.Tests.{eq-eqb, ne-eqb, eqb-true, lt-ltb, le-ltb}
+use Rattle.sets.specs.Tests.{_and_, _or_, _implies_}
+use Rattle.sets.specs.Sets.{bit, mem, all, mask, within, singleton, with, without, union, difference}
+use Rattle.sets.proofs.Digits.{low-bit}
+use Rattle.sets.proofs.Bools.{not-e, same-test}
+use Rattle.sets.proofs.Laws.{mem-zero, set-ext, mem-mask, mask-of, mask-lt, all-at, all-i, all-cong}
 use Rattle.sets.proofs.Masks.{mem-and, mem-or, mem-not, mem-power, mem-shift}
 
 pub test-member : (i s : ℕ) → eqb (bitAnd (s / 2 ^ i) 1) 1 ≡ mem i s
 test-member i s = ap (λ (d : ℕ). eqb d 1) (and-mask (s / 2 ^ i) 1) ∙ sym (mem-shift i s)
+
+pub bit-member : (i s : ℕ) → bitAnd (s / 2 ^ i) 1 ≡ bit (mem i s)
+bit-member i s = and-mask (s / 2 ^ i) 1 ∙ sym (low-bit (s / 2 ^ i)) ∙ ap bit (sym (mem-shift i s))
 
 pub test-within : (n s : ℕ) → eqb (s / 2 ^ n) 0 ≡ within n s
 unfolding within
@@ -61,3 +66,27 @@ and-without w s i p =
     mem-and j s (2 ^ w - 1 - mask w (λ j. eqb j i))
     ∙ ap (λ (t : Bool). mem j s and t)
     (mem-not w j (mask w (λ j. eqb j i)) (mask-lt w (λ j. eqb j i)) k ∙ ap not (mem-mask w j (λ j. eqb j i) k)))
+
+-- a test of one word: two sets share no terminal; one lies within the other
+pub test-apart : (n a b : ℕ) → a < 2 ^ n → eqb (bitAnd a b) 0 ≡ all n (λ i. not (mem i a and mem i b))
+test-apart n a b h =
+    same-test _ _
+    (λ e.
+    all-i n (λ i. not (mem i a and mem i b))
+    (λ i k. ap not (sym (mem-and i a b) ∙ ap (mem i) (eqb-true (bitAnd a b) 0 e) ∙ mem-zero i)))
+    (λ e.
+    eq-eqb (bitAnd a b) 0
+    (set-ext n (bitAnd a b) 0 (lt-of-le-of-lt (and-le-l a b) h) (pow-pos n)
+    (λ i k. mem-and i a b ∙ not-e (mem i a and mem i b) (all-at n (λ i. not (mem i a and mem i b)) e i k) ∙ sym (mem-zero i))))
+
+pub test-inside : (w n a b : ℕ) → n ≤ w → a < 2 ^ n → b < 2 ^ w → eqb (bitAnd a (2 ^ w - 1 - b)) 0 ≡ all n (λ i. mem i a implies mem i b)
+unfolding _and_ _implies_
+test-inside w n a b l h k =
+    test-apart n a (2 ^ w - 1 - b) h
+    ∙ all-cong n (λ i. not (mem i a and mem i (2 ^ w - 1 - b))) (λ i. mem i a implies mem i b)
+    (λ i m. ap (λ (t : Bool). not (mem i a and t)) (mem-not w i b k (lt-of-lt-of-le m l)) ∙ not-and-not (mem i a) (mem i b))
+  where
+    not-and-not : (x y : Bool) → not (x and not y) ≡ (x implies y)
+    not-and-not true true = refl
+    not-and-not true false = refl
+    not-and-not false y = refl

@@ -1,0 +1,2 @@
+-- The laws of a plan that was found sound.
+pub mod Laws

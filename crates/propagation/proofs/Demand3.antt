@@ -1,0 +1,64 @@
+-- Demand 3 holds of every plan that the check finds sound. Assumes nothing.
+use Prim.Native.Nat.{ℕ, _-_, _≤_, _<_}
+use mathlib.Core.Path.{_≡_, refl, sym, ap, _∙_, subst}
+use mathlib.Core.Logic.{_⊎_, inl, inr, ⊎-elim}
+use mathlib.Core.Bool.{Bool, true, false}
+use native.Mathlib.Omega.{arith}
+use Rattle.sets.specs.Sets.{mem}
+use Rattle.sets.proofs.Bools.{clash, decide, no-by}
+use Rattle.sets.proofs.Laws.{some-member}
+use Rattle.terminal.specs.declared.State.the-variants.{Waiting}
+use Rattle.plan.specs.declared.Plan.{Plan}
+use Rattle.plan.specs.Plan.{causeOf}
+use Rattle.plan.proofs.Laws.{Sound, sound}
+use Rattle.propagation.specs.FaultSet.{isFaultSet}
+use Rattle.propagation.specs.Closure.{reached}
+use Rattle.propagation.specs.Verdict.{verdict, accepts}
+use Rattle.propagation.specs.Run.{Script, silence, site}
+use Rattle.propagation.specs.Demand3.{Good, LeavesWaiting, Demand3}
+use Rattle.propagation.proofs.Witness.{Accepted, accepts-e, reached-of-none, verdict-pass, witness-accepted}
+use Rattle.propagation.proofs.Safety
+use Rattle.propagation.proofs.Liveness.{reached-never-waits}
+use Rattle.propagation.proofs.Silence.{waits}
+
+module _ (p : Plan) (s : Sound p) where
+  none-waits : verdict p .passed ≡ true → (value : ℕ) → 1 ≤ value → (faulty : ℕ) → isFaultSet p faulty ≡ true → (script : Script)
+      → (r b : ℕ) → p .n - 1 ≤ r → Good p faulty b → site p faulty value script r b .state ≡ Waiting → ⊥
+  unfolding reached
+  none-waits h value v faulty i script r b l g w =
+      reached-never-waits p s faulty value (λ z. omega arith) script i (p .n - 1) b r l
+      (reached-of-none p faulty (verdict-pass p h faulty i) b (g .0) (g .1)) w
+
+  kept-waiting : (f l r : ℕ) → accepts p f l r ≡ true → (value : ℕ) → (k b : ℕ) → b < p .n → mem b r ≡ true
+      → site p f value silence k b .state ≡ Waiting
+  kept-waiting f l r a value k b lb m = waits p s f l r (accepts-e p f l r a) value k b lb m
+
+  witness : verdict p .passed ≡ false → accepts p (verdict p .f) (verdict p .l) (verdict p .r) ≡ true
+  witness h = witness-accepted p (s .source-below) h
+
+  leaves : (value : ℕ) → verdict p .passed ≡ false → LeavesWaiting p value
+  leaves value h =
+      let a = accepts-e p (verdict p .f) (verdict p .l) (verdict p .r) (witness h) in
+      let w = some-member (p .n) (verdict p .r) (a .r-below) (a .r-some) in (
+        verdict p .f,
+        silence,
+        w .0,
+        a .fault,
+        (w .1, a .r-good (w .0) (w .1) (w .2)),
+        kept-waiting (verdict p .f) (verdict p .l) (verdict p .r) (witness h) value (p .n - 1) (w .0) (w .1) (w .2),
+      )
+
+  holds : Demand3 p
+  holds = record {
+    safe = λ value v faulty i script r b g at u e. Safety.safe p s faulty value script i r b (g .0) (g .1) .taken at u e .0;
+    passes = none-waits;
+    fails = λ value v. (
+      leaves value,
+      λ w. no-by (λ h. none-waits h value v (w .0) (w .3) (w .1) (p .n - 1) (w .2) (omega arith) (w .4) (w .5)),
+    );
+    silent = λ h value r b lb m. kept-waiting (verdict p .f) (verdict p .l) (verdict p .r) (witness h) value r b lb m;
+    accepted = kept-waiting;
+  }
+
+pub demand3 : (p : Plan) → causeOf p ≡ 0 → Demand3 p
+demand3 p e = holds p (sound p e)

@@ -1,0 +1,10 @@
+-- The theorems, in the order in which they are read.
+pub mod Faults
+pub mod Growth
+pub mod Witness
+pub mod Rounds
+pub mod Safety
+pub mod Liveness
+pub mod Silence
+pub mod Demand3
+pub mod Drawings

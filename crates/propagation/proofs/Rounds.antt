@@ -1,0 +1,82 @@
+-- A terminal's record from round to round, read off the lists of the run by the rules; and what a good terminal says. Assumes nothing.
+use Prim.Native.Nat.{ℕ, zero, suc, _+_, _≤_, _<_}
+use mathlib.Core.Path.{_≡_, refl, sym, ap, _∙_, subst}
+use mathlib.Core.Logic.{_⊎_, inl, inr, ⊎-elim}
+use mathlib.Core.Bool.{Bool, true, false}
+use mathlib.Core.List.{List, [], _∷_}
+use native.Mathlib.Nat.{le-of-suc-le-suc, not-suc-le-zero}
+use native.Mathlib.Omega.{arith}
+use lib.Dec.{eqb}
+use lib.ListN.{length, getD}
+use borrow.Author.Tests.{eqb-true, eq-eqb, ne-eqb}
+use Rattle.sets.specs.Tests.{pick}
+use Rattle.sets.specs.Sets.{mem}
+use Rattle.sets.proofs.Bools.{clash, pick-yes, pick-no, pick-case}
+use Rattle.terminal.specs.declared.State.{State}
+use Rattle.terminal.specs.declared.State.the-variants.{Waiting, Taken}
+use Rattle.terminal.specs.declared.Record.{Record}
+use Rattle.terminal.specs.Rule.{start, sourceStart, step}
+use Rattle.plan.specs.declared.Plan.{Plan}
+use Rattle.plan.specs.Plan.{heardBy, hears}
+use Rattle.propagation.specs.Run.{Script, table, startRecord, saysIn, heardFrom, recordIn, played, sites, site}
+
+pub table-length : (n : ℕ) (one : ℕ → Record) → length (table n one) ≡ n
+unfolding table
+table-length zero one = refl
+table-length (suc n) one = ap suc (table-length n (λ b. one (suc b)))
+
+pub table-at : (n : ℕ) (one : ℕ → Record) (b : ℕ) → b < n → getD (table n one) b start ≡ one b
+unfolding table
+table-at zero one b k = absurd (not-suc-le-zero k)
+table-at (suc n) one zero k = refl
+table-at (suc n) one (suc b) k = table-at n (λ b. one (suc b)) b (le-of-suc-le-suc k)
+
+-- what a good terminal says is the value that it has taken, in the round after
+pub says-why : (round : ℕ) (s : State) (v : ℕ) → saysIn round s ≡ v → (v ≡ 0 → ⊥) → (at : ℕ) × (s ≡ Taken at v)
+unfolding saysIn
+says-why round Waiting v e z = absurd (z (sym e))
+says-why round (Taken at w) v e z = (at, ap (Taken at) (value e))
+  where
+    value : pick (eqb (at + 1) round) w 0 ≡ v → w ≡ v
+    value =
+        pick-case (λ (x : ℕ). x ≡ v → w ≡ v) (eqb (at + 1) round) w 0 (λ t q. q) (λ t q. absurd (z (sym q)))
+
+says-then : (at v : ℕ) → saysIn (suc at) (Taken at v) ≡ v
+unfolding saysIn
+says-then at v = pick-yes (eqb (at + 1) (suc at)) v 0 (eq-eqb (at + 1) (suc at) (omega arith))
+
+pub says-then-at : (r at v : ℕ) (s : State) → s ≡ Taken at v → at ≡ r → saysIn (suc r) s ≡ v
+says-then-at r at v s e q = ap (saysIn (suc r)) e ∙ ap (λ (x : ℕ). saysIn (suc x) (Taken at v)) (sym q) ∙ says-then at v
+
+module _ (p : Plan) (faulty value : ℕ) (script : Script) where
+  abbrev pub at : ℕ → ℕ → Record
+  at r b = site p faulty value script r b
+
+  -- what terminal b hears from terminal j in round r + 1
+  abbrev pub word : ℕ → ℕ → ℕ → ℕ
+  word r b j = heardFrom p faulty script (suc r) (sites p faulty value script r) b j
+
+  pub at-start : (b : ℕ) → b < p .n → at 0 b ≡ startRecord p value b
+  unfolding site sites
+  at-start b k = table-at (p .n) (startRecord p value) b k
+
+  pub source-at-start : p .source < p .n → at 0 (p .source) ≡ sourceStart value
+  unfolding startRecord
+  source-at-start k = at-start (p .source) k ∙ pick-yes _ _ _ (eq-eqb (p .source) (p .source) refl)
+
+  pub other-at-start : (b : ℕ) → b < p .n → (b ≡ p .source → ⊥) → at 0 b ≡ start
+  unfolding startRecord
+  other-at-start b k z = at-start b k ∙ pick-no _ _ _ (ne-eqb b (p .source) z)
+
+  pub at-next : (r b : ℕ) → b < p .n → mem b faulty ≡ false
+      → at (suc r) b ≡ step (p .n) (p .source) (p .f) (heardBy p b) (word r b) (at r b)
+  unfolding site sites played recordIn
+  at-next r b k g = table-at (p .n) (recordIn p faulty script (suc r) (sites p faulty value script r)) b k ∙ pick-no _ _ _ g
+
+  pub word-good : (r b j : ℕ) → hears p b j ≡ true → mem j faulty ≡ false → word r b j ≡ saysIn (suc r) (at r j .state)
+  unfolding heardFrom site
+  word-good r b j h g = pick-yes _ _ _ h ∙ pick-no _ _ _ g
+
+  pub word-faulty : (r b j : ℕ) → hears p b j ≡ true → mem j faulty ≡ true → word r b j ≡ script (suc r) j b
+  unfolding heardFrom
+  word-faulty r b j h g = pick-yes _ _ _ h ∙ pick-yes _ _ _ g

@@ -1,0 +1,59 @@
+-- The run by the rules (document 01, "The run"), for any number of rounds. A script is a function of round, sender and hearer: what the terminals of
+-- the fault set say, 0 for silence. Assumes nothing.
+use Prim.Native.Nat.{ℕ, zero, suc, _+_}
+use mathlib.Core.Bool.{Bool, true, false}
+use mathlib.Core.List.{List, [], _∷_}
+use lib.Dec.{eqb}
+use lib.ListN.{getD}
+use Rattle.sets.specs.Tests.{pick}
+use Rattle.sets.specs.Sets.{mem}
+use Rattle.terminal.specs.declared.State.{State}
+use Rattle.terminal.specs.declared.State.the-variants.{Waiting, Taken}
+use Rattle.terminal.specs.declared.Record.{Record}
+use Rattle.terminal.specs.Rule.{start, sourceStart, step}
+use Rattle.plan.specs.declared.Plan.{Plan}
+use Rattle.plan.specs.Plan.{heardBy, hears}
+
+abbrev pub Script : Type 0
+Script = ℕ → ℕ → ℕ → ℕ
+
+abbrev pub silence : Script
+silence round sender hearer = 0
+
+-- the records of the terminals below n, one after the other
+unfoldable pub table : ℕ → (ℕ → Record) → List Record
+table zero one = []
+table (suc n) one = one 0 ∷ table n (λ b. one (suc b))
+
+-- the source starts as taken in round 0 with its value, all others start waiting
+unfoldable pub startRecord : Plan → ℕ → ℕ → Record
+startRecord p value b = pick (eqb b (p .source)) (sourceStart value) start
+
+-- what a good terminal says in a round: its value in the round after it took, and never again
+unfoldable pub saysIn : ℕ → State → ℕ
+saysIn round Waiting = 0
+saysIn round (Taken at value) = pick (eqb (at + 1) round) value 0
+
+-- what terminal b hears from terminal j in a round, where `before` are the records after the round before: the script's word if j is in the fault set
+unfoldable pub heardFrom : Plan → ℕ → Script → ℕ → List Record → ℕ → ℕ → ℕ
+heardFrom p faulty script round before b j =
+    pick (hears p b j) (pick (mem j faulty) (script round j b) (saysIn round (getD before j start .state))) 0
+
+-- a terminal's record after a round; one of the fault set stays waiting, round 0, nothing heard
+unfoldable pub recordIn : Plan → ℕ → Script → ℕ → List Record → ℕ → Record
+recordIn p faulty script round before b =
+    pick (mem b faulty) start
+    (step (p .n) (p .source) (p .f) (heardBy p b) (heardFrom p faulty script round before b) (getD before b start))
+
+-- one round of the whole site
+unfoldable pub played : Plan → ℕ → Script → ℕ → List Record → List Record
+played p faulty script round before = table (p .n) (recordIn p faulty script round before)
+
+-- the site after a number of rounds
+unfoldable pub sites : Plan → ℕ → ℕ → Script → ℕ → List Record
+sites p faulty value script zero = table (p .n) (startRecord p value)
+sites p faulty value script (suc r) = played p faulty script (suc r) (sites p faulty value script r)
+
+-- terminal b's record after r rounds
+unfoldable pub site : Plan → ℕ → ℕ → Script → ℕ → ℕ → Record
+site p faulty value script r b = getD (sites p faulty value script r) b start

@@ -1,0 +1,71 @@
+-- `judge` meets its contract: it asks the causes in the order in which `causeOf` picks the first. Assumes nothing.
+use mathlib.Core.Path.{sym, _∙_}
+use borrow.Author.Tests.{eq-eqb, ne-eqb}
+use borrow.Author.Needs.{needs}
+use Rattle.sets.specs.Tests.{pick}
+use Rattle.terminal.specs.Answer.{causeOf}
+use Rattle.terminal.proofs.judge.Statement.{statement}
+use Rattle.terminal.proofs.judge.Tie as tie
+
+in-range-requires : tie.Need-in-range-requires
+in-range-requires c κs = search needs
+
+hears-soundly-requires : tie.Need-hears-soundly-requires
+hears-soundly-requires c κs = search needs
+
+record-sound-requires : tie.Need-record-sound-requires
+record-sound-requires c κs = search needs
+
+returns : tie.Need-returns
+unfolding causeOf pick
+returns c =
+    simp (
+      sym (c .before .before .before .before .before .before .in-range .ensures) ∙ c .before .before .before .before .before .if1 .taken,
+      sym (c .before .before .before .before .hears-soundly .ensures) ∙ c .before .before .before .if2 .taken,
+      sym (c .before .before .record-sound .ensures) ∙ c .before .if3 .taken,
+      eq-eqb _ _ (c .if4 .taken),
+    )
+
+returns-2 : tie.Need-returns-2
+unfolding causeOf pick
+returns-2 c =
+    simp (
+      sym (c .before .before .before .before .before .before .in-range .ensures) ∙ c .before .before .before .before .before .if1 .taken,
+      sym (c .before .before .before .before .hears-soundly .ensures) ∙ c .before .before .before .if2 .taken,
+      sym (c .before .before .record-sound .ensures) ∙ c .before .if3 .taken,
+      ne-eqb _ _ (c .if4 .left),
+    )
+
+returns-3 : tie.Need-returns-3
+unfolding causeOf pick
+returns-3 c =
+    simp (
+      sym (c .before .before .before .before .before .in-range .ensures) ∙ c .before .before .before .before .if1 .taken,
+      sym (c .before .before .before .hears-soundly .ensures) ∙ c .before .before .if2 .taken,
+      sym (c .before .record-sound .ensures) ∙ c .if3 .left,
+    )
+
+returns-4 : tie.Need-returns-4
+unfolding causeOf pick
+returns-4 c =
+    simp (
+      sym (c .before .before .before .in-range .ensures) ∙ c .before .before .if1 .taken,
+      sym (c .before .hears-soundly .ensures) ∙ c .if2 .left,
+    )
+
+returns-5 : tie.Need-returns-5
+unfolding causeOf pick
+returns-5 c = simp (sym (c .before .in-range .ensures) ∙ c .if1 .left)
+
+pub judge-spec : {M : Type 1} → statement M
+judge-spec =
+    tie.close
+    (tie.spec
+    in-range-requires
+    hears-soundly-requires
+    record-sound-requires
+    returns
+    returns-2
+    returns-3
+    returns-4
+    returns-5)

@@ -1,0 +1,49 @@
+-- `step` meets its contract: no cause of refusal is what `play` requires, and any other outcome has a number that is not 0. Assumes nothing.
+use mathlib.Core.Path.{_≡_, refl, sym, ap, _∙_}
+use mathlib.Core.Bool.{false}
+use mathlib.Core.List.{[], _∷_}
+use lib.Dec.{eqb}
+use lib.ListN.{length}
+use types.Run.{OneOf, miss}
+use denote.Enum.Declared.{tagOf}
+use borrow.Author.Needs.{needs}
+use Rattle.terminal.specs.declared.Outcome.{Outcome}
+use Rattle.terminal.specs.declared.Outcome.the-variants.{Accepted, WrongRange, WrongLink, WrongLength, WrongRecord}
+use Rattle.terminal.specs.Answer.{numberOf, causeOf}
+use Rattle.terminal.proofs.Outcome.{the-type}
+use Rattle.terminal.proofs.Walks.{accepted-plays, after-accepted, after-refused}
+use Rattle.terminal.proofs.step.Statement.{statement}
+use Rattle.terminal.proofs.step.Tie as tie
+
+judge-requires : tie.Need-judge-requires
+judge-requires c κs = search needs
+
+enum-told : tie.Need-enum-told
+enum-told c = search needs
+
+-- where the outcome is Accepted, no cause applies
+accepted : (c : tie.After-enum-told)
+    → let a = c .before .before .before .before .args in
+    0 ≡ causeOf (a .n) (a .source) (a .f) (a .own) (a .heard) (a .before) (length (a .said .now))
+accepted c = ap numberOf (sym (c .enum-told .given .1)) ∙ c .before .before .judge .ensures
+
+play-requires : tie.Need-play-requires
+play-requires c κs = accepted-plays _ _ _ _ _ _ _ (sym (accepted c))
+
+returns : tie.Need-returns
+returns c = (accepted (c .before), c .play .ensures ∙ after-accepted _ _ _ _ _ _ _ (accepted (c .before)))
+
+-- an outcome other than Accepted has a number that is not 0
+refused : (o : Outcome) → OneOf (1 ∷ 2 ∷ 3 ∷ 4 ∷ []) (tagOf the-type o) → eqb (numberOf o) 0 ≡ false
+refused Accepted h = absurd (miss (1 ∷ 2 ∷ 3 ∷ 4 ∷ []) 0 tt h)
+refused WrongRange h = refl
+refused WrongLink h = refl
+refused WrongLength h = refl
+refused WrongRecord h = refl
+
+returns-2 : tie.Need-returns-2
+returns-2 c =
+    (c .before .judge .ensures, after-refused _ _ _ _ _ _ _ _ (c .before .judge .ensures) (refused (c .before .judge .result) (c .match .keys2)))
+
+pub step-spec : {M : Type 1} → statement M
+step-spec = tie.close (tie.spec judge-requires enum-told play-requires returns returns-2)

@@ -1,0 +1,51 @@
+-- What the step answers for all arguments: document 01's number for each cause of refusal, and the record. Assumes nothing.
+use Prim.Native.Nat.{ℕ, zero, suc}
+use mathlib.Core.Bool.{Bool, true, false, not}
+use mathlib.Core.List.{List}
+use lib.Dec.{eqb, ltb, leb}
+use lib.ListN.{length, getD}
+use Rattle.sets.specs.Tests.{_and_, pick}
+use Rattle.sets.specs.Sets.{mem, within}
+use Rattle.terminal.specs.declared.State.{State}
+use Rattle.terminal.specs.declared.State.the-variants.{Waiting, Taken}
+use Rattle.terminal.specs.declared.Record.{Record}
+use Rattle.terminal.specs.declared.Outcome.{Outcome}
+use Rattle.terminal.specs.declared.Outcome.the-variants.{Accepted, WrongRange, WrongLink, WrongLength, WrongRecord}
+use Rattle.terminal.specs.Rule.{step}
+
+-- document 01's number of each outcome, 0 where nothing is refused
+abbrev pub numberOf : Outcome → ℕ
+numberOf Accepted = 0
+numberOf WrongRange = 4
+numberOf WrongLink = 5
+numberOf WrongLength = 12
+numberOf WrongRecord = 13
+
+-- n from 2 to 20, the source below n, f from 0 to n - 1
+unfoldable pub inRange : ℕ → ℕ → ℕ → Bool
+inRange n source f = leb 2 n and leb n 20 and ltb source n and ltb f n
+
+-- a heard set has no bit at or above n and not the terminal's own
+unfoldable pub hearsSoundly : ℕ → ℕ → ℕ → Bool
+hearsSoundly n own heard = within n heard and not (mem own heard)
+
+-- not the source waiting; not taken later than the record's round, nor with value 0
+unfoldable pub stateSound : State → Bool → ℕ → Bool
+stateSound Waiting isSource round = not isSource
+stateSound (Taken at value) isSource round = leb at round and not (eqb value 0)
+
+-- the record can be stepped: before round 40, its own number below n, its state sound
+unfoldable pub recordSound : ℕ → ℕ → ℕ → Record → Bool
+recordSound n source own r = ltb (r .round) 40 and ltb own n and stateSound (r .state) (eqb own source) (r .round)
+
+-- the number of the first cause that applies, in the order 4, 5, 13, 12; 0 where none does
+unfoldable pub causeOf : ℕ → ℕ → ℕ → ℕ → ℕ → Record → ℕ → ℕ
+causeOf n source f own heard r words =
+    pick (inRange n source f)
+    (pick (hearsSoundly n own heard) (pick (recordSound n source own r) (pick (eqb words n) 0 12) 13) 5)
+    4
+
+-- the record that comes back: the stepped one, or where the step is refused the one that went in
+unfoldable pub recordAfter : ℕ → ℕ → ℕ → ℕ → ℕ → Record → List ℕ → Record
+recordAfter n source f own heard r said =
+    pick (eqb (causeOf n source f own heard r (length said)) 0) (step n source f heard (λ j. getD said j 0) r) r
