@@ -73,7 +73,7 @@ unfoldable pub Ahead : Plan → ℕ → ℕ → Type 0
 Ahead p a b = (size (p .n) a < size (p .n) b) ⊎ ((size (p .n) a ≡ size (p .n) b) × (a ≤ b))
 
 -- of the sets below m: none defeats the plan, or the one found does and is ahead of all that do
-unfoldable IsBest : Plan → ℕ → Found → Type 0
+unfoldable pub IsBest : Plan → ℕ → Found → Type 0
 IsBest p m none = (s : ℕ) → s < m → defeats p s ≡ false
 IsBest p m (found b) = (b < m) × (defeats p b ≡ true) × ((s : ℕ) → s < m → defeats p s ≡ true → Ahead p b s)
 
@@ -113,7 +113,7 @@ better-best p m (found b) h =
         let l : size (p .n) b ≤ size (p .n) m = ltb-false (size (p .n) m) (size (p .n) b) t in
         ⊎-elim (λ q. inr (q, omega arith)) (λ q. inl q) (eq-or-lt-of-le l)
 
-best-below : (p : Plan) (m : ℕ) → IsBest p m (bestBelow p m)
+pub best-below : (p : Plan) (m : ℕ) → IsBest p m (bestBelow p m)
 unfolding bestBelow IsBest
 best-below p zero = λ s k. absurd (not-suc-le-zero k)
 best-below p (suc m) = better-best p m (bestBelow p m) (best-below p m)
@@ -153,7 +153,7 @@ defeated p s d = no-by (λ h. defeats-cuts p s d (verdict-pass p h s (defeats-fa
 
 -- ---- the witness check
 
-one-of : (a b c : Bool) → eqb (bit a + bit b + bit c) 1 ≡ true
+pub one-of : (a b c : Bool) → eqb (bit a + bit b + bit c) 1 ≡ true
     → (a ≡ false → b ≡ false → c ≡ true) × (c ≡ true → a ≡ false) × (c ≡ true → b ≡ false)
 one-of true true true e = clash e refl
 one-of true true false e = clash e refl
@@ -164,7 +164,7 @@ one-of false true false e = (λ x y. clash refl y, λ x. clash x refl, λ x. cla
 one-of false false true e = (λ x y. refl, λ x. refl, λ x. refl)
 one-of false false false e = clash e refl
 
-rest-one : (a b c : Bool) → (b ≡ true → a ≡ false) → c ≡ not a and not b → eqb (bit a + bit b + bit c) 1 ≡ true
+pub rest-one : (a b c : Bool) → (b ≡ true → a ≡ false) → c ≡ not a and not b → eqb (bit a + bit b + bit c) 1 ≡ true
 unfolding _and_
 rest-one true true c d e = clash refl (d refl)
 rest-one true false c d e = ap (λ (x : Bool). eqb (bit true + bit false + bit x) 1) e

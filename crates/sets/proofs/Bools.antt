@@ -26,6 +26,11 @@ unfolding _and_
 and-i true b p q = q
 and-i false b p q = p
 
+pub and-yes : (a b : Bool) → a ≡ true → a and b ≡ b
+unfolding _and_
+and-yes true b h = refl
+and-yes false b h = clash h refl
+
 pub and-no-l : (a b : Bool) → a ≡ false → a and b ≡ false
 unfolding _and_
 and-no-l true b h = clash refl h
@@ -76,6 +81,10 @@ or-no-r false b h = h
 pub not-i : {a : Bool} → a ≡ false → not a ≡ true
 not-i {a = true} h = clash refl h
 not-i {a = false} h = refl
+
+pub not-yes : {a : Bool} → a ≡ true → not a ≡ false
+not-yes {a = true} h = refl
+not-yes {a = false} h = sym h
 
 pub not-e : (a : Bool) → not a ≡ true → a ≡ false
 not-e true h = sym h

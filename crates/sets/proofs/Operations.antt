@@ -37,6 +37,12 @@ unfolding singleton
 power-singleton w i h =
     ap (λ (x : ℕ). x % 2 ^ w) (one-mul (2 ^ i)) ∙ mod-eq-of-lt (pow-lt h) ∙ mask-of w (2 ^ i) (λ j. eqb j i) (pow-lt h) (λ j k. mem-power i j)
 
+-- a terminal below n alone, in a wider word
+pub singleton-narrow : (w n i : ℕ) → i < n → n ≤ w → singleton w i ≡ mask n (λ j. eqb j i)
+singleton-narrow w n i h k =
+    sym (power-singleton w i (lt-of-lt-of-le h k)) ∙ ap (λ (x : ℕ). x % 2 ^ w) (one-mul (2 ^ i)) ∙ mod-eq-of-lt (pow-lt (lt-of-lt-of-le h k))
+    ∙ mask-of n (2 ^ i) (λ j. eqb j i) (pow-lt h) (λ j l. mem-power i j)
+
 pub zero-singleton : (w i : ℕ) → w ≤ i → 0 ≡ singleton w i
 unfolding singleton
 zero-singleton w i h = mask-of w 0 (λ j. eqb j i) (pow-pos w) (λ j k. mem-zero j ∙ sym (ne-eqb j i (λ e. omega arith)))

@@ -1,0 +1,134 @@
+-- The laws of the verdict for its callers: what a pass and a fail mean. Assumes nothing.
+use Prim.Native.Nat.{ℕ, _≤_, _<_, _^_}
+use mathlib.Core.Path.{_≡_, refl, sym, ap, _∙_, subst}
+use mathlib.Core.Bool.{Bool, true, false, not}
+use native.Mathlib.Omega.{arith}
+use lib.Dec.{eqb}
+use borrow.Author.Tests.{eqb-true, eq-eqb, ne-eqb}
+use Rattle.sets.specs.Tests.{_and_, pick}
+use Rattle.sets.specs.Sets.{mem, mask, size}
+use Rattle.sets.proofs.Bools.{clash, decide, pick-yes, pick-no, pick-case}
+use Rattle.sets.proofs.Laws.{count-le}
+use Rattle.plan.specs.declared.Plan.{Plan}
+use Rattle.plan.specs.Plan.{causeOf}
+use Rattle.plan.proofs.Laws.{Sound, sound}
+use Rattle.propagation.specs.FaultSet.{isFaultSet}
+use Rattle.propagation.specs.Closure.{reached, rest, cutOff}
+use Rattle.propagation.specs.Verdict.{defeats, Found, none, found, bestBelow, verdictOf, verdict, accepts}
+use Rattle.propagation.proofs.Witness.{Ahead, Fails, IsBest, best-below, verdict-pass, verdict-fail, witness-accepted}
+use Rattle.partition.specs.declared.Witness.{Witness}
+use Rattle.partition.specs.declared.Judgement.{Judgement}
+use Rattle.partition.specs.declared.Judgement.the-variants.{Pass, Fail, WrongRange, WrongLink}
+use Rattle.partition.specs.declared.search.Best.{Best}
+use Rattle.partition.specs.Answer.{Answer, refused, told, judged, answerOf, Reply, replyOf}
+use Rattle.partition.specs.Search.{StandsFor}
+
+-- ---- the search's memory read as a verdict
+
+pub memory-passes : (p : Plan) → Sound p → (best : Best) (x : Found) → StandsFor (p .n) best x → 20 < best .members
+    → told Pass ≡ judged (verdictOf p x)
+unfolding StandsFor judged verdictOf pick size
+memory-passes p s best none h l = refl
+memory-passes p s best (found b) h l =
+    let t = s .twenty in
+    let q : best .members ≡ size (p .n) b = h .1 in
+    absurd (omega (arith, count-le (p .n) (λ i. mem i b)))
+
+pub memory-fails : (p : Plan) (best : Best) (x : Found) → StandsFor (p .n) best x → best .members ≤ 20
+    → (l r : ℕ) → l ≡ reached p (best .set) → r ≡ mask (p .n) (λ b. not (mem b (best .set)) and not (mem b l))
+    → told (Fail (record { f = best .set; l = l; r = r })) ≡ judged (verdictOf p x)
+unfolding StandsFor judged verdictOf pick cutOff rest
+memory-fails p best none h m l r e q = absurd (omega arith)
+memory-fails p best (found b) h m l r e q = same l r e q (h .0)
+  where
+    same : (l r : ℕ) → l ≡ reached p (best .set) → r ≡ mask (p .n) (λ b. not (mem b (best .set)) and not (mem b l)) → best .set ≡ b
+        → told (Fail (record { f = best .set; l = l; r = r })) ≡ judged (verdictOf p (found b))
+    same l r e q z =
+        let e′ : l ≡ reached p b = e ∙ ap (reached p) z in
+        let q′ : r ≡ cutOff p b =
+        q ∙ ap (λ (s : ℕ). mask (p .n) (λ i. not (mem i s) and not (mem i l))) z ∙ ap (λ (s : ℕ). mask (p .n) (λ i. not (mem i b) and not (mem i s))) e′ in
+        λ i. record { number = 0; failed = 1; f = z i; l = e′ i; r = q′ i }
+
+pub memory-below : (p : Plan) (best : Best) → StandsFor (p .n) best (bestBelow p (2 ^ p .n)) → best .members ≤ 20 → best .set < 2 ^ p .n
+unfolding StandsFor IsBest
+memory-below p best = go (bestBelow p (2 ^ p .n)) (best-below p (2 ^ p .n))
+  where
+    go : (x : Found) → IsBest p (2 ^ p .n) x → StandsFor (p .n) best x → best .members ≤ 20 → best .set < 2 ^ p .n
+    go none b h m = absurd (omega arith)
+    go (found t) b h m = subst (λ (s : ℕ). s < 2 ^ p .n) (sym (h .0)) (b .0)
+
+-- ---- the answer by the plan's cause
+
+pub answer-judged : (p : Plan) (a : Answer) → causeOf p ≡ 0 → a ≡ judged (verdict p) → a ≡ answerOf p
+unfolding answerOf
+answer-judged p a e q = q ∙ sym (pick-yes _ _ _ (eq-eqb (causeOf p) 0 e))
+
+pub answer-refused : (p : Plan) (k : ℕ) → k ≡ causeOf p → (k ≡ 0 → ⊥) → refused k ≡ answerOf p
+unfolding answerOf
+answer-refused p k e z = ap refused e ∙ sym (pick-no _ _ _ (ne-eqb (causeOf p) 0 (λ y. z (e ∙ y))))
+
+-- ---- for callers
+
+-- a fail is the theory's: its F defeats the plan, L and R are F's, and it is the least of all that do
+pick-one : (b : Bool) → _≡_ {A = ℕ} (pick b 0 1) 1 → b ≡ false
+unfolding pick
+pick-one true e = absurd (omega arith)
+pick-one false e = refl
+
+pick-zero : (b : Bool) → _≡_ {A = ℕ} (pick b 0 1) 0 → b ≡ true
+unfolding pick
+pick-zero true e = refl
+pick-zero false e = absurd (omega arith)
+
+-- what a failed answer says: the plan is sound, its verdict is the theory's fail, and the witness check accepts F, L, R
+pub record Failed (p : Plan) (a : Answer) : Type 0 where
+  pub is-plan : causeOf p ≡ 0
+  pub beaten : defeats p (a .f) ≡ true
+  pub l-is : a .l ≡ reached p (a .f)
+  pub r-is : a .r ≡ cutOff p (a .f)
+  pub least : (s : ℕ) → defeats p s ≡ true → Ahead p (a .f) s
+  pub checked : accepts p (a .f) (a .l) (a .r) ≡ true
+
+pub answer-fails : (p : Plan) → answerOf p .failed ≡ 1 → Failed p (answerOf p)
+unfolding answerOf judged
+answer-fails p =
+    pick-case (λ (a : Answer). a .failed ≡ 1 → Failed p a) (eqb (causeOf p) 0) (judged (verdict p)) (refused (causeOf p))
+    (λ e h.
+    let c = eqb-true (causeOf p) 0 e in
+    let v = pick-one (verdict p .passed) h in
+    let w = verdict-fail p v in
+    record {
+      is-plan = c;
+      beaten = w .beaten;
+      l-is = w .l-is;
+      r-is = w .r-is;
+      least = w .least;
+      checked = witness-accepted p (sound p c .source-below) v;
+    })
+    (λ e h. absurd (omega arith))
+
+-- what a passed answer says: no fault set leaves a terminal cut off
+pub answer-passes : (p : Plan) → answerOf p .number ≡ 0 → answerOf p .failed ≡ 0 → (s : ℕ) → isFaultSet p s ≡ true → cutOff p s ≡ 0
+unfolding answerOf judged
+answer-passes p =
+    pick-case (λ (a : Answer). a .number ≡ 0 → a .failed ≡ 0 → (s : ℕ) → isFaultSet p s ≡ true → cutOff p s ≡ 0) (eqb (causeOf p) 0)
+    (judged (verdict p)) (refused (causeOf p))
+    (λ e n h s i. verdict-pass p (pick-zero (verdict p .passed) h) s i)
+    (λ e n h s i. clash (eq-eqb (causeOf p) 0 n) e)
+
+-- the verdict's promise: the answer, and that the check accepts what a fail lists
+pub with-check : (p : Plan) (a : Answer) → a ≡ answerOf p → (a ≡ answerOf p) × (a .failed ≡ 1 → accepts p (a .f) (a .l) (a .r) ≡ true)
+with-check p a e =
+    (e, subst (λ (x : Answer). x .failed ≡ 1 → accepts p (x .f) (x .l) (x .r) ≡ true) (sym e) (λ h. answer-fails p h .checked))
+
+-- ---- the witness check's reply by the plan's cause
+
+pub reply-checked : (p : Plan) (f l r a : ℕ) → causeOf p ≡ 0 → a ≡ pick (accepts p f l r) 1 0 → _≡_ {A = Reply} (record { number = 0; accepted = a }) (replyOf p f l r)
+unfolding replyOf
+reply-checked p f l r a e q =
+    ap (λ (y : ℕ). record { number = 0; accepted = y }) q ∙ sym (pick-yes _ _ _ (eq-eqb (causeOf p) 0 e))
+
+pub reply-refused : (p : Plan) (f l r k : ℕ) → k ≡ causeOf p → (k ≡ 0 → ⊥) → _≡_ {A = Reply} (record { number = k; accepted = 0 }) (replyOf p f l r)
+unfolding replyOf
+reply-refused p f l r k e z =
+    ap (λ (y : ℕ). record { number = y; accepted = 0 }) e ∙ sym (pick-no _ _ _ (ne-eqb (causeOf p) 0 (λ y. z (e ∙ y))))

@@ -1,0 +1,53 @@
+-- The plan's soundness decides, then the check. Assumes nothing.
+use Prim.Native.Nat.{ℕ}
+use mathlib.Core.Path.{sym, ap, _∙_}
+use borrow.Author.Tests.{eq-eqb, ne-eqb}
+use Rattle.sets.proofs.Bools.{pick-yes, pick-no}
+use Rattle.plan.specs.Plan.{numberOf, causeOf}
+use Rattle.partition.specs.Answer.{Reply, replyOf}
+use Rattle.partition.proofs.Laws.{reply-checked, reply-refused}
+use native.Mathlib.Omega.{arith}
+use borrow.Author.Needs.{needs}
+use Rattle.partition.proofs.check_witness.Statement.{statement}
+use Rattle.partition.proofs.check_witness.Tie as tie
+
+check-requires : tie.Need-check-requires
+check-requires c κs = search needs
+
+enum-told : tie.Need-enum-told
+enum-told c = search needs
+
+accepts-requires : tie.Need-accepts-requires
+accepts-requires c κs = sym (c .before .before .check .ensures) ∙ ap numberOf (c .enum-told .given .1)
+
+returns : tie.Need-returns
+returns c = reply-checked _ _ _ _ 1 (sym (c .before .before .before .before .check .ensures) ∙ ap numberOf (c .before .before .enum-told .given .1)) (sym (pick-yes _ _ _ (sym (c .before .accepts .ensures) ∙ c .if1 .taken)))
+
+enum-told-2 : tie.Need-enum-told-2
+enum-told-2 c = search needs
+
+enum-told-3 : tie.Need-enum-told-3
+enum-told-3 c = search needs
+
+returns-2 : tie.Need-returns-2
+returns-2 c = reply-checked _ _ _ _ 0 (sym (c .before .before .before .before .check .ensures) ∙ ap numberOf (c .before .before .enum-told .given .1)) (sym (pick-no _ _ _ (sym (c .before .accepts .ensures) ∙ c .if1 .left)))
+
+returns-3 : tie.Need-returns-3
+returns-3 c = reply-refused _ _ _ _ 4 (ap numberOf (sym (c .enum-told2 .given .1)) ∙ c .before .before .check .ensures) (λ z. omega arith)
+
+returns-4 : tie.Need-returns-4
+returns-4 c = reply-refused _ _ _ _ 5 (ap numberOf (sym (c .enum-told3 .given .1)) ∙ c .before .before .check .ensures) (λ z. omega arith)
+
+pub check-witness-spec : {M : Type 1} → statement M
+check-witness-spec =
+    tie.close
+    (tie.spec
+    check-requires
+    enum-told
+    accepts-requires
+    returns
+    enum-told-2
+    enum-told-3
+    returns-2
+    returns-3
+    returns-4)

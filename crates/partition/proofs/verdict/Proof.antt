@@ -1,0 +1,45 @@
+-- The plan's soundness decides; the laws of the answer do the rest. Assumes nothing.
+use mathlib.Core.Path.{sym, ap, _∙_}
+use Rattle.plan.specs.Plan.{numberOf}
+use Rattle.partition.proofs.Laws.{answer-judged, answer-refused, with-check}
+use native.Mathlib.Omega.{arith}
+use borrow.Author.Needs.{needs}
+use Rattle.partition.proofs.verdict.Statement.{statement}
+use Rattle.partition.proofs.verdict.Tie as tie
+
+check-requires : tie.Need-check-requires
+check-requires c κs = search needs
+
+enum-told : tie.Need-enum-told
+enum-told c = search needs
+
+judge-requires : tie.Need-judge-requires
+judge-requires c κs = sym (c .before .before .check .ensures) ∙ ap numberOf (c .enum-told .given .1)
+
+enum-told-2 : tie.Need-enum-told-2
+enum-told-2 c = search needs
+
+enum-told-3 : tie.Need-enum-told-3
+enum-told-3 c = search needs
+
+returns : tie.Need-returns
+returns c = with-check _ _ (answer-judged _ _ (sym (c .before .before .before .check .ensures) ∙ ap numberOf (c .before .enum-told .given .1)) (c .judge .ensures))
+
+returns-2 : tie.Need-returns-2
+returns-2 c = with-check _ _ (answer-refused _ 4 (ap numberOf (sym (c .enum-told2 .given .1)) ∙ c .before .before .check .ensures) (λ z. omega arith))
+
+returns-3 : tie.Need-returns-3
+returns-3 c = with-check _ _ (answer-refused _ 5 (ap numberOf (sym (c .enum-told3 .given .1)) ∙ c .before .before .check .ensures) (λ z. omega arith))
+
+pub verdict-spec : {M : Type 1} → statement M
+verdict-spec =
+    tie.close
+    (tie.spec
+    check-requires
+    enum-told
+    judge-requires
+    enum-told-2
+    enum-told-3
+    returns
+    returns-2
+    returns-3)

@@ -1,0 +1,52 @@
+-- What the verdict and the witness check answer for every plan record: document 01's number and values for each case. Assumes nothing.
+use Prim.Native.Nat.{ℕ}
+use mathlib.Core.Bool.{Bool, true, false}
+use lib.Dec.{eqb}
+use Rattle.sets.specs.Tests.{pick}
+use Rattle.plan.specs.declared.Plan.{Plan}
+use Rattle.plan.specs.Plan.{causeOf}
+use Rattle.propagation.specs.Verdict as theory
+use Rattle.partition.specs.declared.Witness.{Witness}
+use Rattle.partition.specs.declared.Judgement.{Judgement}
+use Rattle.partition.specs.declared.Judgement.the-variants as judgement
+use Rattle.partition.specs.declared.WitnessCheck.{WitnessCheck}
+use Rattle.partition.specs.declared.WitnessCheck.the-variants as check
+
+-- the number of a refusal (0 where nothing is refused), 1 for a fail, and F, L, R: a pass and a refused call have only zeros there
+pub record Answer : Type 0 where
+  pub number : ℕ
+  pub failed : ℕ
+  pub f : ℕ
+  pub l : ℕ
+  pub r : ℕ
+
+abbrev pub refused : ℕ → Answer
+refused cause = record { number = cause; failed = 0; f = 0; l = 0; r = 0 }
+
+abbrev pub told : Judgement → Answer
+told judgement.Pass = record { number = 0; failed = 0; f = 0; l = 0; r = 0 }
+told (judgement.Fail w) = record { number = 0; failed = 1; f = w .f; l = w .l; r = w .r }
+told judgement.WrongRange = refused 4
+told judgement.WrongLink = refused 5
+
+-- the theory's verdict on a sound plan, else the cause
+unfoldable pub judged : theory.Verdict → Answer
+judged v = record { number = 0; failed = pick (v .passed) 0 1; f = v .f; l = v .l; r = v .r }
+
+unfoldable pub answerOf : Plan → Answer
+answerOf p = pick (eqb (causeOf p) 0) (judged (theory.verdict p)) (refused (causeOf p))
+
+-- the witness check: the number of a refusal, and 1 for a yes
+pub record Reply : Type 0 where
+  pub number : ℕ
+  pub accepted : ℕ
+
+abbrev pub replied : WitnessCheck → Reply
+replied check.Accepted = record { number = 0; accepted = 1 }
+replied check.Rejected = record { number = 0; accepted = 0 }
+replied check.WrongRange = record { number = 4; accepted = 0 }
+replied check.WrongLink = record { number = 5; accepted = 0 }
+
+unfoldable pub replyOf : Plan → ℕ → ℕ → ℕ → Reply
+replyOf p f l r =
+    pick (eqb (causeOf p) 0) (record { number = 0; accepted = pick (theory.accepts p f l r) 1 0 }) (record { number = causeOf p; accepted = 0 })

@@ -1,0 +1,3 @@
+-- What the contracts of verdict and witness check cite.
+pub mod Answer
+pub mod Search

@@ -1,0 +1,62 @@
+// The witness check on a sound plan.
+ghost use mathlib.Core.Path.{_≡_};
+ghost use mathlib.Core.Bool.{not};
+ghost use Prim.Native.Nat.{_<_, _≤_, _^_};
+ghost use Rattle.sets.specs.Tests.{_and_, _implies_};
+ghost use Rattle.sets.specs.Sets.{mem, all};
+ghost use Rattle.plan.specs.Plan.{hears, causeOf};
+ghost use Rattle.propagation.specs.FaultSet.{hearsMany, isFaultSet};
+ghost use Rattle.propagation.specs.Verdict.{isPartition, accepts};
+use super::search;
+use plan::Plan;
+
+// F and L are disjoint sets of terminals, and R is everyone else.
+fn is_partition(n: usize, f: u32, l: u32, r: u32) -> bool
+    requires { ⌜ n ≤ 20 ⌝ }
+    ensures { λ x. ⌜ x ≡ isPartition n f l r ⌝ }
+{
+    if sets::within(f, n) {
+        if sets::within(l, n) {
+            if f & l == 0 {
+                return search::left_out(n, f, l) == r;
+            }
+        }
+    }
+    false
+}
+
+fn is_fault_set(p: Plan, f: u32) -> bool
+    requires { ⌜ (causeOf p ≡ 0) × (f < 2 ^ p .n) ⌝ }
+    ensures { λ x. ⌜ x ≡ isFaultSet p f ⌝ }
+{
+    if sets::member(f, p.source) {
+        return false;
+    }
+    search::bounded(p, f)
+}
+
+// No member of R hears the source, and none hears more than f members of L.
+fn cut_off(p: Plan, l: u32, r: u32) -> bool
+    requires { ⌜ causeOf p ≡ 0 ⌝ }
+    ensures { λ x. ⌜ x ≡ all (p .n) (λ b. mem b r implies (not (hears p b (p .source)) and not (hearsMany p b l))) ⌝ }
+{
+    let rows = p.rows;
+    let hearers = search::direct(rows, p.source);
+    (hearers | search::over(rows, p.f as u32, l)) & r == 0
+}
+
+pub(crate) fn accepts(p: Plan, f: u32, l: u32, r: u32) -> bool
+    requires { ⌜ causeOf p ≡ 0 ⌝ }
+    ensures { λ x. ⌜ x ≡ accepts p f l r ⌝ }
+{
+    if is_partition(p.n, f, l, r) {
+        if sets::member(l, p.source) {
+            if r != 0 {
+                if is_fault_set(p, f) {
+                    return cut_off(p, l, r);
+                }
+            }
+        }
+    }
+    false
+}

@@ -1,0 +1,82 @@
+// The verdict on a plan, and the check of a witness that anybody proposes.
+mod check;
+mod search;
+
+ghost use mathlib.Core.Path.{_≡_};
+ghost use mathlib.Core.Bool.{true};
+ghost use Prim.Native.Nat.{ℕ};
+ghost use Rattle.plan.specs.Plan.{causeOf};
+ghost use Rattle.propagation.specs.Verdict.{verdict, accepts};
+ghost use Rattle.partition.specs.Answer.{told, judged, answerOf, replied, replyOf};
+use plan::Plan;
+use plan::Soundness;
+
+// The fault set f, the terminals l that a notice reaches in spite of it, and the terminals r that
+// it cuts off.
+pub struct Witness {
+    pub f: u32,
+    pub l: u32,
+    pub r: u32,
+}
+
+pub enum Judgement {
+    Pass,
+    Fail(Witness),
+    WrongRange,
+    WrongLink,
+}
+
+pub enum WitnessCheck {
+    Accepted,
+    Rejected,
+    WrongRange,
+    WrongLink,
+}
+
+// The verdict on a sound plan.
+fn judge(p: Plan) -> Judgement
+    requires { ⌜ causeOf p ≡ 0 ⌝ }
+    ensures { λ r. ⌜ told r ≡ judged (verdict p) ⌝ }
+{
+    let rows = p.rows;
+    let hearers = search::direct(rows, p.source);
+    let best = search::search(p, hearers);
+    if 20 < best.members {
+        return Judgement::Pass;
+    }
+    let f = best.set;
+    let l = search::reach(p, hearers, f);
+    let r = search::left_out(p.n, f, l);
+    Judgement::Fail(Witness { f: f, l: l, r: r })
+}
+
+// Pass, or fail with the least witness, or why the record is no plan. What a fail lists is accepted
+// by the witness check.
+pub fn verdict(p: Plan) -> Judgement
+    ensures { λ r. ⌜ told r ≡ answerOf p ⌝ }
+    ensures { λ r. ⌜ (told r .failed ≡ 1 → accepts p (told r .f) (told r .l) (told r .r) ≡ true) ⌝ }
+{
+    let soundness = plan::check(p);
+    match soundness {
+        Soundness::Sound => judge(p),
+        Soundness::WrongRange => Judgement::WrongRange,
+        Soundness::WrongLink => Judgement::WrongLink,
+    }
+}
+
+// Whether three sets are a witness against the plan. Who proposed them does not matter.
+pub fn check_witness(p: Plan, f: u32, l: u32, r: u32) -> WitnessCheck
+    ensures { λ x. ⌜ replied x ≡ replyOf p f l r ⌝ }
+{
+    let soundness = plan::check(p);
+    match soundness {
+        Soundness::Sound => {
+            if check::accepts(p, f, l, r) {
+                return WitnessCheck::Accepted;
+            }
+            WitnessCheck::Rejected
+        }
+        Soundness::WrongRange => WitnessCheck::WrongRange,
+        Soundness::WrongLink => WitnessCheck::WrongLink,
+    }
+}
