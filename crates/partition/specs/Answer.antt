@@ -1,16 +1,20 @@
 -- What the verdict and the witness check answer for every plan record: document 01's number and values for each case. Assumes nothing.
 use Prim.Native.Nat.{ℕ}
-use mathlib.Core.Bool.{Bool, true, false}
+use mathlib.Core.Bool.{Bool, true, false, not}
 use lib.Dec.{eqb}
-use Rattle.sets.specs.Tests.{pick}
+use Rattle.sets.specs.Tests.{_and_, pick}
+use Rattle.sets.specs.Sets.{mem, within}
 use Rattle.plan.specs.declared.Plan.{Plan}
 use Rattle.plan.specs.Plan.{causeOf}
+use Rattle.propagation.specs.FaultSet.{isFaultSet}
 use Rattle.propagation.specs.Verdict as theory
 use Rattle.partition.specs.declared.Witness.{Witness}
 use Rattle.partition.specs.declared.Judgement.{Judgement}
 use Rattle.partition.specs.declared.Judgement.the-variants as judgement
 use Rattle.partition.specs.declared.WitnessCheck.{WitnessCheck}
 use Rattle.partition.specs.declared.WitnessCheck.the-variants as check
+use Rattle.partition.specs.declared.FaultSetCheck.{FaultSetCheck}
+use Rattle.partition.specs.declared.FaultSetCheck.the-variants as faults
 
 -- the number of a refusal (0 where nothing is refused), 1 for a fail, and F, L, R: a pass and a refused call have only zeros there
 pub record Answer : Type 0 where
@@ -50,3 +54,15 @@ replied check.WrongLink = record { number = 5; accepted = 0 }
 unfoldable pub replyOf : Plan → ℕ → ℕ → ℕ → Reply
 replyOf p f l r =
     pick (eqb (causeOf p) 0) (record { number = 0; accepted = pick (theory.accepts p f l r) 1 0 }) (record { number = causeOf p; accepted = 0 })
+
+-- the check of a proposed fault set: 4, 5, then 7 where it names the source or a number at or above n, then 8 where a good terminal hears more than f
+abbrev pub faultNumberOf : FaultSetCheck → ℕ
+faultNumberOf faults.Sound = 0
+faultNumberOf faults.WrongRange = 4
+faultNumberOf faults.WrongLink = 5
+faultNumberOf faults.WrongMember = 7
+faultNumberOf faults.OverBound = 8
+
+unfoldable pub faultCauseOf : Plan → ℕ → ℕ
+faultCauseOf p s =
+    pick (eqb (causeOf p) 0) (pick (within (p .n) s and not (mem (p .source) s)) (pick (isFaultSet p s) 0 8) 7) (causeOf p)

@@ -3,7 +3,7 @@ ghost use mathlib.Core.Path.{_≡_};
 ghost use mathlib.Core.Bool.{not};
 ghost use Prim.Native.Nat.{_<_, _≤_, _^_};
 ghost use Rattle.sets.specs.Tests.{_and_, _implies_};
-ghost use Rattle.sets.specs.Sets.{mem, all};
+ghost use Rattle.sets.specs.Sets.{mem, all, within};
 ghost use Rattle.plan.specs.Plan.{hears, causeOf};
 ghost use Rattle.propagation.specs.FaultSet.{hearsMany, isFaultSet};
 ghost use Rattle.propagation.specs.Verdict.{isPartition, accepts};
@@ -57,6 +57,16 @@ pub(crate) fn accepts(p: Plan, f: u32, l: u32, r: u32) -> bool
                 }
             }
         }
+    }
+    false
+}
+
+// The set has terminals of the plan only, and not the source.
+pub(crate) fn names_terminals(p: Plan, s: u32) -> bool
+    ensures { λ x. ⌜ x ≡ within (p .n) s and not (mem (p .source) s) ⌝ }
+{
+    if sets::within(s, p.n) {
+        return !sets::member(s, p.source);
     }
     false
 }

@@ -7,7 +7,7 @@ ghost use mathlib.Core.Bool.{true};
 ghost use Prim.Native.Nat.{ℕ};
 ghost use Rattle.plan.specs.Plan.{causeOf};
 ghost use Rattle.propagation.specs.Verdict.{verdict, accepts};
-ghost use Rattle.partition.specs.Answer.{told, judged, answerOf, replied, replyOf};
+ghost use Rattle.partition.specs.Answer.{told, judged, answerOf, replied, replyOf, faultNumberOf, faultCauseOf};
 use plan::Plan;
 use plan::Soundness;
 
@@ -31,6 +31,14 @@ pub enum WitnessCheck {
     Rejected,
     WrongRange,
     WrongLink,
+}
+
+pub enum FaultSetCheck {
+    Sound,
+    WrongRange,
+    WrongLink,
+    WrongMember,
+    OverBound,
 }
 
 // The verdict on a sound plan.
@@ -78,5 +86,25 @@ pub fn check_witness(p: Plan, f: u32, l: u32, r: u32) -> WitnessCheck
         }
         Soundness::WrongRange => WitnessCheck::WrongRange,
         Soundness::WrongLink => WitnessCheck::WrongLink,
+    }
+}
+
+// Whether the set can be the liars' of the plan.
+pub fn check_fault_set(p: Plan, s: u32) -> FaultSetCheck
+    ensures { λ r. ⌜ faultNumberOf r ≡ faultCauseOf p s ⌝ }
+{
+    let soundness = plan::check(p);
+    match soundness {
+        Soundness::Sound => {
+            if check::names_terminals(p, s) {
+                if search::bounded(p, s) {
+                    return FaultSetCheck::Sound;
+                }
+                return FaultSetCheck::OverBound;
+            }
+            FaultSetCheck::WrongMember
+        }
+        Soundness::WrongRange => FaultSetCheck::WrongRange,
+        Soundness::WrongLink => FaultSetCheck::WrongLink,
     }
 }
