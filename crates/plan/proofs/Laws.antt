@@ -25,7 +25,7 @@ pub record Sound (p : Plan) : Type 0 where
   pub row-below : (b : ℕ) → b < p .n → heardBy p b < 2 ^ p .n
   pub rows-above : (b : ℕ) → p .n ≤ b → b < 20 → heardBy p b ≡ 0
 
-tests : (p : Plan) → causeOf p ≡ 0 → (inRange (p .n) (p .source) (p .f) ≡ true) × (linksSound p ≡ true)
+pub tests : (p : Plan) → causeOf p ≡ 0 → (inRange (p .n) (p .source) (p .f) ≡ true) × (linksSound p ≡ true)
 unfolding causeOf
 tests p =
     pick-case (λ (x : ℕ). x ≡ 0 → (inRange (p .n) (p .source) (p .f) ≡ true) × (linksSound p ≡ true)) (inRange (p .n) (p .source) (p .f))
@@ -35,7 +35,7 @@ tests p =
     (λ l z. absurd (omega arith)))
     (λ r z. absurd (omega arith))
 
-row-of : (p : Plan) → linksSound p ≡ true → (b : ℕ) → b < p .n → p .n ≤ 20 → hearsSoundly (p .n) b (heardBy p b) ≡ true
+pub row-of : (p : Plan) → linksSound p ≡ true → (b : ℕ) → b < p .n → p .n ≤ 20 → hearsSoundly (p .n) b (heardBy p b) ≡ true
 unfolding linksSound rowSound
 row-of p l b k t =
     sym (pick-yes (ltb b (p .n)) (hearsSoundly (p .n) b (heardBy p b)) (eqb (heardBy p b) 0) (lt-ltb b (p .n) k))

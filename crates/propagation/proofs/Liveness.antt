@@ -99,7 +99,7 @@ module _ (p : Plan) (sound : Sound p) (faulty value : ℕ) (layout : value ≡ 0
           ∙ says-then-at r t v (at p faulty value script r j .state) e q
 
   -- the source has taken from the start
-  source-taken : (r : ℕ) → at p faulty value script r (p .source) .state ≡ Taken 0 value
+  pub source-taken : (r : ℕ) → at p faulty value script r (p .source) .state ≡ Taken 0 value
   source-taken zero = ap (λ (x : Record). x .state) (source-at-start p faulty value script (sound .source-below))
   source-taken (suc r) = stays r (p .source) 0 value (sound .source-below) (fault-source p faulty fault) (source-taken r)
 

@@ -73,6 +73,16 @@ module _ (p : Plan) (faulty value : ℕ) (script : Script) where
   unfolding site sites played recordIn
   at-next r b k g = table-at (p .n) (recordIn p faulty script (suc r) (sites p faulty value script r)) b k ∙ pick-no _ _ _ g
 
+  -- a terminal of the fault set stays waiting, round 0, nothing heard
+  pub at-faulty : (r b : ℕ) → b < p .n → mem b faulty ≡ true → at (suc r) b ≡ start
+  unfolding site sites played recordIn
+  at-faulty r b k g = table-at (p .n) (recordIn p faulty script (suc r) (sites p faulty value script r)) b k ∙ pick-yes _ _ _ g
+
+  pub sites-length : (r : ℕ) → length (sites p faulty value script r) ≡ p .n
+  unfolding sites played
+  sites-length zero = table-length (p .n) (startRecord p value)
+  sites-length (suc r) = table-length (p .n) (recordIn p faulty script (suc r) (sites p faulty value script r))
+
   pub word-good : (r b j : ℕ) → hears p b j ≡ true → mem j faulty ≡ false → word r b j ≡ saysIn (suc r) (at r j .state)
   unfolding heardFrom site
   word-good r b j h g = pick-yes _ _ _ h ∙ pick-no _ _ _ g

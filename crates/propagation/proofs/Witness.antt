@@ -147,6 +147,15 @@ verdict-fail p h = go (bestBelow p (2 ^ p .n)) (best-below p (2 ^ p .n)) h
     go none b e = clash refl e
     go (found t) b e = record { beaten = b .1; l-is = refl; r-is = refl; least = λ s d. b .2 s (defeats-below p s d) d }
 
+-- a passed plan returns three empty sets
+pub pass-empty : (p : Plan) → verdict p .passed ≡ true → (verdict p .f ≡ 0) × (verdict p .l ≡ 0) × (verdict p .r ≡ 0)
+unfolding verdict verdictOf
+pass-empty p = go (bestBelow p (2 ^ p .n))
+  where
+    go : (best : Found) → verdictOf p best .passed ≡ true → (verdictOf p best .f ≡ 0) × (verdictOf p best .l ≡ 0) × (verdictOf p best .r ≡ 0)
+    go none e = (refl, refl, refl)
+    go (found t) e = clash e refl
+
 -- a plan that some fault set defeats is failed
 pub defeated : (p : Plan) (s : ℕ) → defeats p s ≡ true → verdict p .passed ≡ false
 defeated p s d = no-by (λ h. defeats-cuts p s d (verdict-pass p h s (defeats-fault p s d)))

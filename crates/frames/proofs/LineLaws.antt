@@ -1,0 +1,128 @@
+-- The lines of a text as the one pass over its bytes meets them, and what the file is by then. Assumes nothing.
+use Prim.Native.Nat.{ℕ, suc, _+_, _-_, _≤_, _<_}
+use mathlib.Core.Path.{_≡_, refl, sym, ap, ap₂, _∙_}
+use mathlib.Core.List.{List, [], _∷_, _++_}
+use native.Mathlib.Nat.{sub-self}
+use native.Mathlib.Numerals.{add-one}
+use native.Mathlib.Omega.{arith}
+use lib.Dec.{eqb}
+use lib.ListN.{length, getD, take, drop, set, length-take, length-drop, length-replicate, drop-of-length-le}
+use lib.Seq.{drop-cons, take-suc, take-suc-set, getD-drop}
+use borrow.Author.Tests.{eq-eqb, ne-eqb, le-leb}
+use Rattle.sets.specs.Tests.{pick}
+use Rattle.sets.proofs.Bools.{and-i, pick-yes, pick-no}
+use Rattle.frames.specs.declared.frame.Frame.{Frame}
+use Rattle.frames.specs.declared.Progress.{Progress}
+use Rattle.frames.specs.declared.FileRead.{FileRead}
+use Rattle.frames.specs.Lines.{ended, lastLine, linesFrom}
+use Rattle.frames.specs.Frames.{frameOf}
+use Rattle.frames.specs.Reading.{nothingRead, noWords, causeIn, after, wordsAfter, Reading, refusal, told, reading, fileRead}
+
+-- ---- a copy, one word a turn
+
+pub copied : (from to : List ℕ) (i : ℕ) → i < length from → i < length to → take i to ≡ take i from
+    → take (i + 1) (set to i (getD from i 0)) ≡ take (i + 1) from
+copied from to i f t e = rw (add-one, take-suc-set to i (getD from i 0), take-suc from i 0) (ap (λ (l : List ℕ). l ++ (getD from i 0 ∷ [])) e)
+
+-- ---- the bytes of the line that the pass is in, and what the file is told to be from there on
+
+abbrev pub current : List ℕ → ℕ → ℕ → List ℕ
+current text from i = take (i - from) (drop from text)
+
+abbrev pub ahead : ℕ → List ℕ → Progress → List ℕ → ℕ → ℕ → ℕ → Reading
+ahead kinds text p words line from i = told kinds p words line (linesFrom (current text from i) (drop i text))
+
+-- byte 10 ends the line
+lines-end : (text line : List ℕ) (i : ℕ) → i < length text → getD text i 0 ≡ 10
+    → linesFrom line (drop i text) ≡ ended line ∷ linesFrom [] (drop (i + 1) text)
+unfolding linesFrom
+lines-end text line i k h = rw (add-one, drop-cons text i 0) (pick-yes _ _ _ (eq-eqb (getD text i 0) 10 h))
+
+-- any other byte is the line's next
+current-grows : (text : List ℕ) (from i : ℕ) → from ≤ i → i < length text → current text from (i + 1) ≡ current text from i ++ (getD text i 0 ∷ [])
+current-grows text from i f k =
+    let one : i + 1 - from ≡ suc (i - from) = omega arith in
+    let back : from + (i - from) ≡ i = omega arith in
+    let room : i - from < length (drop from text) = simp length-drop (omega arith) in
+    ap (λ (j : ℕ). take j (drop from text)) one
+    ∙ take-suc (drop from text) (i - from) 0 room
+    ∙ ap (λ (b : ℕ). current text from i ++ (b ∷ [])) (getD-drop from text (i - from) 0 ∙ ap (λ (j : ℕ). getD text j 0) back)
+
+pub lines-grow : (text : List ℕ) (from i : ℕ) → from ≤ i → i < length text → (getD text i 0 ≡ 10 → ⊥)
+    → linesFrom (current text from i) (drop i text) ≡ linesFrom (current text from (i + 1)) (drop (i + 1) text)
+unfolding linesFrom
+lines-grow text from i f k h =
+    ap (linesFrom (current text from i)) (drop-cons text i 0 k)
+    ∙ pick-no _ _ _ (ne-eqb (getD text i 0) 10 h)
+    ∙ ap₂ linesFrom (sym (current-grows text from i f k)) (ap (λ (j : ℕ). drop j text) (sym (add-one i)))
+
+module _ (kinds : ℕ) (text : List ℕ) (p : Progress) (words : List ℕ) (line from i : ℕ) where
+  -- a line ends, and its frame is refused or accepted
+  module _ (k : i < length text) (h : getD text i 0 ≡ 10) (frame : Frame) (f : frame ≡ frameOf kinds (current text from i)) (cause : ℕ)
+      (e : cause ≡ causeIn p words frame) where
+    same-cause : causeIn p words (frameOf kinds (current text from i)) ≡ cause
+    same-cause = sym (e ∙ ap (causeIn p words) f)
+
+    pub line-refused : (cause ≡ 0 → ⊥) → ahead kinds text p words line from i ≡ refusal cause line
+    unfolding told
+    line-refused n =
+        ap (told kinds p words line) (lines-end text (current text from i) i k h)
+        ∙ pick-no _ _ _ (ne-eqb (causeIn p words (frameOf kinds (current text from i))) 0 (λ z. n (sym same-cause ∙ z)))
+        ∙ ap (λ (c : ℕ). refusal c line) same-cause
+
+    pub line-told : (next : Progress) (said : List ℕ) → cause ≡ 0 → next ≡ after p frame
+        → said ≡ pick (eqb cause 0) (wordsAfter p words frame) words
+        → ahead kinds text p words line from i ≡ ahead kinds text next said (line + 1) (i + 1) (i + 1)
+    unfolding told
+    line-told next said z q w =
+        let here : after p (frameOf kinds (current text from i)) ≡ next = sym (q ∙ ap (after p) f) in
+        let there : wordsAfter p words (frameOf kinds (current text from i)) ≡ said =
+        sym (w ∙ pick-yes _ _ _ (eq-eqb cause 0 z) ∙ ap (wordsAfter p words) f) in
+        let none : [] ≡ current text (i + 1) (i + 1) = ap (λ (j : ℕ). take j (drop (i + 1) text)) (sym (sub-self (i + 1))) in
+        ap (told kinds p words line) (lines-end text (current text from i) i k h)
+        ∙ pick-yes _ _ _ (eq-eqb (causeIn p words (frameOf kinds (current text from i))) 0 (same-cause ∙ z))
+        ∙ ap₂ (λ (x : Progress) (y : List ℕ). told kinds x y (line + 1) (linesFrom [] (drop (i + 1) text))) here there
+        ∙ ap (λ (l : List ℕ). told kinds next said (line + 1) (linesFrom l (drop (i + 1) text))) none
+
+  -- the text ends, within a line or with one
+  cut-refused : (l : List ℕ) → 0 < length l → told kinds p words line (linesFrom l []) ≡ refusal 1 line
+  unfolding told linesFrom lastLine
+  cut-refused [] h = absurd (omega arith)
+  cut-refused (b ∷ l) h = refl
+
+  module _ (t : length text ≤ i) where
+    pub ends-cut : i ≤ length text → from < i → ahead kinds text p words line from i ≡ refusal 1 line
+    ends-cut u h =
+        ap (λ (l : List ℕ). told kinds p words line (linesFrom (current text from i) l)) (drop-of-length-le text t)
+        ∙ cut-refused (current text from i) (simp (length-take, length-drop) (omega arith))
+
+    pub ends-told : i ≤ from → ahead kinds text p words line from i ≡ record { number = 0; line = 0; progress = p; words = words }
+    unfolding told linesFrom lastLine
+    ends-told h =
+        let none : i - from ≡ 0 = omega arith in
+        ap (λ (l : List ℕ). told kinds p words line (linesFrom (current text from i) l)) (drop-of-length-le text t)
+        ∙ ap (λ (j : ℕ). told kinds p words line (linesFrom (take j (drop from text)) [])) none
+
+-- ---- the file
+
+pub no-words : (words : List ℕ) → words ≡ noWords → length words ≡ 16000
+no-words words e = ap length e ∙ length-replicate {A = ℕ} 16000 0
+
+pub starts-small : (p : Progress) → p ≡ nothingRead → (p .plan .n ≤ 20) × (p .rounds ≤ 40)
+starts-small p e = rw e (omega arith)
+
+pub starts : (kinds : ℕ) (text : List ℕ) (p : Progress) (words : List ℕ) → (1 ≤ length text) × (length text ≤ 24576) × (words ≡ noWords) → p ≡ nothingRead
+    → ahead kinds text p words 1 0 0 ≡ reading kinds text
+unfolding reading
+starts kinds text p words h e =
+    ap₂ (λ (x : Progress) (y : List ℕ). told kinds x y 1 (linesFrom [] text)) e (h .2)
+    ∙ sym (pick-yes _ _ _ (and-i _ _ (le-leb 1 (length text) (h .0)) (le-leb (length text) 24576 (h .1))))
+
+pub file-refused : (r : FileRead) (number line : ℕ) (file : Reading) (words : List ℕ) → r ≡ record { number = number; line = line; progress = nothingRead }
+    → file ≡ refusal number line → (number ≡ 0 → ⊥) → (r ≡ fileRead file) × (r .number ≡ 0 → words ≡ file .words)
+file-refused r number line file words e h n =
+    (e ∙ sym (ap (λ (x : Reading). fileRead x) h), λ z. absurd (n (sym (ap (λ (x : FileRead). x .number) e) ∙ z)))
+
+pub file-told : (r : FileRead) (p : Progress) (file : Reading) (words : List ℕ) → r ≡ record { number = 0; line = 0; progress = p }
+    → file ≡ record { number = 0; line = 0; progress = p; words = words } → (r ≡ fileRead file) × (r .number ≡ 0 → words ≡ file .words)
+file-told r p file words e h = (e ∙ sym (ap (λ (x : Reading). fileRead x) h), λ z. sym (ap (λ (x : Reading). x .words) h))

@@ -1,0 +1,153 @@
+-- What refuses a link or a word, where a word stands, and what an accepted frame keeps. Assumes nothing.
+use Prim.Native.Nat.{ℕ, _+_, _-_, _*_, _≤_, _<_}
+use mathlib.Core.Path.{_≡_, refl, sym, _∙_}
+use mathlib.Core.List.{List}
+use mathlib.Core.Bool.{Bool, true, false, not}
+use native.Mathlib.Nat.{mul-le-mul}
+use native.Mathlib.Omega.{arith}
+use lib.Dec.{eqb, ltb}
+use borrow.Author.Tests.{eq-eqb, ne-eqb, lt-ltb, le-ltb, le-leb, lt-leb, leb-true, ltb-true}
+use Rattle.sets.specs.Tests.{_and_, pick}
+use Rattle.sets.specs.Sets.{mem}
+use Rattle.sets.proofs.Bools.{and-l, and-r, and-i, and-yes, and-no-l, and-no-r, not-i, not-yes, pick-yes, pick-no}
+use Rattle.terminal.specs.Answer.{inRange}
+use Rattle.plan.specs.Plan.{hears}
+use Rattle.frames.specs.declared.Progress.{Progress}
+use Rattle.frames.specs.declared.frame.Frame.{Frame}
+use Rattle.frames.specs.declared.frame.Frame.the-variants.{Foreign, Unknown, Head, Link, FaultSet, Start, Message}
+use Rattle.frames.specs.declared.told.Told.{Told}
+use Rattle.frames.specs.Reading.{headCause, linkCause, startCause, isWord, causeIn, linked, after, wordsAfter}
+
+-- ---- a link
+
+module _ (p : Progress) (from to : ℕ) (stage : p .stage ≡ 1) where
+  link-wrong : ltb from (p .plan .n) and ltb to (p .plan .n) and not (eqb from to) ≡ false → linkCause p from to ≡ 5
+  unfolding linkCause
+  link-wrong h = pick-yes _ _ _ (eq-eqb (p .stage) 1 stage) ∙ pick-no _ _ _ h
+
+  pub link-from : p .plan .n ≤ from → linkCause p from to ≡ 5
+  link-from h = link-wrong (and-no-l _ _ (le-ltb from (p .plan .n) h))
+
+  pub link-to : p .plan .n ≤ to → linkCause p from to ≡ 5
+  link-to h = link-wrong (and-no-r _ _ (and-no-l _ _ (le-ltb to (p .plan .n) h)))
+
+  pub link-self : from ≡ to → linkCause p from to ≡ 5
+  link-self h = link-wrong (and-no-r _ _ (and-no-r _ _ (not-yes (eq-eqb from to h))))
+
+  module _ (f : from < p .plan .n) (t : to < p .plan .n) (d : from ≡ to → ⊥) where
+    link-sound : linkCause p from to ≡ pick (hears (p .plan) to from) 6 0
+    unfolding linkCause
+    link-sound =
+        pick-yes _ _ _ (eq-eqb (p .stage) 1 stage)
+        ∙ pick-yes _ _ _ (and-i _ _ (lt-ltb from (p .plan .n) f) (and-i _ _ (lt-ltb to (p .plan .n) t) (not-i (ne-eqb from to d))))
+
+    pub link-there : hears (p .plan) to from ≡ true → linkCause p from to ≡ 6
+    link-there h = link-sound ∙ pick-yes _ _ _ h
+
+    pub link-new : hears (p .plan) to from ≡ false → linkCause p from to ≡ 0
+    link-new h = link-sound ∙ pick-no _ _ _ h
+
+-- ---- a word
+
+module _ (p : Progress) (round from to value : ℕ) where
+  pub word-early : round < 1 → isWord p round from to value ≡ false
+  unfolding isWord
+  word-early h = and-no-l _ _ (lt-leb 1 round h)
+
+  pub word-late : p .rounds < round → isWord p round from to value ≡ false
+  unfolding isWord
+  word-late h = and-no-r _ _ (and-no-l _ _ (lt-leb round (p .rounds) h))
+
+  pub word-from : p .plan .n ≤ from → isWord p round from to value ≡ false
+  unfolding isWord
+  word-from h = and-no-r _ _ (and-no-r _ _ (and-no-l _ _ (le-ltb from (p .plan .n) h)))
+
+  pub word-to : p .plan .n ≤ to → isWord p round from to value ≡ false
+  unfolding isWord
+  word-to h = and-no-r _ _ (and-no-r _ _ (and-no-r _ _ (and-no-l _ _ (le-ltb to (p .plan .n) h))))
+
+  pub word-unheard : hears (p .plan) to from ≡ false → isWord p round from to value ≡ false
+  unfolding isWord
+  word-unheard h = and-no-r _ _ (and-no-r _ _ (and-no-r _ _ (and-no-r _ _ (and-no-l _ _ h))))
+
+  pub word-good : mem from (p .faulty) ≡ false → isWord p round from to value ≡ false
+  unfolding isWord
+  word-good h = and-no-r _ _ (and-no-r _ _ (and-no-r _ _ (and-no-r _ _ (and-no-r _ _ (and-no-l _ _ h)))))
+
+  pub word-said : 1 ≤ round → round ≤ p .rounds → from < p .plan .n → to < p .plan .n → hears (p .plan) to from ≡ true → mem from (p .faulty) ≡ true
+      → isWord p round from to value ≡ not (eqb value 0)
+  unfolding isWord
+  word-said a b c d e f =
+      and-yes _ _ (le-leb 1 round a)
+      ∙ and-yes _ _ (le-leb round (p .rounds) b)
+      ∙ and-yes _ _ (lt-ltb from (p .plan .n) c)
+      ∙ and-yes _ _ (lt-ltb to (p .plan .n) d)
+      ∙ and-yes _ _ e
+      ∙ and-yes _ _ f
+
+  pub word-parts : isWord p round from to value ≡ true → (1 ≤ round) × (round ≤ p .rounds) × (from < p .plan .n) × (to < p .plan .n)
+  unfolding isWord
+  word-parts h = (
+    leb-true 1 round (and-l _ _ h),
+    leb-true round (p .rounds) (and-l _ _ (and-r _ _ h)),
+    ltb-true from (p .plan .n) (and-l _ _ (and-r _ _ (and-r _ _ h))),
+    ltb-true to (p .plan .n) (and-l _ _ (and-r _ _ (and-r _ _ (and-r _ _ h)))),
+  )
+
+-- ---- where a word stands: 39 times 400, 19 times 20 and 19 lie below 16,000
+
+module _ (n round from to : ℕ) (h : (n ≤ 20) × (1 ≤ round) × (round ≤ 40) × (from < n) × (to < n)) where
+  pub place-square : n * n ≤ 400
+  place-square = mul-le-mul (h .0) (h .0)
+
+  pub place-rounds : (round - 1) * (n * n) ≤ 15600
+  place-rounds = let r : round - 1 ≤ 39 = omega arith in mul-le-mul r place-square
+
+  pub place-from : from * n ≤ 380
+  place-from = let f : from ≤ 19 = omega arith in mul-le-mul f (h .0)
+
+  pub place-below : (round - 1) * (n * n) + from * n + to < 16000
+  place-below = omega (arith, place-rounds, place-from)
+
+-- ---- a frame
+
+-- what was found of a frame by its variant holds of the frame
+pub told-by : (p : Progress) (words last : List ℕ) (frame known : Frame) (r : Told) → frame ≡ known → r .cause ≡ causeIn p words known
+    → (r .cause ≡ 0 → r .progress ≡ after p known) → last ≡ pick (eqb (r .cause) 0) (wordsAfter p words known) words
+    → (r .cause ≡ causeIn p words frame) × (r .cause ≡ 0 → r .progress ≡ after p frame)
+    × (last ≡ pick (eqb (r .cause) 0) (wordsAfter p words frame) words)
+told-by p words last frame known r e a b d = rw e (a, b, d)
+
+pub either : (b : Bool) (words : List ℕ) → words ≡ pick b words words
+unfolding pick
+either true words = refl
+either false words = refl
+
+-- a choice that is 0 where only its first case can be
+chosen : (b : Bool) (n : ℕ) → (n ≡ 0 → ⊥) → pick b 0 n ≡ 0 → b ≡ true
+unfolding pick
+chosen true n h e = refl
+chosen false n h e = absurd (h e)
+
+first : (b : Bool) (x n : ℕ) → (n ≡ 0 → ⊥) → pick b x n ≡ 0 → x ≡ 0
+unfolding pick
+first true x n h e = e
+first false x n h e = absurd (h e)
+
+-- an accepted frame leaves at most 20 terminals and 40 rounds
+module _ (p : Progress) (words : List ℕ) (twenty : p .plan .n ≤ 20) (forty : p .rounds ≤ 40) where
+  kept : (frame : Frame) → causeIn p words frame ≡ 0 → (after p frame .plan .n ≤ 20) × (after p frame .rounds ≤ 40)
+  unfolding causeIn headCause startCause inRange after linked
+  kept Foreign h = (twenty, forty)
+  kept Unknown h = (twenty, forty)
+  kept (Head n source f) h =
+      (leb-true n 20 (and-l _ _ (and-r _ _ (chosen _ 4 (λ z. omega arith) (first (eqb (p .stage) 0) _ 3 (λ z. omega arith) h)))), omega arith)
+  kept (Link from to) h = (twenty, omega arith)
+  kept (FaultSet s) h = (twenty, omega arith)
+  kept (Start value rounds) h =
+      (twenty, leb-true rounds 40 (and-r _ _ (chosen _ 9 (λ z. omega arith) (first (eqb (p .stage) 2) _ 3 (λ z. omega arith) h))))
+  kept (Message round from to value) h = (twenty, forty)
+
+  pub kept-next : (frame : Frame) (cause : ℕ) (next : Progress) → cause ≡ causeIn p words frame → cause ≡ 0 → next ≡ after p frame
+      → (next .plan .n ≤ 20) × (next .rounds ≤ 40)
+  kept-next frame cause next e z q = rw q (kept frame (sym e ∙ z))

@@ -1,0 +1,18 @@
+-- The reader of files that know two kinds. Assumes nothing.
+use borrow.Author.Needs.{needs}
+use Rattle.frames.specs.Reading.{planReading}
+use Rattle.frames.proofs.read_plan.Statement.{statement}
+use Rattle.frames.proofs.read_plan.Tie as tie
+
+slice-aggregate-read : tie.Need-slice-aggregate-read
+slice-aggregate-read c = search needs
+
+read-requires : tie.Need-read-requires
+read-requires c κs = search needs
+
+returns : tie.Need-returns
+unfolding planReading
+returns c = c .before .read .ensures .0
+
+pub read-plan-spec : {M : Type 1} → statement M
+read-plan-spec = tie.close (tie.spec slice-aggregate-read read-requires returns)

@@ -1,0 +1,65 @@
+-- The cause is the definition's by the tests that led there; the one store is where the cause is 0. Assumes nothing.
+use Prim.Native.Nat.{ℕ}
+use mathlib.Core.Path.{refl, sym, ap, _∙_}
+use native.Mathlib.Omega.{arith}
+use lib.ListN.{getD, set}
+use borrow.Author.Tests.{eq-eqb, ne-eqb}
+use borrow.Author.Needs.{needs}
+use Rattle.sets.proofs.Bools.{pick-yes, pick-no}
+use Rattle.frames.specs.Reading.{messageCause}
+use Rattle.frames.proofs.TellLaws.{word-parts}
+use Rattle.frames.proofs.told.message.Statement.{statement}
+use Rattle.frames.proofs.told.message.Tie as tie
+
+returns : tie.Need-returns
+unfolding messageCause
+returns c = (sym (pick-no _ _ _ (ne-eqb (c .before .before .before .before .args .p .stage) 3 (c .if1 .taken))), sym (pick-no _ _ _ refl))
+
+is-word-requires : tie.Need-is-word-requires
+is-word-requires c κs = search needs
+
+place-of-requires : tie.Need-place-of-requires
+place-of-requires c κs = let w = word-parts _ _ _ _ _ (sym (c .before .is-word .ensures) ∙ c .if2 .taken) in omega arith
+
+mul-if3 : tie.Need-mul-if3
+mul-if3 c = search needs
+
+slice-read-if3 : tie.Need-slice-read-if3
+slice-read-if3 c = search needs
+
+returns-2 : tie.Need-returns-2
+unfolding messageCause
+returns-2 c = (sym (pick-yes _ _ _ (eq-eqb (c .before .before .before .before .before .before .before .before .before .args .p .stage) 3 (c .before .before .before .before .before .if1 .left)) ∙ pick-yes _ _ _ (sym (c .before .before .before .before .is-word .ensures) ∙ c .before .before .before .if2 .taken) ∙ pick-no _ _ _ (rw (c .before .before .place-of .ensures .0) at (ne-eqb (getD (c .before .before .before .before .before .before .before .before .before .args .words .now) (c .before .before .place-of .result) 0) 0 (c .if3 .taken)))), sym (pick-no _ _ _ refl))
+
+mul-words : tie.Need-mul-words
+mul-words c = search needs
+
+slice-write-words : tie.Need-slice-write-words
+slice-write-words c = search needs
+
+same-length : tie.Need-same-length
+same-length c = search needs
+
+returns-3 : tie.Need-returns-3
+unfolding messageCause
+returns-3 c = (sym (pick-yes _ _ _ (eq-eqb (c .before .before .before .before .before .before .before .before .before .args .p .stage) 3 (c .before .before .before .before .before .if1 .left)) ∙ pick-yes _ _ _ (sym (c .before .before .before .before .is-word .ensures) ∙ c .before .before .before .if2 .taken) ∙ pick-yes _ _ _ (rw (c .before .before .place-of .ensures .0) at (eq-eqb (getD (c .before .before .before .before .before .before .before .before .before .args .words .now) (c .before .before .place-of .result) 0) 0 (c .if3 .left)))), ap (λ (k : ℕ). set (c .before .before .before .before .before .before .before .before .before .args .words .now) k (c .before .before .before .before .before .before .before .before .before .args .value)) (c .before .before .place-of .ensures .0) ∙ sym (pick-yes _ _ _ refl))
+
+returns-4 : tie.Need-returns-4
+unfolding messageCause
+returns-4 c = (sym (pick-yes _ _ _ (eq-eqb (c .before .before .before .before .before .before .args .p .stage) 3 (c .before .before .if1 .left)) ∙ pick-no _ _ _ (sym (c .before .is-word .ensures) ∙ c .if2 .left)), sym (pick-no _ _ _ refl))
+
+pub message-spec : {M : Type 1} → statement M
+message-spec =
+    tie.close
+    (tie.spec
+    returns
+    is-word-requires
+    place-of-requires
+    mul-if3
+    slice-read-if3
+    returns-2
+    mul-words
+    slice-write-words
+    same-length
+    returns-3
+    returns-4)

@@ -1,0 +1,116 @@
+-- Each arm is the definition's case of the frame's variant. Assumes nothing.
+use mathlib.Core.Path.{refl}
+use native.Mathlib.Omega.{arith}
+use borrow.Author.Needs.{needs}
+use Rattle.frames.specs.Reading.{causeIn, wordsAfter, after}
+use Rattle.frames.proofs.TellLaws.{told-by, either}
+use Rattle.frames.proofs.told.tell.Statement.{statement}
+use Rattle.frames.proofs.told.tell.Tie as tie
+
+enum-told : tie.Need-enum-told
+enum-told c = search needs
+
+enum-told-2 : tie.Need-enum-told-2
+enum-told-2 c = search needs
+
+enum-known-frame : tie.Need-enum-known-frame
+enum-known-frame c = search needs
+
+head-requires : tie.Need-head-requires
+head-requires c κs = search needs
+
+enum-known-frame-2 : tie.Need-enum-known-frame-2
+enum-known-frame-2 c = search needs
+
+cast-link : tie.Need-cast-link
+cast-link c = search needs
+
+cast-link-2 : tie.Need-cast-link-2
+cast-link-2 c = search needs
+
+link-requires : tie.Need-link-requires
+link-requires c κs = search needs
+
+enum-known-frame-3 : tie.Need-enum-known-frame-3
+enum-known-frame-3 c = search needs
+
+fault-set-requires : tie.Need-fault-set-requires
+fault-set-requires c κs = search needs
+
+enum-known-frame-4 : tie.Need-enum-known-frame-4
+enum-known-frame-4 c = search needs
+
+start-requires : tie.Need-start-requires
+start-requires c κs = search needs
+
+enum-known-frame-5 : tie.Need-enum-known-frame-5
+enum-known-frame-5 c = search needs
+
+cast-message : tie.Need-cast-message
+cast-message c = search needs
+
+cast-message-2 : tie.Need-cast-message-2
+cast-message-2 c = search needs
+
+message-requires : tie.Need-message-requires
+message-requires c κs = search needs
+
+returns : tie.Need-returns
+unfolding causeIn wordsAfter
+returns c = told-by _ _ _ _ _ _ (c .enum-told .given .1) refl (λ z. absurd (omega arith)) (either _ _)
+
+returns-2 : tie.Need-returns-2
+unfolding causeIn wordsAfter
+returns-2 c = told-by _ _ _ _ _ _ (c .enum-told2 .given .1) refl (λ z. absurd (omega arith)) (either _ _)
+
+returns-3 : tie.Need-returns-3
+unfolding causeIn wordsAfter
+returns-3 c = told-by _ _ _ _ _ _ (c .before .before .frame .given .1) (c .head .ensures .0) (c .head .ensures .1) (either _ _)
+
+returns-4 : tie.Need-returns-4
+unfolding causeIn wordsAfter
+returns-4 c = told-by _ _ _ _ _ _ (c .before .before .frame2 .given .1) (c .link .ensures .0) (c .link .ensures .1) (either _ _)
+
+returns-5 : tie.Need-returns-5
+unfolding causeIn wordsAfter
+returns-5 c = told-by _ _ _ _ _ _ (c .before .before .frame3 .given .1) (c .fault-set .ensures .0) (c .fault-set .ensures .1) (either _ _)
+
+returns-6 : tie.Need-returns-6
+unfolding causeIn wordsAfter
+returns-6 c = told-by _ _ _ _ _ _ (c .before .before .frame4 .given .1) (c .start .ensures .0) (c .start .ensures .1) (either _ _)
+
+same-length : tie.Need-same-length
+same-length c = search needs
+
+returns-7 : tie.Need-returns-7
+unfolding causeIn wordsAfter after
+returns-7 c = told-by _ _ _ _ _ _ (c .before .before .before .before .before .frame5 .given .1) (c .before .before .message .ensures .0) (λ z. refl) (c .before .before .message .ensures .1)
+
+pub tell-spec : {M : Type 1} → statement M
+tell-spec =
+    tie.close
+    (tie.spec
+    enum-told
+    enum-told-2
+    enum-known-frame
+    head-requires
+    enum-known-frame-2
+    cast-link
+    cast-link-2
+    link-requires
+    enum-known-frame-3
+    fault-set-requires
+    enum-known-frame-4
+    start-requires
+    enum-known-frame-5
+    cast-message
+    cast-message-2
+    message-requires
+    returns
+    returns-2
+    returns-3
+    returns-4
+    returns-5
+    returns-6
+    same-length
+    returns-7)

@@ -1,0 +1,269 @@
+// What each frame does to what is known so far, or why it is refused.
+ghost use mathlib.Core.Path.{_≡_};
+ghost use Prim.Native.Nat.{_<_, _≤_};
+ghost use lib.Dec.{eqb};
+ghost use lib.ListN.{length, set};
+ghost use Rattle.sets.specs.Tests.{pick};
+ghost use Rattle.partition.specs.Answer.{faultNumberOf};
+ghost use Rattle.frames.specs.declared.frame.Frame.the-variants.{Head, Link, FaultSet, Start, Message};
+ghost use Rattle.frames.specs.Reading.{placeOf, headCause, linkCause, faultSetCause, startCause, isWord, messageCause, causeIn, linked, after, wordsAfter};
+use super::Progress;
+use super::frame::Frame;
+use partition::FaultSetCheck;
+use plan::Plan;
+
+// The cause that refuses a frame, 0 for none; and what is known after it where it is accepted.
+pub(crate) struct Told {
+    pub cause: u8,
+    pub progress: Progress,
+}
+
+fn head(p: Progress, n: u8, source: u8, f: u8) -> Told
+    ensures { λ r. ⌜ (r .cause ≡ headCause p n source f) × (r .cause ≡ 0 → r .progress ≡ after p (Head n source f)) ⌝ }
+{
+    if p.stage != 0 {
+        return Told {
+            cause: 3,
+            progress: p,
+        };
+    }
+    if terminal::in_range(n as usize, source as usize, f as usize) {
+        return Told {
+            cause: 0,
+            progress: Progress {
+                stage: 1,
+                plan: Plan {
+                    n: n as usize,
+                    source: source as usize,
+                    f: f as usize,
+                    rows: [0u32; 20],
+                },
+                faulty: 0,
+                value: 0,
+                rounds: 0,
+            },
+        };
+    }
+    Told {
+        cause: 4,
+        progress: p,
+    }
+}
+
+// The plan with one link more.
+fn with_link(p: Plan, from: usize, to: usize) -> Plan
+    requires { ⌜ to < 20 ⌝ }
+    ensures { λ r. ⌜ r ≡ linked p from to ⌝ }
+{
+    let mut rows = p.rows;
+    rows[to] = sets::with(rows[to], from);
+    Plan {
+        n: p.n,
+        source: p.source,
+        f: p.f,
+        rows: rows,
+    }
+}
+
+fn link(p: Progress, from: usize, to: usize) -> Told
+    requires { ⌜ p .plan .n ≤ 20 ⌝ }
+    ensures { λ r. ⌜ (r .cause ≡ linkCause p from to) × (r .cause ≡ 0 → r .progress ≡ after p (Link from to)) ⌝ }
+{
+    let plan = p.plan;
+    let rows = plan.rows;
+    if p.stage != 1 {
+        return Told {
+            cause: 3,
+            progress: p,
+        };
+    }
+    if plan.n <= from {
+        return Told {
+            cause: 5,
+            progress: p,
+        };
+    }
+    if plan.n <= to {
+        return Told {
+            cause: 5,
+            progress: p,
+        };
+    }
+    if from == to {
+        return Told {
+            cause: 5,
+            progress: p,
+        };
+    }
+    if sets::member(rows[to], from) {
+        return Told {
+            cause: 6,
+            progress: p,
+        };
+    }
+    Told {
+        cause: 0,
+        progress: Progress {
+            stage: 1,
+            plan: with_link(plan, from, to),
+            faulty: 0,
+            value: 0,
+            rounds: 0,
+        },
+    }
+}
+
+fn fault_number(c: FaultSetCheck) -> u8
+    ensures { λ r. ⌜ r ≡ faultNumberOf c ⌝ }
+{
+    match c {
+        FaultSetCheck::Sound => 0,
+        FaultSetCheck::WrongRange => 4,
+        FaultSetCheck::WrongLink => 5,
+        FaultSetCheck::WrongMember => 7,
+        FaultSetCheck::OverBound => 8,
+    }
+}
+
+fn fault_set(p: Progress, s: u32) -> Told
+    ensures { λ r. ⌜ (r .cause ≡ faultSetCause p s) × (r .cause ≡ 0 → r .progress ≡ after p (FaultSet s)) ⌝ }
+{
+    let plan = p.plan;
+    if p.stage != 1 {
+        return Told {
+            cause: 3,
+            progress: p,
+        };
+    }
+    let cause = fault_number(partition::check_fault_set(plan, s));
+    if cause != 0 {
+        return Told {
+            cause: cause,
+            progress: p,
+        };
+    }
+    Told {
+        cause: 0,
+        progress: Progress {
+            stage: 2,
+            plan: plan,
+            faulty: s,
+            value: 0,
+            rounds: 0,
+        },
+    }
+}
+
+fn start(p: Progress, value: u16, rounds: u8) -> Told
+    ensures { λ r. ⌜ (r .cause ≡ startCause p value rounds) × (r .cause ≡ 0 → r .progress ≡ after p (Start value rounds)) ⌝ }
+{
+    let plan = p.plan;
+    if p.stage != 2 {
+        return Told {
+            cause: 3,
+            progress: p,
+        };
+    }
+    if value == 0 {
+        return Told {
+            cause: 9,
+            progress: p,
+        };
+    }
+    if 40 < rounds {
+        return Told {
+            cause: 9,
+            progress: p,
+        };
+    }
+    Told {
+        cause: 0,
+        progress: Progress {
+            stage: 3,
+            plan: plan,
+            faulty: p.faulty,
+            value: value,
+            rounds: rounds,
+        },
+    }
+}
+
+// A word in a round that is played, on a link, from a bad sender, and not silence.
+fn is_word(p: Progress, round: u8, from: usize, to: usize, value: u16) -> bool
+    requires { ⌜ p .plan .n ≤ 20 ⌝ }
+    ensures { λ r. ⌜ r ≡ isWord p round from to value ⌝ }
+{
+    let plan = p.plan;
+    let rows = plan.rows;
+    if round < 1 {
+        return false;
+    }
+    if p.rounds < round {
+        return false;
+    }
+    if plan.n <= from {
+        return false;
+    }
+    if plan.n <= to {
+        return false;
+    }
+    if sets::member(rows[to], from) {
+        if sets::member(p.faulty, from) {
+            return value != 0;
+        }
+    }
+    false
+}
+
+// Where the word of a round, a sender and a hearer stands.
+fn place_of(n: usize, round: u8, from: usize, to: usize) -> usize
+    requires { ⌜ (n ≤ 20) × (1 ≤ round) × (round ≤ 40) × (from < n) × (to < n) ⌝ }
+    ensures { λ r. ⌜ (r ≡ placeOf n round from to) × (r < 16000) ⌝ }
+{
+    ((round as usize) - 1) * (n * n) + from * n + to
+}
+
+// The cause that refuses a word, 0 for none: then it is kept.
+fn message(p: Progress, words: &mut [u16], round: u8, from: usize, to: usize, value: u16) -> u8
+    requires { ⌜ (p .plan .n ≤ 20) × (p .rounds ≤ 40) × (length (now words) ≡ 16000) ⌝ }
+    ensures { λ r. ⌜ (r ≡ messageCause p (now (words .entry)) round from to value) × (now (words .exit) ≡ pick (eqb r 0) (set (now (words .entry)) (placeOf (p .plan .n) round from to) value) (now (words .entry))) ⌝ }
+{
+    let plan = p.plan;
+    if p.stage != 3 {
+        return 3;
+    }
+    if is_word(p, round, from, to, value) {
+        let k = place_of(plan.n, round, from, to);
+        if words[k] != 0 {
+            return 11;
+        }
+        words[k] = value;
+        return 0;
+    }
+    10
+}
+
+// What a frame does, or the cause that refuses it: then the words stay as they are.
+pub(crate) fn tell(p: Progress, words: &mut [u16], frame: Frame) -> Told
+    requires { ⌜ (p .plan .n ≤ 20) × (p .rounds ≤ 40) × (length (now words) ≡ 16000) ⌝ }
+    ensures { λ r. ⌜ (r .cause ≡ causeIn p (now (words .entry)) frame) × (r .cause ≡ 0 → r .progress ≡ after p frame) × (now (words .exit) ≡ pick (eqb (r .cause) 0) (wordsAfter p (now (words .entry)) frame) (now (words .entry))) ⌝ }
+{
+    match frame {
+        Frame::Foreign => Told {
+            cause: 1,
+            progress: p,
+        },
+        Frame::Unknown => Told {
+            cause: 2,
+            progress: p,
+        },
+        Frame::Head(n, source, f) => head(p, n, source, f),
+        Frame::Link(from, to) => link(p, from as usize, to as usize),
+        Frame::FaultSet(s) => fault_set(p, s),
+        Frame::Start(value, rounds) => start(p, value, rounds),
+        Frame::Message(round, from, to, value) => Told {
+            cause: message(p, words, round, from as usize, to as usize, value),
+            progress: p,
+        },
+    }
+}

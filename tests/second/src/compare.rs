@@ -1,0 +1,136 @@
+//! Two programs against this implementation, byte for byte.
+
+use crate::faults::Fault;
+use crate::generate::{case, Kind};
+use crate::output::{run_text, verdict_text};
+use std::fs;
+use std::io::{Read, Write};
+use std::process::{Child, Command, Stdio};
+use std::sync::mpsc::channel;
+use std::thread;
+use std::time::{Duration, Instant};
+
+pub const TIME_LIMIT: Duration = Duration::from_secs(60);
+
+/// After so many differing cases the rest would say nothing new.
+const ENOUGH_MISMATCHES: u64 = 10;
+
+/// More than any right answer; a program that never stops printing is cut off here.
+const LONGEST_OUTPUT: u64 = 1 << 20;
+
+/// What a program did with one case.
+#[derive(Clone, Debug, PartialEq, Eq)]
+pub enum Answer {
+    Output(Vec<u8>),
+    Crash(String),
+    TimeOut,
+}
+
+/// Runs a program with the case on its standard input.
+pub fn ask(program: &str, input: &[u8], limit: Duration) -> Answer {
+    let end = Instant::now() + limit;
+    let started = Command::new(program)
+        .stdin(Stdio::piped())
+        .stdout(Stdio::piped())
+        .stderr(Stdio::null())
+        .spawn();
+    let mut child = match started {
+        Ok(child) => child,
+        Err(error) => return Answer::Crash(format!("not started: {error}")),
+    };
+    feed(&mut child, input.to_vec());
+    let (sender, receiver) = channel();
+    if let Some(output) = child.stdout.take() {
+        thread::spawn(move || {
+            let mut bytes = Vec::new();
+            let read = output.take(LONGEST_OUTPUT).read_to_end(&mut bytes);
+            let _ = sender.send(read.map(|_| bytes));
+        });
+    }
+    let output = match receiver.recv_timeout(limit) {
+        Ok(Ok(output)) => output,
+        Ok(Err(error)) => return stop(child, Answer::Crash(format!("output unread: {error}"))),
+        Err(_) => return stop(child, Answer::TimeOut),
+    };
+    finish(child, output, end)
+}
+
+/// Input goes in beside the reading of the output, so that neither waits for the other. A
+/// program may stop reading early; its output alone decides.
+fn feed(child: &mut Child, input: Vec<u8>) {
+    if let Some(mut stdin) = child.stdin.take() {
+        thread::spawn(move || {
+            let _ = stdin.write_all(&input);
+        });
+    }
+}
+
+fn stop(mut child: Child, answer: Answer) -> Answer {
+    let _ = child.kill();
+    let _ = child.wait();
+    answer
+}
+
+/// Waits for the end. The specification gives no exit status, so small ones are let pass;
+/// a signal, or a status that stands for a panic or a signal, is a crash.
+fn finish(mut child: Child, output: Vec<u8>, end: Instant) -> Answer {
+    loop {
+        match child.try_wait() {
+            Ok(Some(status)) => {
+                return match status.code() {
+                    Some(code) if code < 101 => Answer::Output(output),
+                    _ => Answer::Crash(status.to_string()),
+                }
+            }
+            Ok(None) if Instant::now() < end => thread::sleep(Duration::from_micros(200)),
+            _ => return stop(child, Answer::TimeOut),
+        }
+    }
+}
+
+/// Compares both programs; prints one line in all, and true if nothing differed.
+pub fn compare(verdict_program: &str, run_program: &str, seed: u64, count: u64) -> bool {
+    let (mut cases, mut mismatches) = (0, 0);
+    for (kind, program) in [(Kind::Verdict, verdict_program), (Kind::Run, run_program)] {
+        let mut here = 0;
+        for index in 0..count {
+            cases += 1;
+            let input = case(kind, seed, index);
+            if let Some(reason) = difference(kind, program, &input) {
+                report(kind, seed, index, &input, &reason);
+                here += 1;
+            }
+            if here == ENOUGH_MISMATCHES {
+                break;
+            }
+        }
+        mismatches += here;
+    }
+    println!("{cases} cases, {mismatches} mismatches (seed {seed})");
+    mismatches == 0
+}
+
+fn difference(kind: Kind, program: &str, input: &[u8]) -> Option<String> {
+    let own = match kind {
+        Kind::Verdict => verdict_text(input, Fault::None),
+        Kind::Run => run_text(input, Fault::None),
+    };
+    match ask(program, input, TIME_LIMIT) {
+        Answer::Output(output) if output == own => None,
+        Answer::Output(output) => Some(format!(
+            "printed {:?} instead of {:?}",
+            String::from_utf8_lossy(&output),
+            String::from_utf8_lossy(&own)
+        )),
+        Answer::Crash(reason) => Some(format!("crash: {reason}")),
+        Answer::TimeOut => Some("time-out".to_string()),
+    }
+}
+
+fn report(kind: Kind, seed: u64, index: u64, input: &[u8], reason: &str) {
+    let name = format!("mismatch-{}-{}-{}.txt", kind.name(), seed, index);
+    eprintln!("{name}: {reason}");
+    if let Err(error) = fs::write(&name, input) {
+        eprintln!("{name} not written: {error}");
+    }
+}

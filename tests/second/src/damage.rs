@@ -1,0 +1,404 @@
+//! Damage to valid files: single bytes, lines, sizes, and each cause of refusal by design.
+
+use crate::draft::{
+    bad_set_line, head_line, join, link_line, long_run, start_line, word_line, Draft,
+};
+use crate::generate::Kind;
+use crate::output::digits;
+use crate::plan::{number_of, Set};
+use crate::reader::LONGEST_FILE;
+use crate::rng::Rng;
+
+type Lines = Vec<Vec<u8>>;
+
+const FOREIGN: [u8; 16] = *b"gGABCDEFzZ /:@`\r";
+
+/// Places of the lines of one kind.
+fn places(lines: &Lines, kind: u8) -> Vec<usize> {
+    let start = digits(&[kind]);
+    (0..lines.len())
+        .filter(|&at| lines[at].starts_with(&start))
+        .collect()
+}
+
+fn place_of(lines: &Lines, kind: u8) -> Option<usize> {
+    places(lines, kind).first().copied()
+}
+
+/// One byte of the file becomes another one.
+pub fn change_byte(rng: &mut Rng, text: &mut [u8]) {
+    if text.is_empty() {
+        return;
+    }
+    let at = rng.below(text.len());
+    text[at] = match rng.below(4) {
+        0 => rng.byte(),
+        1 => 10,
+        2 => rng.pick(&FOREIGN),
+        _ => rng.pick(b"0123456789abcdef"),
+    };
+}
+
+/// Lines swapped, doubled, lost, moved, cut off or put in.
+pub fn change_lines(rng: &mut Rng, lines: &mut Lines) {
+    let (one, other) = (rng.below(lines.len()), rng.below(lines.len()));
+    match rng.below(6) {
+        0 => lines.swap(one, other),
+        1 => lines.insert(other, lines[one].clone()),
+        2 => drop(lines.remove(one)),
+        3 => {
+            let line = lines.remove(one);
+            lines.insert(rng.below(lines.len() + 1), line);
+        }
+        4 => lines.truncate(one.max(1)),
+        _ => lines.insert(one, Vec::new()),
+    }
+}
+
+/// Line ends, capitals and cuts.
+pub fn change_text(rng: &mut Rng, lines: &Lines) -> Vec<u8> {
+    let mut text = join(lines);
+    match rng.below(10) {
+        0 => text.truncate(rng.below(text.len() + 1)),
+        1 => text.truncate(text.len() - 1),
+        2 => text.push(10),
+        3 => text.insert(0, 10),
+        4 => {
+            text = lines
+                .iter()
+                .flat_map(|line| [line, &b"\r\n"[..]].concat())
+                .collect()
+        }
+        5 => {
+            text = text
+                .iter()
+                .map(|&byte| if byte == 10 { 13 } else { byte })
+                .collect()
+        }
+        6 => text.make_ascii_uppercase(),
+        7 => text.insert(rng.below(text.len()), 13),
+        8 => drop(text.remove(rng.below(text.len()))),
+        _ => text.insert(rng.below(text.len() + 1), rng.byte()),
+    }
+    text
+}
+
+/// Files of the sizes at which the whole-file causes begin, and next to them.
+pub fn sized(rng: &mut Rng, kind: Kind, draft: &Draft) -> Vec<u8> {
+    let size = match rng.below(8) {
+        0 => return Vec::new(),
+        1 => return vec![rng.pick(b"\n0f g\r")],
+        2 => LONGEST_FILE - 1,
+        3..=5 => LONGEST_FILE,
+        6 => LONGEST_FILE + 1,
+        _ => LONGEST_FILE + 1 + rng.below(3000),
+    };
+    let filling: Vec<u8> = match rng.below(5) {
+        0 => b"\n".to_vec(),
+        1 => b"0".to_vec(),
+        2 => join(&draft.lines),
+        3 => (0..64).map(|_| rng.byte()).collect(),
+        _ if kind == Kind::Run => return long_run(rng, size),
+        _ => b"020001\n".to_vec(),
+    };
+    let valid = join(&draft.lines);
+    valid
+        .into_iter()
+        .chain(filling.into_iter().cycle())
+        .take(size)
+        .collect()
+}
+
+/// Noise: any bytes, digits and line ends, or frames of random numbers.
+pub fn noise(rng: &mut Rng) -> Vec<u8> {
+    let length = rng.pick(&[1, 2, 7, 30, 200, 1000]);
+    match rng.below(3) {
+        0 => (0..length).map(|_| rng.byte()).collect(),
+        1 => (0..length)
+            .map(|_| rng.pick(b"0000111122345689abcdef\n\n\n"))
+            .collect(),
+        _ => {
+            let lengths = [4, 3, 4, 4, 6];
+            let mut lines = vec![digits(&[1, rng.between(2, 6) as u8, 0, 1])];
+            for _ in 0..rng.below(12) {
+                let kind = rng.below(5);
+                let mut frame = vec![kind as u8 + 1];
+                frame.extend((1..lengths[kind]).map(|_| rng.pick(&[0, 0, 1, 2, 3, 4, 41])));
+                lines.push(digits(&frame));
+            }
+            join(&lines)
+        }
+    }
+}
+
+/// Plants one cause of refusal and returns the place of the line that carries it.
+pub fn plant(rng: &mut Rng, kind: Kind, draft: &Draft, lines: &mut Lines, cause: u32) -> usize {
+    match cause {
+        1 => plant_text(rng, lines),
+        2 => plant_kind(rng, kind, lines),
+        3 => plant_order(rng, kind, lines),
+        4 => plant_head(rng, draft, lines),
+        5 => plant_link_end(rng, draft, lines),
+        6 => plant_link_twice(rng, lines),
+        7 => plant_bad_member(rng, draft, lines),
+        8 => plant_bad_bound(rng, draft, lines),
+        9 => plant_start(rng, lines),
+        10 => plant_word(rng, draft, lines),
+        _ => plant_word_twice(rng, draft, lines),
+    }
+}
+
+fn plant_text(rng: &mut Rng, lines: &mut Lines) -> usize {
+    let at = rng.below(lines.len());
+    let line = &mut lines[at];
+    let place = rng.below(line.len().max(1)).min(line.len());
+    match rng.below(5) {
+        0 => line.clear(),
+        1 => line.push(rng.pick(b"0f")),
+        2 => drop(line.pop()),
+        3 => line.insert(place, rng.pick(&FOREIGN)),
+        _ => {
+            line.truncate(place);
+            line.push(rng.pick(&[0, 9, 32, 65, 127, 128, 255]));
+        }
+    }
+    at
+}
+
+fn plant_kind(rng: &mut Rng, kind: Kind, lines: &mut Lines) -> usize {
+    let at = rng.below(lines.len());
+    let line = &mut lines[at];
+    match rng.below(4) {
+        0 => line.extend(digits(&[rng.pick(&[0, 1, 255])])),
+        1 if line.len() > 2 => line.truncate(line.len() - 2),
+        2 if kind == Kind::Verdict => {
+            let lacking = [
+                start_line(7, Some(3)),
+                bad_set_line(2),
+                word_line(1, 1, 0, 9),
+            ];
+            *line = lacking[rng.below(3)].clone();
+        }
+        2 => line.truncate(2),
+        _ => {
+            let unknown = digits(&[rng.pick(&[0, 6, 7, 16, 32, 128, 129, 130, 255])]);
+            line.splice(0..line.len().min(2), unknown);
+        }
+    }
+    at
+}
+
+fn plant_order(rng: &mut Rng, kind: Kind, lines: &mut Lines) -> usize {
+    let head = lines[0].clone();
+    let last = if kind == Kind::Run { 5 } else { 2 };
+    match rng.below(6) {
+        0 => drop(lines.remove(0)),
+        1 => {
+            let at = 1 + rng.below(lines.len());
+            let repeated = if rng.chance(50) {
+                head
+            } else {
+                digits(&[1, 0, 0, 0])
+            };
+            lines.insert(at, repeated);
+            return at;
+        }
+        2 => lines.insert(0, link_line(0, 1)),
+        choice => {
+            // A line of some kind is lost, or stands at some other place.
+            let found = places(lines, rng.between(2, last) as u8);
+            if let Some(&from) = found.get(rng.below(found.len().max(1))) {
+                let line = if choice == 3 {
+                    lines[from].clone()
+                } else {
+                    lines.remove(from)
+                };
+                let to = rng.below(lines.len() + 1);
+                if choice < 5 {
+                    lines.insert(to, line);
+                }
+                return to.min(lines.len().saturating_sub(1));
+            }
+        }
+    }
+    if lines.is_empty() {
+        lines.push(link_line(0, 1));
+    }
+    0
+}
+
+fn plant_head(rng: &mut Rng, draft: &Draft, lines: &mut Lines) -> usize {
+    let mut plan = draft.plan.clone();
+    let n = plan.n;
+    for _ in 0..rng.between(1, 2) {
+        match rng.below(3) {
+            0 => plan.n = rng.pick(&[0, 1, 21, 22, 255]),
+            1 => plan.source = rng.pick(&[n, n + 1, 20, 255]),
+            _ => plan.f = rng.pick(&[n, n + 1, 20, 255]),
+        }
+    }
+    lines[0] = head_line(&plan);
+    0
+}
+
+/// A place among the links, between the head and the bad set.
+fn link_place(rng: &mut Rng, lines: &Lines) -> usize {
+    let end = place_of(lines, 3).unwrap_or(lines.len()).max(1);
+    (1 + rng.below(end)).min(lines.len())
+}
+
+fn plant_link_end(rng: &mut Rng, draft: &Draft, lines: &mut Lines) -> usize {
+    let n = draft.plan.n;
+    let inside = rng.between(0, n - 1);
+    let outside = rng.pick(&[n, n + 1, 20, 32, 255]).max(n);
+    let line = match rng.below(4) {
+        0 => link_line(outside, inside),
+        1 => link_line(inside, outside),
+        2 => link_line(outside, outside),
+        _ => link_line(inside, inside),
+    };
+    let at = link_place(rng, lines);
+    lines.insert(at, line);
+    at
+}
+
+fn plant_link_twice(rng: &mut Rng, lines: &mut Lines) -> usize {
+    let links = places(lines, 2);
+    let line = if links.is_empty() {
+        link_line(0, 1)
+    } else {
+        lines[rng.pick(&links)].clone()
+    };
+    if links.is_empty() {
+        lines.insert(1.min(lines.len()), line.clone());
+    }
+    let at = link_place(rng, lines);
+    lines.insert(at, line);
+    at
+}
+
+fn plant_bad_member(rng: &mut Rng, draft: &Draft, lines: &mut Lines) -> usize {
+    let plan = &draft.plan;
+    let mut bad = draft.bad.clone();
+    let outside = rng.between(plan.n, 23);
+    bad.insert(if rng.chance(40) {
+        plan.source
+    } else {
+        rng.pick(&[plan.n, outside, 20, 23])
+    });
+    replace(lines, 3, bad_set_line(number_of(&bad)))
+}
+
+fn plant_bad_bound(rng: &mut Rng, draft: &Draft, lines: &mut Lines) -> usize {
+    let plan = &draft.plan;
+    let mut hearers: Vec<u32> = (0..plan.n).collect();
+    rng.shuffle(&mut hearers);
+    if rng.chance(40) {
+        // The bound at the source is the one that is easily forgotten.
+        hearers.insert(0, plan.source);
+    }
+    let mut bad: Set = (0..plan.n)
+        .filter(|&terminal| terminal != plan.source)
+        .collect();
+    for hearer in hearers {
+        let mut heard: Vec<u32> = plan.heard_by(hearer).into_iter().collect();
+        heard.retain(|&sender| sender != plan.source);
+        rng.shuffle(&mut heard);
+        if heard.len() > plan.f as usize {
+            bad = heard.into_iter().take(plan.f as usize + 1).collect();
+            break;
+        }
+    }
+    if rng.chance(10) {
+        bad.insert(plan.source);
+    }
+    replace(lines, 3, bad_set_line(number_of(&bad)))
+}
+
+/// Puts a line in the place of the first one of its kind.
+fn replace(lines: &mut Lines, kind: u8, line: Vec<u8>) -> usize {
+    let at = place_of(lines, kind).unwrap_or(lines.len() - 1);
+    lines[at] = line;
+    at
+}
+
+fn plant_start(rng: &mut Rng, lines: &mut Lines) -> usize {
+    let line = match rng.below(5) {
+        0 => start_line(0, None),
+        1 => start_line(0, Some(rng.between(0, 40))),
+        2 => start_line(7, Some(41)),
+        3 => start_line(0, Some(41)),
+        _ => start_line(7, Some(rng.pick(&[42, 64, 128, 255]))),
+    };
+    replace(lines, 4, line)
+}
+
+fn plant_word(rng: &mut Rng, draft: &Draft, lines: &mut Lines) -> usize {
+    let plan = &draft.plan;
+    let links: Vec<(u32, u32)> = plan.links.iter().copied().collect();
+    let lying: Vec<(u32, u32)> = links
+        .iter()
+        .copied()
+        .filter(|link| draft.bad.contains(&link.0))
+        .collect();
+    let pool = if lying.is_empty() {
+        vec![(0, 1)]
+    } else {
+        lying
+    };
+    let (from, to) = rng.pick(&pool);
+    let round = rng.between(1, draft.rounds.max(1));
+    let anyone = rng.between(0, plan.n - 1);
+    let line = match rng.below(8) {
+        0 => word_line(0, from, to, 9),
+        1 => word_line(draft.rounds + 1, from, to, 9),
+        2 => word_line(255, from, to, 9),
+        3 => word_line(round, from, to, 0),
+        4 => word_line(round, from, rng.pick(&[plan.n, 20, 255]), 9),
+        5 => word_line(round, rng.pick(&[plan.n, from, 255]), from, 9),
+        6 => word_line(round, anyone, to, 9),
+        _ => word_line(round, plan.source, to, 9),
+    };
+    insert_word(rng, lines, line)
+}
+
+fn insert_word(rng: &mut Rng, lines: &mut Lines, line: Vec<u8>) -> usize {
+    let first = place_of(lines, 4).map_or(lines.len(), |at| at + 1);
+    let at = first + rng.below(lines.len() - first + 1);
+    lines.insert(at, line);
+    at
+}
+
+fn plant_word_twice(rng: &mut Rng, draft: &Draft, lines: &mut Lines) -> usize {
+    let words = places(lines, 5);
+    if words.is_empty() {
+        return plant_word(rng, draft, lines);
+    }
+    let mut line = lines[rng.pick(&words)].clone();
+    let value = line.len().saturating_sub(4);
+    match rng.below(4) {
+        0 => drop(line.splice(value.., *b"0000")),
+        1 => drop(line.splice(value.., *b"abcd")),
+        _ => {}
+    }
+    insert_word(rng, lines, line)
+}
+
+/// A second fault on a line that may have one already.
+pub fn spoil_line(rng: &mut Rng, lines: &mut Lines, at: usize) {
+    let Some(line) = lines.get_mut(at) else {
+        return;
+    };
+    let extreme = digits(&[rng.pick(&[0, 1, 2, 19, 20, 21, 40, 41, 127, 128, 255])]);
+    let field = rng.below((line.len() / 2).max(1)) * 2;
+    match rng.below(6) {
+        0 => line.push(b'0'),
+        1 => line.extend(extreme),
+        2 => line.insert(field.min(line.len()), rng.pick(&FOREIGN)),
+        3 => {
+            let line = lines.remove(at);
+            lines.insert(rng.below(lines.len() + 1), line);
+        }
+        _ => drop(line.splice(field.min(line.len())..(field + 2).min(line.len()), extreme)),
+    }
+}

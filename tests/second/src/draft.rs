@@ -1,0 +1,147 @@
+//! Valid files as lists of lines, ready to be joined or damaged.
+
+use crate::output::digits;
+use crate::plan::{number_of, Plan, Set};
+use crate::plans::random_bad_set;
+use crate::reader::LONGEST_FILE;
+use crate::rng::Rng;
+
+/// Lines without their ends, and what they say.
+#[derive(Clone, Debug)]
+pub struct Draft {
+    pub plan: Plan,
+    pub bad: Set,
+    pub rounds: u32,
+    pub lines: Vec<Vec<u8>>,
+}
+
+/// How the liars talk.
+#[derive(Clone, Copy, Debug, PartialEq, Eq)]
+pub enum Manner {
+    Silent,
+    /// Other words to each neighbour in every round.
+    Wild,
+    /// The same word to one neighbour, round after round.
+    Steady,
+    /// A lie at first, later the truth.
+    Turncoat,
+}
+
+pub fn join(lines: &[Vec<u8>]) -> Vec<u8> {
+    lines
+        .iter()
+        .flat_map(|line| line.iter().copied().chain([10]))
+        .collect()
+}
+
+pub fn head_line(plan: &Plan) -> Vec<u8> {
+    digits(&[1, plan.n as u8, plan.source as u8, plan.f as u8])
+}
+
+pub fn link_line(from: u32, to: u32) -> Vec<u8> {
+    digits(&[2, from as u8, to as u8])
+}
+
+pub fn bad_set_line(number: u32) -> Vec<u8> {
+    let [_, high, middle, low] = number.to_be_bytes();
+    digits(&[3, high, middle, low])
+}
+
+pub fn start_line(value: u16, rounds: Option<u32>) -> Vec<u8> {
+    let [high, low] = value.to_be_bytes();
+    let mut frame = vec![4, high, low];
+    frame.extend(rounds.map(|rounds| rounds as u8));
+    digits(&frame)
+}
+
+pub fn word_line(round: u32, from: u32, to: u32, value: u16) -> Vec<u8> {
+    let [high, low] = value.to_be_bytes();
+    digits(&[5, round as u8, from as u8, to as u8, high, low])
+}
+
+pub fn plan_draft(plan: Plan) -> Draft {
+    let mut lines = vec![head_line(&plan)];
+    lines.extend(plan.links.iter().map(|&(from, to)| link_line(from, to)));
+    Draft {
+        plan,
+        bad: Set::new(),
+        rounds: 0,
+        lines,
+    }
+}
+
+/// A run of the plan with a random bad set and random words.
+pub fn run_draft(rng: &mut Rng, plan: Plan, rounds: Option<u32>, manner: Manner) -> Draft {
+    let share = rng.pick(&[15, 40, 70, 100]);
+    let bad = random_bad_set(rng, &plan, share);
+    let value = rng.pick(&[1, 7, 255, 256, 4660, 65_535]);
+    let mut draft = plan_draft(plan);
+    draft.bad = bad;
+    draft.rounds = rounds.unwrap_or(40);
+    draft.lines.push(bad_set_line(number_of(&draft.bad)));
+    draft.lines.push(start_line(value, rounds));
+    let words = words(rng, &draft, value, manner);
+    draft.lines.extend(words);
+    draft
+}
+
+/// Lines of words, as many as the longest file has room for.
+fn words(rng: &mut Rng, draft: &Draft, value: u16, manner: Manner) -> Vec<Vec<u8>> {
+    if manner == Manner::Silent {
+        return Vec::new();
+    }
+    // Few values, so that liars agree by chance; one on each side of the true one.
+    let lies = [value.max(2) - 1, value.min(65_534) + 1, 9];
+    let share = rng.pick(&[20, 60, 100]);
+    let turn = rng.between(1, 4);
+    let mut lines = Vec::new();
+    for round in 1..=draft.rounds.min(41) {
+        for &(from, to) in draft
+            .plan
+            .links
+            .iter()
+            .filter(|link| draft.bad.contains(&link.0))
+        {
+            let said = match manner {
+                Manner::Steady => lies[to as usize % 2],
+                Manner::Turncoat if round > turn => value,
+                Manner::Turncoat => lies[0],
+                _ if rng.chance(30) => value,
+                _ => rng.pick(&lies),
+            };
+            if rng.chance(share) {
+                lines.push(word_line(round, from, to, said));
+            }
+        }
+    }
+    let room = LONGEST_FILE.saturating_sub(join(&draft.lines).len()) / 13;
+    lines.truncate(room);
+    lines
+}
+
+/// A run file of exactly `size` bytes (about 24,576) in which every line is accepted.
+pub fn long_run(rng: &mut Rng, size: usize) -> Vec<u8> {
+    let mut plan = Plan::new(20, 0, 19);
+    let mut pairs: Vec<(u32, u32)> = (0..400).map(|place| (place / 20, place % 20)).collect();
+    pairs.retain(|(from, to)| from != to);
+    rng.shuffle(&mut pairs);
+    // Head, bad set and start take 27 bytes, a link 7 and a word 13.
+    let room = |links: &usize| size - 27 - 7 * links;
+    let links = (300..380)
+        .find(|links| room(links) % 13 == 0)
+        .unwrap_or(300);
+    plan.links = pairs[..links].iter().copied().collect();
+    let bad: Set = (10..20).collect();
+    let mut places: Vec<(u32, u32, u32)> = (1..=40)
+        .flat_map(|round| plan.links.iter().map(move |&(from, to)| (round, from, to)))
+        .filter(|(_, from, _)| bad.contains(from))
+        .collect();
+    rng.shuffle(&mut places);
+    let mut lines = plan_draft(plan).lines;
+    lines.push(bad_set_line(number_of(&bad)));
+    lines.push(start_line(7, Some(40)));
+    for &(round, from, to) in places.iter().take(room(&links) / 13) {
+        lines.push(word_line(round, from, to, rng.pick(&[7, 8, 9])));
+    }
+    join(&lines)
+}

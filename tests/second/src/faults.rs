@@ -1,0 +1,184 @@
+//! Planted faults: the implementation broken in one place at a time, to see that the cases
+//! would find it.
+
+use crate::generate::{case, step_case, Kind, StepCase};
+use crate::output::{run_text, verdict_text};
+use crate::plan::Cause;
+use crate::reader::read_plan;
+use crate::step::{step, Record};
+
+/// The place that is broken. Normal use is `None`.
+#[derive(Clone, Copy, Debug, PartialEq, Eq)]
+pub enum Fault {
+    None,
+    VotesWithoutOne,
+    ClosureWithoutOne,
+    SourceUnbounded,
+    BadSetBoundedInAll,
+    LastWordKept,
+    WordsCounted,
+    SameRoundPassedOn,
+    LargestValue,
+    WitnessByNumber,
+    ReachedAndLeftSwapped,
+    LinesFromZero,
+    KindAndOrderExchanged,
+    UnendedLineAccepted,
+    LinkTwiceAccepted,
+    Round41Accepted,
+    SourceInBadSetAccepted,
+}
+
+pub const PLANTED: [(Fault, &str); 16] = [
+    (Fault::VotesWithoutOne, "f instead of f+1 votes in the step"),
+    (Fault::ClosureWithoutOne, "f instead of f+1 in the closure"),
+    (
+        Fault::SourceUnbounded,
+        "bound at the source not checked in the bad set",
+    ),
+    (
+        Fault::BadSetBoundedInAll,
+        "bad set bounded by f members in all",
+    ),
+    (Fault::LastWordKept, "last word kept instead of the first"),
+    (
+        Fault::WordsCounted,
+        "words counted instead of different neighbours",
+    ),
+    (
+        Fault::SameRoundPassedOn,
+        "value passed on in the round that takes it",
+    ),
+    (Fault::LargestValue, "largest instead of smallest value"),
+    (Fault::WitnessByNumber, "witness by number before size"),
+    (
+        Fault::ReachedAndLeftSwapped,
+        "R and L swapped in the output",
+    ),
+    (Fault::LinesFromZero, "line numbers from 0"),
+    (Fault::KindAndOrderExchanged, "causes 2 and 3 exchanged"),
+    (
+        Fault::UnendedLineAccepted,
+        "last line without an end accepted",
+    ),
+    (Fault::LinkTwiceAccepted, "link given twice accepted"),
+    (Fault::Round41Accepted, "41 rounds accepted"),
+    (
+        Fault::SourceInBadSetAccepted,
+        "bad set naming the source accepted",
+    ),
+];
+
+/// Larger sites cost time in the verdict and show no fault that smaller ones hide.
+const LARGEST_SITE: u32 = 11;
+
+/// How many cases of each sort show a fault.
+#[derive(Clone, Copy, Debug, Default, PartialEq, Eq)]
+pub struct Found {
+    pub verdicts: u64,
+    pub runs: u64,
+    pub steps: u64,
+}
+
+impl Found {
+    pub fn all(&self) -> u64 {
+        self.verdicts + self.runs + self.steps
+    }
+}
+
+/// Cases with the sound answers, made once for all faults.
+pub struct Sound {
+    verdicts: Vec<(Vec<u8>, Vec<u8>)>,
+    runs: Vec<(Vec<u8>, Vec<u8>)>,
+    steps: Vec<(StepCase, StepAnswer)>,
+}
+
+type StepAnswer = Result<Record, (Cause, Record)>;
+
+impl Sound {
+    pub fn new(seed: u64, count: u64) -> Sound {
+        let small = |text: &Vec<u8>| {
+            read_plan(text, Fault::None).map_or(true, |plan| plan.n <= LARGEST_SITE)
+        };
+        let plans = (0..count)
+            .map(|index| case(Kind::Verdict, seed, index))
+            .filter(small);
+        let runs = (0..count).map(|index| case(Kind::Run, seed, index));
+        let steps = (0..count).map(|index| step_case(seed, index));
+        Sound {
+            verdicts: plans
+                .map(|text| (text.clone(), verdict_text(&text, Fault::None)))
+                .collect(),
+            runs: runs
+                .map(|text| (text.clone(), run_text(&text, Fault::None)))
+                .collect(),
+            steps: steps
+                .map(|call| (call.clone(), answer(&call, Fault::None)))
+                .collect(),
+        }
+    }
+
+    pub fn cases(&self) -> (usize, usize, usize) {
+        (self.verdicts.len(), self.runs.len(), self.steps.len())
+    }
+
+    /// How many cases tell the broken implementation from the sound one.
+    pub fn found(&self, fault: Fault) -> Found {
+        let verdicts = self
+            .verdicts
+            .iter()
+            .filter(|(text, was)| verdict_text(text, fault) != *was);
+        let runs = self
+            .runs
+            .iter()
+            .filter(|(text, was)| run_text(text, fault) != *was);
+        let steps = self
+            .steps
+            .iter()
+            .filter(|(call, was)| !same(&answer(call, fault), was));
+        Found {
+            verdicts: verdicts.count() as u64,
+            runs: runs.count() as u64,
+            steps: steps.count() as u64,
+        }
+    }
+}
+
+fn answer(call: &StepCase, fault: Fault) -> StepAnswer {
+    step(&call.place, call.record.clone(), &call.said, fault)
+}
+
+/// The tally exists for one fault only and must not give it away by itself.
+fn same(one: &StepAnswer, other: &StepAnswer) -> bool {
+    let seen = |record: &Record| (record.round, record.state, record.notes.clone());
+    match (one, other) {
+        (Ok(one), Ok(other)) => seen(one) == seen(other),
+        (Err(one), Err(other)) => one.0 == other.0 && seen(&one.1) == seen(&other.1),
+        _ => false,
+    }
+}
+
+/// Prints one line a fault; true if every fault was found.
+pub fn faults(seed: u64, count: u64) -> bool {
+    let sound = Sound::new(seed, count);
+    let (verdicts, runs, steps) = sound.cases();
+    println!("cases: {verdicts} verdicts, {runs} runs, {steps} steps (seed {seed})");
+    let mut all_found = true;
+    for (fault, name) in PLANTED {
+        let found = sound.found(fault);
+        let word = if found.all() > 0 {
+            "found"
+        } else {
+            "NOT FOUND"
+        };
+        println!(
+            "{word}: {name}: {} cases ({} verdicts, {} runs, {} steps)",
+            found.all(),
+            found.verdicts,
+            found.runs,
+            found.steps
+        );
+        all_found = all_found && found.all() > 0;
+    }
+    all_found
+}

@@ -1,0 +1,277 @@
+//! The seeded cases: valid files of many sorts, and damaged ones.
+
+use crate::damage::{change_byte, change_lines, change_text, noise, plant, sized, spoil_line};
+use crate::draft::{join, plan_draft, run_draft, Draft, Manner};
+use crate::drawings::DRAWINGS;
+use crate::plan::{Plan, Set};
+use crate::plans::{
+    border_plan, deep_plan, hear_at_source, joined_plan, random_plan, strong_plan, weak_plan,
+};
+use crate::rng::Rng;
+use crate::step::{Place, Record, State};
+use std::fs;
+use std::io;
+use std::path::Path;
+
+#[derive(Clone, Copy, Debug, PartialEq, Eq)]
+pub enum Kind {
+    Verdict,
+    Run,
+}
+
+impl Kind {
+    pub fn name(self) -> &'static str {
+        match self {
+            Kind::Verdict => "verdict",
+            Kind::Run => "run",
+        }
+    }
+}
+
+/// Sorts of cases; they take turns by index.
+const SORTS: u64 = 16;
+
+/// The bytes of one input file.
+pub fn case(kind: Kind, seed: u64, index: u64) -> Vec<u8> {
+    let mut rng = Rng::for_case(seed, kind as u64 + 1, index);
+    let turn = index / SORTS;
+    if index % SORTS >= 8 {
+        return damaged(&mut rng, kind, index % SORTS, turn);
+    }
+    let draft = match kind {
+        Kind::Verdict => plan_case(&mut rng, index % SORTS, turn),
+        Kind::Run => run_case(&mut rng, index % SORTS, turn),
+    };
+    join(&draft.lines)
+}
+
+pub fn write_cases(kind: Kind, seed: u64, count: u64, folder: &Path) -> io::Result<()> {
+    fs::create_dir_all(folder)?;
+    for index in 0..count {
+        let name = format!("{}-{}-{:06}.txt", kind.name(), seed, index);
+        fs::write(folder.join(name), case(kind, seed, index))?;
+    }
+    Ok(())
+}
+
+/// A number of terminals that goes through `low` to `high` as the turns go on.
+fn terminals(turn: u64, low: u32, high: u32) -> u32 {
+    low + (turn % u64::from(high - low + 1)) as u32
+}
+
+fn plan_case(rng: &mut Rng, sort: u64, turn: u64) -> Draft {
+    let plan = match sort {
+        0 => random_plan(rng, terminals(turn, 2, 8), None),
+        1 => random_plan(rng, terminals(turn, 2, 14), None),
+        2 => strong_plan(rng, terminals(turn, 2, 11)),
+        3 => border_plan(rng, terminals(turn, 2, 8)),
+        4 if turn.is_multiple_of(2) => drawing(turn / 2),
+        4 => joined_plan(rng),
+        5 if turn.is_multiple_of(3) => joined_plan(rng),
+        5 => weak_plan(rng, terminals(turn, 2, 14)),
+        6 => large_plan(rng, turn),
+        _ => deep_plan(rng, terminals(turn, 2, 11)),
+    };
+    let mut draft = plan_draft(plan);
+    if sort == 7 || rng.chance(30) {
+        rng.shuffle(&mut draft.lines[1..]);
+    }
+    draft
+}
+
+/// More than 14 terminals: mostly few links, so that a small witness ends the search early.
+fn large_plan(rng: &mut Rng, turn: u64) -> Plan {
+    let n = terminals(turn, 15, 20);
+    match turn % 16 {
+        7 => random_plan(rng, n, None),
+        15 => strong_plan(rng, n),
+        _ => {
+            let density = rng.between(0, 15);
+            random_plan(rng, n, Some(density))
+        }
+    }
+}
+
+fn drawing(turn: u64) -> Plan {
+    DRAWINGS[(turn % DRAWINGS.len() as u64) as usize].plan()
+}
+
+fn run_case(rng: &mut Rng, sort: u64, turn: u64) -> Draft {
+    let n = terminals(turn, 2, 20);
+    let rounds = Some(rng.between(0, 12));
+    match sort {
+        0 => named_run(rng, strong_plan, n, rounds, Manner::Wild),
+        1 => {
+            let plan = random_plan(rng, n, None);
+            run_draft(rng, plan, rounds, Manner::Wild)
+        }
+        2 => named_run(rng, weak_plan, n, rounds, Manner::Wild),
+        3 => named_run(rng, weak_plan, n, rounds, Manner::Steady),
+        4 => {
+            let manner = rng.pick(&[Manner::Silent, Manner::Wild, Manner::Turncoat]);
+            let plan = if turn.is_multiple_of(2) {
+                drawing(turn / 2)
+            } else {
+                joined_plan(rng)
+            };
+            run_draft(rng, plan, rounds, manner)
+        }
+        5 => {
+            let rounds = rng.pick(&[None, Some(0), Some(1), Some(39), Some(40), Some(41)]);
+            named_run(rng, deep_plan, n, rounds, Manner::Wild)
+        }
+        6 => named_run(rng, weak_plan, n, rounds, Manner::Turncoat),
+        _ => shuffled_run(rng, n, rounds),
+    }
+}
+
+fn named_run(
+    rng: &mut Rng,
+    make: fn(&mut Rng, u32) -> Plan,
+    n: u32,
+    rounds: Option<u32>,
+    manner: Manner,
+) -> Draft {
+    let mut plan = make(rng, n);
+    if rng.chance(20) {
+        hear_at_source(rng, &mut plan);
+    }
+    run_draft(rng, plan, rounds, manner)
+}
+
+/// Links and words each in random order.
+fn shuffled_run(rng: &mut Rng, n: u32, rounds: Option<u32>) -> Draft {
+    let mut draft = named_run(rng, deep_plan, n, rounds, Manner::Wild);
+    let links = draft.plan.links.len();
+    rng.shuffle(&mut draft.lines[1..=links]);
+    rng.shuffle(&mut draft.lines[links + 3..]);
+    draft
+}
+
+/// A small valid file to be damaged.
+fn base(rng: &mut Rng, kind: Kind) -> Draft {
+    let n = rng.between(2, 9);
+    let make = rng.pick(&[
+        strong_plan as fn(&mut Rng, u32) -> Plan,
+        weak_plan,
+        deep_plan,
+    ]);
+    let mut plan = make(rng, n);
+    if rng.chance(40) {
+        hear_at_source(rng, &mut plan);
+    }
+    if kind == Kind::Verdict {
+        return plan_draft(plan);
+    }
+    plan.f = plan.f.max(rng.between(0, 1));
+    let rounds = rng.pick(&[None, Some(0), Some(1), Some(2), Some(3), Some(40)]);
+    run_draft(rng, plan, rounds, Manner::Wild)
+}
+
+fn damaged(rng: &mut Rng, kind: Kind, sort: u64, turn: u64) -> Vec<u8> {
+    let draft = base(rng, kind);
+    let mut lines = draft.lines.clone();
+    let causes = if kind == Kind::Run { 11 } else { 6 };
+    let cause = (turn % u64::from(causes)) as u32 + 1;
+    match sort {
+        8 => {
+            let mut text = join(&lines);
+            change_byte(rng, &mut text);
+            return text;
+        }
+        9 => change_lines(rng, &mut lines),
+        10 => return change_text(rng, &lines),
+        11 => drop(plant(rng, kind, &draft, &mut lines, cause)),
+        12 => {
+            let at = plant(rng, kind, &draft, &mut lines, cause);
+            spoil_line(rng, &mut lines, at);
+        }
+        13 => {
+            plant(rng, kind, &draft, &mut lines, cause);
+            let other = rng.between(1, causes);
+            plant(rng, kind, &draft, &mut lines, other);
+        }
+        14 if turn.is_multiple_of(2) => return sized(rng, kind, &draft),
+        15 if turn.is_multiple_of(2) => return noise(rng),
+        // The later causes are hidden by any other one, so they come alone more often.
+        _ => {
+            let late = rng.between(causes - 5, causes);
+            plant(rng, kind, &draft, &mut lines, late);
+        }
+    }
+    join(&lines)
+}
+
+/// One call of the step, right or wrong.
+#[derive(Clone, Debug)]
+pub struct StepCase {
+    pub place: Place,
+    pub record: Record,
+    pub said: Vec<u16>,
+}
+
+/// Step calls reach what no run shows: several values with enough votes, wrong arguments.
+pub fn step_case(seed: u64, index: u64) -> StepCase {
+    let mut rng = Rng::for_case(seed, 3, index);
+    let n = rng.between(2, 20);
+    let f = if rng.chance(80) {
+        rng.between(0, (n - 1).min(2))
+    } else {
+        rng.between(0, n - 1)
+    };
+    let (source, number) = (rng.between(0, n - 1), rng.between(0, n - 1));
+    let share = rng.pick(&[20, 50, 90]);
+    let heard: Set = (0..n)
+        .filter(|&j| j != number && rng.chance(share))
+        .collect();
+    let mut record = Record::waiting();
+    record.round = rng.between(0, 39);
+    if number == source || rng.chance(10) {
+        record.state = State::Taken(rng.between(0, record.round), 7);
+    }
+    let values = [0, 0, 5, 7, 9];
+    for j in (0..n).filter(|_| rng.chance(30)).collect::<Vec<u32>>() {
+        record.notes.insert(j, rng.pick(&values[2..]));
+    }
+    let said = (0..n).map(|_| rng.pick(&values)).collect();
+    let mut case = StepCase {
+        place: Place {
+            n,
+            source,
+            f,
+            number,
+            heard,
+        },
+        record,
+        said,
+    };
+    if rng.chance(30) {
+        break_step(&mut rng, &mut case);
+    }
+    case
+}
+
+/// One or two wrong arguments.
+fn break_step(rng: &mut Rng, case: &mut StepCase) {
+    let n = case.place.n;
+    for _ in 0..rng.between(1, 2) {
+        match rng.below(10) {
+            0 => case.place.n = rng.pick(&[0, 1, 21]),
+            1 => case.place.source = rng.pick(&[n, 255]),
+            2 => case.place.f = rng.pick(&[n, n + 1]),
+            3 => drop(
+                case.place
+                    .heard
+                    .insert(rng.pick(&[n, 31, case.place.number])),
+            ),
+            4 => case.place.number = rng.pick(&[n, 31]),
+            5 => case.record.round = rng.pick(&[40, 41, 255]),
+            6 => case.record.state = State::Taken(case.record.round + 1, 7),
+            7 => case.record.state = State::Taken(0, 0),
+            8 => case.record.state = State::Waiting,
+            _ => case
+                .said
+                .resize(rng.pick(&[0, n as usize - 1, n as usize + 1]), 7),
+        }
+    }
+}

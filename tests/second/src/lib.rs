@@ -1,0 +1,33 @@
+//! A second implementation of layout notices on a terminal site.
+//!
+//! It is written from the specification alone and takes other data structures than the one
+//! it is compared with: sets are ordered sets of terminal numbers, files are split into
+//! lines, bad sets are listed by size, the closure is a work list.
+
+pub mod compare;
+pub mod damage;
+pub mod draft;
+pub mod drawings;
+pub mod exhaust;
+pub mod faults;
+pub mod generate;
+pub mod output;
+pub mod plan;
+pub mod plans;
+pub mod reader;
+pub mod rng;
+pub mod run;
+pub mod step;
+pub mod verdict;
+
+use faults::Fault;
+
+/// From the bytes of a plan file to the bytes that `verdict` prints.
+pub fn verdict_text(text: &[u8]) -> Vec<u8> {
+    output::verdict_text(text, Fault::None)
+}
+
+/// From the bytes of a run file to the bytes that `run` prints.
+pub fn run_text(text: &[u8]) -> Vec<u8> {
+    output::run_text(text, Fault::None)
+}

@@ -1,0 +1,99 @@
+//! The command `second`.
+
+use second::faults::Fault;
+use second::generate::Kind;
+use second::reader::LONGEST_FILE;
+use second::{compare, exhaust, faults, generate};
+use std::io::{self, Read, Write};
+use std::path::Path;
+use std::process::ExitCode;
+
+const USAGE: &str = "usage:
+  second verdict < FILE
+  second run < FILE
+  second generate verdict|run SEED COUNT DIR
+  second compare PROGRAM_VERDICT PROGRAM_RUN SEED COUNT
+  second faults [SEED COUNT]
+  second exhaust";
+
+fn main() -> ExitCode {
+    let words: Vec<String> = std::env::args().skip(1).collect();
+    let words: Vec<&str> = words.iter().map(String::as_str).collect();
+    match dispatch(&words) {
+        Some(true) => ExitCode::SUCCESS,
+        Some(false) => ExitCode::from(1),
+        None => {
+            eprintln!("{USAGE}");
+            ExitCode::from(2)
+        }
+    }
+}
+
+/// Whether the command did well; nothing where it isn't one.
+fn dispatch(words: &[&str]) -> Option<bool> {
+    match words {
+        ["verdict"] => Some(filter(second::verdict_text)),
+        ["run"] => Some(filter(second::run_text)),
+        ["generate", kind, seed, count, folder] => {
+            let kind = match *kind {
+                "verdict" => Kind::Verdict,
+                "run" => Kind::Run,
+                _ => return None,
+            };
+            let (seed, count) = (number(seed)?, number(count)?);
+            Some(told(generate::write_cases(
+                kind,
+                seed,
+                count,
+                Path::new(folder),
+            )))
+        }
+        ["compare", verdict, run, seed, count] => Some(compare::compare(
+            verdict,
+            run,
+            number(seed)?,
+            number(count)?,
+        )),
+        ["faults"] => Some(faults::faults(1, 4000)),
+        ["faults", seed, count] => Some(faults::faults(number(seed)?, number(count)?)),
+        ["exhaust"] => Some(exhaust_all()),
+        _ => None,
+    }
+}
+
+fn number(word: &str) -> Option<u64> {
+    word.parse().ok()
+}
+
+fn told(result: io::Result<()>) -> bool {
+    if let Err(error) = &result {
+        eprintln!("{error}");
+    }
+    result.is_ok()
+}
+
+/// Standard input to standard output. One byte over the longest file settles that it is too
+/// long, so no more is read.
+fn filter(text: fn(&[u8]) -> Vec<u8>) -> bool {
+    let mut input = Vec::new();
+    let read = io::stdin()
+        .take(LONGEST_FILE as u64 + 1)
+        .read_to_end(&mut input);
+    told(read.and_then(|_| io::stdout().write_all(&text(&input))))
+}
+
+fn exhaust_all() -> bool {
+    match exhaust::exhaust(Fault::None) {
+        Ok(totals) => {
+            println!(
+                "{} plans ({} failing), {} bad sets, {} runs, no violation",
+                totals.plans, totals.failing, totals.bad_sets, totals.runs
+            );
+            true
+        }
+        Err(violation) => {
+            println!("violation: {violation}");
+            false
+        }
+    }
+}

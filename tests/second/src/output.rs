@@ -1,0 +1,84 @@
+//! Frames as lines of hexadecimal digits, and the text that each program prints.
+
+use crate::faults::Fault;
+use crate::plan::{number_of, Plan, Set};
+use crate::reader::{read_plan, read_run, Refusal};
+use crate::run::run_file;
+use crate::step::{Record, State};
+use crate::verdict::{verdict, Verdict};
+
+/// The digits of a frame, without its line end.
+pub fn digits(frame: &[u8]) -> Vec<u8> {
+    frame
+        .iter()
+        .flat_map(|byte| format!("{byte:02x}").into_bytes())
+        .collect()
+}
+
+pub fn line(frame: &[u8]) -> Vec<u8> {
+    let mut text = digits(frame);
+    text.push(10);
+    text
+}
+
+/// The head, then the links by sender, then by hearer.
+pub fn plan_text(plan: &Plan) -> Vec<u8> {
+    let mut text = line(&[1, plan.n as u8, plan.source as u8, plan.f as u8]);
+    for &(from, to) in &plan.links {
+        text.extend(line(&[2, from as u8, to as u8]));
+    }
+    text
+}
+
+pub fn verdict_line(answer: &Verdict, fault: Fault) -> Vec<u8> {
+    let sets: [&Set; 3] = if fault == Fault::ReachedAndLeftSwapped {
+        [&answer.bad, &answer.left, &answer.reached]
+    } else {
+        [&answer.bad, &answer.reached, &answer.left]
+    };
+    let mut frame = vec![0x81, u8::from(answer.fails)];
+    for set in sets {
+        frame.extend(&number_of(set).to_be_bytes()[1..]);
+    }
+    line(&frame)
+}
+
+pub fn terminal_line(number: u32, bad: bool, record: &Record) -> Vec<u8> {
+    let (state, round, value) = match record.state {
+        _ if bad => (2, 0, 0),
+        State::Waiting => (0, 0, 0),
+        State::Taken(round, value) => (1, round as u8, value),
+    };
+    let [high, low] = value.to_be_bytes();
+    line(&[0x82, number as u8, state, round, high, low])
+}
+
+pub fn refusal_line(refusal: Refusal) -> Vec<u8> {
+    let [high, low] = refusal.line.to_be_bytes();
+    line(&[0xff, refusal.cause.number(), high, low])
+}
+
+/// All of the program `verdict`, from text to text.
+pub fn verdict_text(text: &[u8], fault: Fault) -> Vec<u8> {
+    let answer = read_plan(text, fault)
+        .and_then(|plan| verdict(&plan, fault).map_err(|cause| Refusal { cause, line: 0 }));
+    match answer {
+        Ok(answer) => verdict_line(&answer, fault),
+        Err(refusal) => refusal_line(refusal),
+    }
+}
+
+/// All of the program `run`, from text to text.
+pub fn run_text(text: &[u8], fault: Fault) -> Vec<u8> {
+    let answer = read_run(text, fault).and_then(|file| {
+        let records = run_file(&file, fault).map_err(|cause| Refusal { cause, line: 0 })?;
+        Ok((file, records))
+    });
+    match answer {
+        Ok((file, records)) => (0..)
+            .zip(&records)
+            .flat_map(|(number, record)| terminal_line(number, file.bad.contains(&number), record))
+            .collect(),
+        Err(refusal) => refusal_line(refusal),
+    }
+}

@@ -1,0 +1,101 @@
+//! The generator, the planted faults and the whole space of small sites.
+
+use second::compare::{ask, Answer, TIME_LIMIT};
+use second::exhaust::exhaust;
+use second::faults::{Fault, Sound, PLANTED};
+use second::generate::{case, step_case, Kind};
+use second::step::step;
+use std::collections::BTreeSet;
+
+#[test]
+fn same_seed_same_cases() {
+    for kind in [Kind::Verdict, Kind::Run] {
+        let differing = (0..64).filter(|&index| case(kind, 1, index) != case(kind, 2, index));
+        assert!(differing.count() > 40);
+        assert!((0..64).all(|index| case(kind, 1, index) == case(kind, 1, index)));
+    }
+}
+
+/// The causes that the cases reach, and whether on a line.
+fn reached(kind: Kind, text: fn(&[u8]) -> Vec<u8>) -> BTreeSet<(String, bool)> {
+    let printed = (0..1600).map(|index| {
+        let input = case(kind, 1, index);
+        // Verdicts on many terminals take long without optimisation.
+        let long = kind == Kind::Verdict && index % 16 < 8;
+        String::from_utf8(if long { Vec::new() } else { text(&input) }).expect("digits")
+    });
+    let refusals = printed.filter(|line| line.starts_with("ff"));
+    refusals
+        .map(|line| (line[2..4].to_string(), &line[4..8] != "0000"))
+        .collect()
+}
+
+#[test]
+fn cases_reach_every_cause() {
+    let verdicts = reached(Kind::Verdict, second::verdict_text);
+    let runs = reached(Kind::Run, second::run_text);
+    for cause in 1..=11 {
+        let on_a_line = (format!("{cause:02x}"), true);
+        assert!(runs.contains(&on_a_line), "run, cause {cause}");
+        assert_eq!(
+            verdicts.contains(&on_a_line),
+            cause <= 6,
+            "verdict, cause {cause}"
+        );
+    }
+    for set in [&verdicts, &runs] {
+        assert!(set.contains(&("01".to_string(), false)));
+    }
+    assert!(runs.contains(&("03".to_string(), false)));
+}
+
+#[test]
+fn step_cases_reach_every_cause() {
+    let causes: BTreeSet<u8> = (0..2000)
+        .filter_map(|index| {
+            let call = step_case(1, index);
+            step(&call.place, call.record, &call.said, Fault::None).err()
+        })
+        .map(|(cause, _)| cause.number())
+        .collect();
+    assert_eq!(causes, BTreeSet::from([4, 5, 12, 13]));
+}
+
+#[test]
+fn planted_faults_are_found() {
+    let sound = Sound::new(1, 1600);
+    assert_eq!(sound.found(Fault::None).all(), 0);
+    for (fault, name) in PLANTED {
+        assert!(sound.found(fault).all() > 0, "{name}");
+    }
+}
+
+#[test]
+fn small_sites_hold() {
+    let totals = exhaust(Fault::None).expect("no violation");
+    assert_eq!(totals.plans, 192);
+}
+
+#[test]
+fn small_sites_show_broken_rules() {
+    let broken = [
+        Fault::VotesWithoutOne,
+        Fault::ClosureWithoutOne,
+        Fault::WordsCounted,
+    ];
+    for fault in broken {
+        assert!(exhaust(fault).is_err(), "{fault:?}");
+    }
+}
+
+#[test]
+fn programs_are_asked() {
+    assert_eq!(
+        ask("cat", b"01\n", TIME_LIMIT),
+        Answer::Output(b"01\n".to_vec())
+    );
+    assert!(matches!(
+        ask("no-such-program", b"", TIME_LIMIT),
+        Answer::Crash(_)
+    ));
+}

@@ -1,0 +1,31 @@
+//! Files as words: each word is a line.
+
+#![allow(dead_code)]
+
+pub fn file(words: &str) -> Vec<u8> {
+    words
+        .split_whitespace()
+        .flat_map(|word| format!("{word}\n").into_bytes())
+        .collect()
+}
+
+pub fn verdict(words: &str) -> String {
+    verdict_bytes(&file(words))
+}
+
+pub fn run(words: &str) -> String {
+    run_bytes(&file(words))
+}
+
+pub fn verdict_bytes(text: &[u8]) -> String {
+    String::from_utf8_lossy(&second::verdict_text(text)).into_owned()
+}
+
+pub fn run_bytes(text: &[u8]) -> String {
+    String::from_utf8_lossy(&second::run_text(text)).into_owned()
+}
+
+/// The line of a refusal.
+pub fn refused(number: u8, line: u16) -> String {
+    format!("ff{number:02x}{line:04x}\n")
+}

@@ -1,0 +1,121 @@
+//! The worked examples, the drawings and the remarks below them.
+
+mod common;
+
+use common::{run, verdict};
+use second::drawings::{Outcome, DRAWINGS};
+use second::faults::Fault;
+use second::output::{plan_text, verdict_line};
+use second::plan::{Cause, Set};
+use second::verdict::{verdict as verdict_of, witness_check, Verdict};
+
+const SITE: &str = "01040001 020001 020002 020103 020203";
+
+#[test]
+fn worked_verdict() {
+    assert_eq!(verdict(SITE), "8101000002000005000008\n");
+}
+
+#[test]
+fn worked_run() {
+    let printed = run(&format!("{SITE} 03000002 04000703 050201030009"));
+    assert_eq!(
+        printed,
+        "820001000007\n820102000000\n820201010007\n820300000000\n"
+    );
+}
+
+fn set(members: &[u32]) -> Set {
+    members.iter().copied().collect()
+}
+
+#[test]
+fn every_drawing() {
+    for drawing in &DRAWINGS {
+        let plan = drawing.plan();
+        let answer = verdict_of(&plan, Fault::None);
+        match drawing.outcome {
+            Outcome::Pass => {
+                let sets = (set(&[]), set(&[]), set(&[]));
+                let (bad, reached, left) = sets;
+                let pass = Verdict {
+                    fails: false,
+                    bad,
+                    reached,
+                    left,
+                };
+                assert_eq!(answer, Ok(pass), "drawing {}", drawing.name);
+            }
+            Outcome::Fail((bad, reached, left)) => {
+                let (bad, reached, left) = (set(bad), set(reached), set(left));
+                assert_eq!(witness_check(&plan, &bad, &reached, &left), Ok(true));
+                let fail = Verdict {
+                    fails: true,
+                    bad,
+                    reached,
+                    left,
+                };
+                assert_eq!(answer, Ok(fail), "drawing {}", drawing.name);
+            }
+            Outcome::Refused(number) => {
+                assert_eq!(answer.map_err(Cause::number), Err(number));
+            }
+        }
+    }
+}
+
+#[test]
+fn every_drawing_as_a_file() {
+    for drawing in &DRAWINGS {
+        let plan = drawing.plan();
+        let printed = second::verdict_text(&plan_text(&plan));
+        match verdict_of(&plan, Fault::None) {
+            Ok(answer) => assert_eq!(printed, verdict_line(&answer, Fault::None)),
+            Err(_) => assert_eq!(printed, b"ff040001\n", "drawing {}", drawing.name),
+        }
+    }
+}
+
+#[test]
+fn drawings_printed() {
+    let h = "01070001 020001 020002 020003 020004 020105 020205 020605 020306 020406 020506";
+    assert_eq!(verdict("01020000 020001"), "8100000000000000000000\n");
+    assert_eq!(verdict("01020000"), "8101000000000001000002\n");
+    assert_eq!(
+        verdict("01030001 020001 020102"),
+        "8101000000000003000004\n"
+    );
+    assert_eq!(verdict(h), "810100000a000015000060\n");
+    assert_eq!(
+        verdict(&format!("{h} 020100 020200 020300 020400")),
+        "8100000000000000000000\n"
+    );
+    assert_eq!(verdict("01010000"), "ff040001\n");
+}
+
+#[test]
+fn second_round_of_drawing_c() {
+    let printed = run("01030000 020001 020102 03000000 040007");
+    assert_eq!(printed, "820001000007\n820101010007\n820201020007\n");
+    let one_round = run("01030000 020001 020102 03000000 04000701");
+    assert_eq!(one_round, "820001000007\n820101010007\n820200000000\n");
+}
+
+#[test]
+fn bound_up_to_all_but_one() {
+    assert_eq!(verdict("01030002 020001"), "8101000000000003000004\n");
+    assert_eq!(verdict("01030003 020001"), "ff040001\n");
+}
+
+#[test]
+fn forty_rounds_but_no_more() {
+    let site = "01020000 020001 03000000";
+    let taken = "820001000007\n820101010007\n";
+    assert_eq!(run(&format!("{site} 04000728")), taken);
+    assert_eq!(run(&format!("{site} 040007")), taken);
+    assert_eq!(run(&format!("{site} 04000729")), "ff090004\n");
+    assert_eq!(
+        run(&format!("{site} 04000700")),
+        "820001000007\n820100000000\n"
+    );
+}
