@@ -1,0 +1,52 @@
+-- The list of a function's values, and a loop that fills it. Assumes nothing.
+use Prim.Native.Nat.{ℕ, zero, suc, _+_, _≤_, _<_}
+use mathlib.Core.Path.{_≡_, refl, sym, ap, _∙_, subst}
+use mathlib.Core.Logic.{_⊎_, inl, inr, ⊎-elim}
+use mathlib.Core.List.{List, [], _∷_}
+use native.Mathlib.Nat.{le-of-suc-le-suc, not-suc-le-zero}
+use native.Mathlib.Omega.{arith}
+use lib.ListN.{length, getD, set, length-set}
+use lib.Seq.{ext-getD, getD-set-same, getD-set-other}
+use borrow.Author.Count.{below-more}
+use Rattle.terminal.specs.declared.Record.{Record}
+use Rattle.propagation.specs.Run.{saysIn}
+use Rattle.simulation.specs.declared.Turn.{Turn}
+use Rattle.simulation.specs.declared.Made.{Made}
+use Rattle.simulation.specs.Turns.{listOf, recordOf, nextTurn, madeOf}
+
+pub list-length : (n : ℕ) (g : ℕ → ℕ) → length (listOf n g) ≡ n
+unfolding listOf
+list-length zero g = refl
+list-length (suc n) g = ap suc (list-length n (λ j. g (suc j)))
+
+pub list-at : (n : ℕ) (g : ℕ → ℕ) (j : ℕ) → j < n → getD (listOf n g) j 0 ≡ g j
+unfolding listOf
+list-at zero g j k = absurd (not-suc-le-zero k)
+list-at (suc n) g zero k = refl
+list-at (suc n) g (suc j) k = list-at n (λ j. g (suc j)) j (le-of-suc-le-suc k)
+
+-- a list of n values that agree with g is the list of g's
+pub list-is : (n : ℕ) (g : ℕ → ℕ) (l : List ℕ) → length l ≡ n → ((j : ℕ) → j < n → getD l j 0 ≡ g j) → l ≡ listOf n g
+list-is n g l e f =
+    ext-getD 0 l (listOf n g) (e ∙ sym (list-length n g)) (λ j k. f j (subst (λ (m : ℕ). j < m) e k) ∙ sym (list-at n g j (subst (λ (m : ℕ). j < m) e k)))
+
+-- a turn that fills place j
+pub filled-more : (g : ℕ → ℕ) (l : List ℕ) (j v : ℕ) → j < length l → v ≡ g j → ((i : ℕ) → i < j → getD l i 0 ≡ g i)
+    → (i : ℕ) → i < j + 1 → getD (set l j v) i 0 ≡ g i
+filled-more g l j v k e f =
+    below-more (λ (i : ℕ). getD (set l j v) i 0 ≡ g i) j (λ i h. getD-set-other l j i v 0 (λ q. omega arith) ∙ f i h) (getD-set-same l j v 0 k ∙ e)
+
+-- a record and the turn that it makes are those of the definition
+pub made-is : (t : Turn) (words : List ℕ) (before r : Record) (s : ℕ) (u : Turn) → r ≡ recordOf t words before → s ≡ saysIn (t .round + 1) (r .state)
+    → u ≡ nextTurn t s → _≡_ {A = Made} (record { turn = u; after = r }) (madeOf t words before)
+unfolding madeOf
+made-is t words before r s u e q z =
+    let w : u ≡ nextTurn t (saysIn (t .round + 1) (recordOf t words before .state)) =
+    z ∙ ap (nextTurn t) (q ∙ ap (λ (x : Record). saysIn (t .round + 1) (x .state)) e) in
+    λ i. record { turn = w i; after = e i }
+
+-- what stands past a list's end does not matter within it
+pub getD-any {ℓ} : {A : Type ℓ} (l : List A) (i : ℕ) (d e : A) → i < length l → getD l i d ≡ getD l i e
+getD-any [] i d e k = absurd (not-suc-le-zero k)
+getD-any (x ∷ l) zero d e k = refl
+getD-any (x ∷ l) (suc i) d e k = getD-any l i d e (le-of-suc-le-suc k)

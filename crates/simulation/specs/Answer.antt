@@ -1,0 +1,63 @@
+-- What the run answers for all arguments: document 01's number for each cause of refusal, and the records. Assumes nothing.
+use Prim.Native.Nat.{ℕ, _*_, _-_, _≤_, _<_}
+use mathlib.Core.Path.{_≡_}
+use mathlib.Core.Bool.{Bool, true, false, not}
+use mathlib.Core.List.{List}
+use lib.Dec.{eqb, leb}
+use lib.ListN.{length, getD}
+use Rattle.sets.specs.Tests.{_and_, pick}
+use Rattle.sets.specs.Sets.{mem}
+use Rattle.terminal.specs.declared.State.the-variants.{Waiting, Taken}
+use Rattle.terminal.specs.declared.Record.{Record}
+use Rattle.terminal.specs.Rule.{start}
+use Rattle.plan.specs.declared.Plan.{Plan}
+use Rattle.partition.specs.Answer.{faultCauseOf}
+use Rattle.propagation.specs.Verdict.{verdict}
+use Rattle.propagation.specs.Run.{table, sites, site}
+use Rattle.propagation.specs.Demand3.{Good}
+use Rattle.simulation.specs.declared.Outcome.{Outcome}
+use Rattle.simulation.specs.declared.Outcome.the-variants.{Played, WrongRange, WrongLink, WrongMember, OverBound, WrongStart, WrongLength}
+use Rattle.simulation.specs.Turns.{scriptOf}
+
+-- document 01's number of each outcome, 0 where nothing is refused
+abbrev pub numberOf : Outcome → ℕ
+numberOf Played = 0
+numberOf WrongRange = 4
+numberOf WrongLink = 5
+numberOf WrongMember = 7
+numberOf OverBound = 8
+numberOf WrongStart = 9
+numberOf WrongLength = 12
+
+-- a value, and 0 to 40 rounds
+unfoldable pub startSound : ℕ → ℕ → Bool
+startSound value rounds = not (eqb value 0) and leb rounds 40
+
+-- the first cause that applies, in the order 4, 5, 7, 8, 9, 12; 0 where none does
+unfoldable pub runCause : Plan → ℕ → ℕ → ℕ → ℕ → ℕ → ℕ
+runCause p faulty value rounds words places =
+    pick (eqb (faultCauseOf p faulty) 0)
+    (pick (startSound value rounds) (pick (eqb words (rounds * (p .n * p .n)) and eqb places (p .n)) 0 12) 9)
+    (faultCauseOf p faulty)
+
+-- the records afterwards: those of the run by the rules, or where the call is refused those that were there
+unfoldable pub recordsAfter : Plan → ℕ → ℕ → ℕ → List ℕ → List Record → List Record
+recordsAfter p faulty value rounds words before =
+    pick (eqb (runCause p faulty value rounds (length words) (length before)) 0) (sites p faulty value (scriptOf (p .n) words) rounds) before
+
+-- the same where the records are an array of twenty: terminal b's record after the last round; waiting, round 0, nothing heard for b at or above n, and
+-- for every b where the call is refused
+unfoldable pub arrayAfter : Plan → ℕ → ℕ → ℕ → List ℕ → List Record
+arrayAfter p faulty value rounds words =
+    pick (eqb (runCause p faulty value rounds (length words) (p .n)) 0) (table 20 (site p faulty value (scriptOf (p .n) words) rounds)) (table 20 (λ b. start))
+
+-- ---- demand 3 of the run itself, for every accepted call: a good terminal is one of the plan outside the fault set
+
+pub record Demand3Holds (p : Plan) (faulty value rounds : ℕ) (words : List ℕ) (records : List Record) : Type 0 where
+  -- no good terminal holds another layout
+  pub safe : (b : ℕ) → Good p faulty b → (at v : ℕ) → getD records b start .state ≡ Taken at v → v ≡ value
+  -- in a passed plan none waits after n - 1 rounds or more
+  pub passes : verdict p .passed ≡ true → p .n - 1 ≤ rounds → (b : ℕ) → Good p faulty b → getD records b start .state ≡ Waiting → ⊥
+  -- words all 0 and F the verdict's: every member of its R waits
+  pub silent : verdict p .passed ≡ false → faulty ≡ verdict p .f → ((k : ℕ) → getD words k 0 ≡ 0) → (b : ℕ) → b < p .n → mem b (verdict p .r) ≡ true
+      → getD records b start .state ≡ Waiting

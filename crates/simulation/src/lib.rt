@@ -1,0 +1,155 @@
+// The run of a site against scripted liars.
+mod playing;
+
+ghost use mathlib.Core.Path.{_≡_};
+ghost use Prim.Native.Nat.{_*_, _≤_};
+ghost use lib.ListN.{length};
+ghost use mathlib.Core.Bool.{true};
+ghost use lib.Dec.{eqb};
+ghost use Rattle.sets.specs.Tests.{_and_};
+ghost use Rattle.plan.specs.Plan.{causeOf};
+ghost use Rattle.propagation.specs.FaultSet.{isFaultSet};
+ghost use Rattle.propagation.specs.Run.{table, site};
+ghost use Rattle.partition.specs.Answer.{faultNumberOf};
+ghost use Rattle.simulation.specs.Turns.{scriptOf, firstTurn};
+ghost use Rattle.simulation.specs.Answer.{numberOf, startSound, runCause, arrayAfter, Demand3Holds};
+use partition::FaultSetCheck;
+use plan::Plan;
+use terminal::Record;
+
+pub enum Outcome {
+    Played,
+    WrongRange,
+    WrongLink,
+    WrongMember,
+    OverBound,
+    WrongStart,
+    WrongLength,
+}
+
+// Whose turn it is: terminal `at` in a round. `spoken` is what each good terminal says to all this
+// round, fixed before its first step; `next` collects what they say in the next.
+pub struct Turn {
+    pub plan: Plan,
+    pub faulty: u32,
+    pub value: u16,
+    pub round: u8,
+    pub at: usize,
+    pub spoken: [u16; 20],
+    pub next: [u16; 20],
+}
+
+pub struct Made {
+    pub turn: Turn,
+    pub after: Record,
+}
+
+// The outcome of the run, and terminal b's record after the last round at place b. A refused run
+// leaves start records.
+pub struct Ran {
+    pub outcome: Outcome,
+    pub records: [Record; 20],
+}
+
+fn first_turn(p: Plan, faulty: u32, value: u16) -> Turn
+    ensures { λ r. ⌜ r ≡ firstTurn p faulty value ⌝ }
+{
+    Turn {
+        plan: p,
+        faulty: faulty,
+        value: value,
+        round: 0,
+        at: 0,
+        spoken: [0u16; 20],
+        next: [0u16; 20],
+    }
+}
+
+fn refused(c: FaultSetCheck) -> Outcome
+    ensures { λ r. ⌜ numberOf r ≡ faultNumberOf c ⌝ }
+{
+    match c {
+        FaultSetCheck::Sound => Outcome::Played,
+        FaultSetCheck::WrongRange => Outcome::WrongRange,
+        FaultSetCheck::WrongLink => Outcome::WrongLink,
+        FaultSetCheck::WrongMember => Outcome::WrongMember,
+        FaultSetCheck::OverBound => Outcome::OverBound,
+    }
+}
+
+// A value, and 0 to 40 rounds.
+fn start_sound(value: u16, rounds: u8) -> bool
+    ensures { λ r. ⌜ r ≡ startSound value rounds ⌝ }
+{
+    if value == 0 {
+        return false;
+    }
+    rounds <= 40
+}
+
+// The lists fit: a word for each round, sender and hearer, and a record for each terminal.
+fn lists_fit(n: usize, rounds: u8, words: usize, places: usize) -> bool
+    requires { ⌜ (n ≤ 20) × (rounds ≤ 40) ⌝ }
+    ensures { λ r. ⌜ r ≡ eqb words (rounds * (n * n)) and eqb places n ⌝ }
+{
+    if words == (rounds as usize) * (n * n) {
+        return places == n;
+    }
+    false
+}
+
+// The first cause that applies.
+fn judge(p: Plan, faulty: u32, value: u16, rounds: u8, words: usize, places: usize) -> Outcome
+    ensures { λ r. ⌜ numberOf r ≡ runCause p faulty value rounds words places ⌝ }
+{
+    let fault = refused(partition::check_fault_set(p, faulty));
+    if let Outcome::Played = fault {
+        if start_sound(value, rounds) {
+            if lists_fit(p.n, rounds, words, places) {
+                return Outcome::Played;
+            }
+            return Outcome::WrongLength;
+        }
+        return Outcome::WrongStart;
+    }
+    fault
+}
+
+// The rounds of an accepted run, one record a turn.
+fn play_all(p: Plan, faulty: u32, value: u16, rounds: u8, words: &[u16]) -> [Record; 20]
+    requires { ⌜ (causeOf p ≡ 0) × (isFaultSet p faulty ≡ true) × (1 ≤ value) × (rounds ≤ 40) ⌝ }
+    ensures { λ r. ⌜ r ≡ table 20 (site p faulty value (scriptOf (p .n) (now (words .entry))) rounds) ⌝ }
+{
+    let mut records = [terminal::start(); 20];
+    let mut t = first_turn(p, faulty, value);
+    let turns = ((rounds as usize) + 1) * p.n;
+    let mut k = 0;
+    while k < turns {
+        let at = t.at;
+        let made = playing::play(t, words, records[at]);
+        let after = made.after;
+        records[at] = after;
+        t = made.turn;
+        k += 1;
+    }
+    records
+}
+
+// The run by value.
+pub fn run_site(p: Plan, faulty: u32, value: u16, rounds: u8, words: &[u16]) -> Ran
+    ensures { λ r. ⌜ numberOf (r .outcome) ≡ runCause p faulty value rounds (length (now (words .entry))) (p .n) ⌝ }
+    ensures { λ r. ⌜ r .records ≡ arrayAfter p faulty value rounds (now (words .entry)) ⌝ }
+    ensures { λ r. ⌜ (numberOf (r .outcome) ≡ 0 → Demand3Holds p faulty value rounds (now (words .entry)) (r .records)) ⌝ }
+{
+    let outcome = judge(p, faulty, value, rounds, words.len(), p.n);
+    if let Outcome::Played = outcome {
+        return Ran {
+            outcome: Outcome::Played,
+            records: play_all(p, faulty, value, rounds, words),
+        };
+    }
+    Ran {
+        outcome: outcome,
+        records: [terminal::start(); 20],
+    }
+}

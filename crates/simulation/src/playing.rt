@@ -1,0 +1,143 @@
+// One turn: a terminal's record, by value, and the turn that follows.
+ghost use mathlib.Core.Path.{_≡_};
+ghost use Prim.Native.Nat.{ℕ, _+_, _<_, _≤_};
+ghost use lib.ListN.{length, getD, replicate};
+ghost use Rattle.propagation.specs.Run.{startRecord, saysIn};
+ghost use Rattle.simulation.specs.Turns.{scriptOf, heardIn, listOf, recordOf, nextTurn, madeOf};
+use super::Made;
+use super::Turn;
+use terminal::Record;
+use terminal::State;
+
+// The word of a round, a sender and a hearer; 0 past the list's end.
+fn word(words: &[u16], n: usize, round: u8, sender: usize, hearer: usize) -> u16
+    requires { ⌜ (n ≤ 20) × (1 ≤ round) × (round ≤ 40) × (sender < 20) × (hearer < n) ⌝ }
+    ensures { λ r. ⌜ r ≡ scriptOf n (now (words .entry)) round sender hearer ⌝ }
+{
+    let k = ((round as usize) - 1) * (n * n) + sender * n + hearer;
+    if k < words.len() {
+        return words[k];
+    }
+    0
+}
+
+fn heard_from(t: Turn, words: &[u16], j: usize) -> u16
+    requires { ⌜ (t .plan .n ≤ 20) × (t .at < t .plan .n) × (1 ≤ t .round) × (t .round ≤ 40) × (j < 20) ⌝ }
+    ensures { λ r. ⌜ r ≡ heardIn t (now (words .entry)) j ⌝ }
+{
+    let plan = t.plan;
+    let rows = plan.rows;
+    let at = t.at;
+    let spoken = t.spoken;
+    if sets::member(rows[at], j) {
+        if sets::member(t.faulty, j) {
+            return word(words, plan.n, t.round, j, at);
+        }
+        return spoken[j];
+    }
+    0
+}
+
+// All that the terminal hears this round.
+fn heard(t: Turn, words: &[u16]) -> [u16; 20]
+    requires { ⌜ (t .plan .n ≤ 20) × (t .at < t .plan .n) × (1 ≤ t .round) × (t .round ≤ 40) ⌝ }
+    ensures { λ r. ⌜ r ≡ listOf 20 (heardIn t (now (words .entry))) ⌝ }
+{
+    let mut said = [0u16; 20];
+    let mut j = 0;
+    while j < 20 {
+        said[j] = heard_from(t, words, j);
+        j += 1;
+    }
+    said
+}
+
+fn start_record(t: Turn) -> Record
+    ensures { λ r. ⌜ r ≡ startRecord (t .plan) (t .value) (t .at) ⌝ }
+{
+    let plan = t.plan;
+    if t.at == plan.source {
+        return terminal::source_start(t.value);
+    }
+    terminal::start()
+}
+
+// The record after the turn. A bad terminal is not played.
+fn record_of(t: Turn, words: &[u16], before: Record) -> Record
+    requires { ⌜ (t .plan .n ≤ 20) × (t .at < t .plan .n) × (t .round ≤ 40) ⌝ }
+    ensures { λ r. ⌜ r ≡ recordOf t (now (words .entry)) before ⌝ }
+{
+    let plan = t.plan;
+    let rows = plan.rows;
+    let n = plan.n;
+    let at = t.at;
+    if t.round == 0 {
+        return start_record(t);
+    }
+    if sets::member(t.faulty, at) {
+        return terminal::start();
+    }
+    let said = heard(t, words);
+    let stepped = terminal::step(n, plan.source, plan.f, at, rows[at], before, &said[..n]);
+    stepped.after
+}
+
+// What a terminal says in a round: its value in the round after it took.
+fn says_in(round: u8, state: State) -> u16
+    requires { ⌜ round ≤ 41 ⌝ }
+    ensures { λ r. ⌜ r ≡ saysIn round state ⌝ }
+{
+    match state {
+        State::Waiting => 0,
+        State::Taken(at, value) => {
+            if (at as u16) + 1 == round as u16 {
+                return value;
+            }
+            0
+        }
+    }
+}
+
+fn next_turn(t: Turn, word: u16) -> Turn
+    requires { ⌜ (t .plan .n ≤ 20) × (t .at < t .plan .n) × (t .round ≤ 40) ⌝ }
+    ensures { λ r. ⌜ r ≡ nextTurn t word ⌝ }
+{
+    let plan = t.plan;
+    let at = t.at;
+    let spoken = t.spoken;
+    let mut next = t.next;
+    next[at] = word;
+    if at + 1 < plan.n {
+        return Turn {
+            plan: plan,
+            faulty: t.faulty,
+            value: t.value,
+            round: t.round,
+            at: at + 1,
+            spoken: spoken,
+            next: next,
+        };
+    }
+    Turn {
+        plan: plan,
+        faulty: t.faulty,
+        value: t.value,
+        round: t.round + 1,
+        at: 0,
+        spoken: next,
+        next: [0u16; 20],
+    }
+}
+
+// One turn, by value.
+pub(crate) fn play(t: Turn, words: &[u16], before: Record) -> Made
+    requires { ⌜ (t .plan .n ≤ 20) × (t .at < t .plan .n) × (t .round ≤ 40) ⌝ }
+    ensures { λ r. ⌜ r ≡ madeOf t (now (words .entry)) before ⌝ }
+{
+    let after = record_of(t, words, before);
+    let state = after.state;
+    Made {
+        turn: next_turn(t, says_in(t.round + 1, state)),
+        after: after,
+    }
+}
