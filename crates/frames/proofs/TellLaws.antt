@@ -9,7 +9,7 @@ use lib.Dec.{eqb, ltb}
 use borrow.Author.Tests.{eq-eqb, ne-eqb, lt-ltb, le-ltb, le-leb, lt-leb, leb-true, ltb-true}
 use Rattle.sets.specs.Tests.{_and_, pick}
 use Rattle.sets.specs.Sets.{mem}
-use Rattle.sets.proofs.Bools.{and-l, and-r, and-i, and-yes, and-no-l, and-no-r, not-i, not-yes, pick-yes, pick-no}
+use Rattle.sets.proofs.Bools.{and-l, and-r, and-i, and-yes, and-no-l, and-no-r, not-i, not-yes, pick-yes, pick-no, pick-case}
 use Rattle.terminal.specs.Answer.{inRange}
 use Rattle.plan.specs.Plan.{hears}
 use Rattle.frames.specs.declared.Progress.{Progress}
@@ -19,6 +19,17 @@ use Rattle.frames.specs.declared.told.Told.{Told}
 use Rattle.frames.specs.Reading.{headCause, linkCause, startCause, isWord, causeIn, linked, after, wordsAfter}
 
 -- ---- a link
+
+-- an accepted link ends at a terminal of the plan
+pub link-accepted : (p : Progress) (from to : ℕ) → linkCause p from to ≡ 0 → to < p .plan .n
+unfolding linkCause
+link-accepted p from to =
+    pick-case (λ (x : ℕ). x ≡ 0 → to < p .plan .n) (eqb (p .stage) 1)
+    (pick (ltb from (p .plan .n) and ltb to (p .plan .n) and not (eqb from to)) (pick (hears (p .plan) to from) 6 0) 5) 3
+    (λ s.
+    pick-case (λ (x : ℕ). x ≡ 0 → to < p .plan .n) (ltb from (p .plan .n) and ltb to (p .plan .n) and not (eqb from to)) (pick (hears (p .plan) to from) 6 0) 5
+    (λ e z. ltb-true to (p .plan .n) (and-l _ _ (and-r _ _ e))) (λ e z. absurd (omega arith)))
+    (λ s z. absurd (omega arith))
 
 module _ (p : Progress) (from to : ℕ) (stage : p .stage ≡ 1) where
   link-wrong : ltb from (p .plan .n) and ltb to (p .plan .n) and not (eqb from to) ≡ false → linkCause p from to ≡ 5

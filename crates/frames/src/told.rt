@@ -65,39 +65,39 @@ fn with_link(p: Plan, from: usize, to: usize) -> Plan
     }
 }
 
+fn link_cause(p: Progress, from: usize, to: usize) -> u8
+    requires { ⌜ p .plan .n ≤ 20 ⌝ }
+    ensures { λ r. ⌜ r ≡ linkCause p from to ⌝ }
+{
+    let plan = p.plan;
+    let rows = plan.rows;
+    if p.stage != 1 {
+        return 3;
+    }
+    if plan.n <= from {
+        return 5;
+    }
+    if plan.n <= to {
+        return 5;
+    }
+    if from == to {
+        return 5;
+    }
+    if sets::member(rows[to], from) {
+        return 6;
+    }
+    0
+}
+
 fn link(p: Progress, from: usize, to: usize) -> Told
     requires { ⌜ p .plan .n ≤ 20 ⌝ }
     ensures { λ r. ⌜ (r .cause ≡ linkCause p from to) × (r .cause ≡ 0 → r .progress ≡ after p (Link from to)) ⌝ }
 {
     let plan = p.plan;
-    let rows = plan.rows;
-    if p.stage != 1 {
+    let cause = link_cause(p, from, to);
+    if cause != 0 {
         return Told {
-            cause: 3,
-            progress: p,
-        };
-    }
-    if plan.n <= from {
-        return Told {
-            cause: 5,
-            progress: p,
-        };
-    }
-    if plan.n <= to {
-        return Told {
-            cause: 5,
-            progress: p,
-        };
-    }
-    if from == to {
-        return Told {
-            cause: 5,
-            progress: p,
-        };
-    }
-    if sets::member(rows[to], from) {
-        return Told {
-            cause: 6,
+            cause: cause,
             progress: p,
         };
     }

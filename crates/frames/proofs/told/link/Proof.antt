@@ -1,59 +1,24 @@
--- Each return is the definition's case by the tests that led there. Assumes nothing.
+-- The cause decides; an accepted link is added. Assumes nothing.
 use mathlib.Core.Path.{sym, _∙_}
+use Rattle.frames.specs.Reading.{after}
+use Rattle.frames.proofs.TellLaws.{link-accepted}
 use native.Mathlib.Omega.{arith}
-use borrow.Author.Tests.{ne-eqb}
 use borrow.Author.Needs.{needs}
-use Rattle.sets.proofs.Bools.{pick-no}
-use Rattle.plan.specs.Plan.{heardBy, hears}
-use Rattle.frames.specs.Reading.{linkCause, after}
-use Rattle.frames.proofs.TellLaws.{link-from, link-to, link-self, link-there, link-new}
 use Rattle.frames.proofs.told.link.Statement.{statement}
 use Rattle.frames.proofs.told.link.Tie as tie
 
+link-cause-requires : tie.Need-link-cause-requires
+link-cause-requires c κs = search needs
+
 returns : tie.Need-returns
-unfolding linkCause
-returns c = (sym (pick-no _ _ _ (ne-eqb (c .before .before .before .before .args .p .stage) 1 (c .if1 .taken))), λ z. absurd (omega arith))
-
-returns-2 : tie.Need-returns-2
-returns-2 c = (sym (link-from _ _ _ (c .before .before .if1 .left) (c .if2 .taken)), λ z. absurd (omega arith))
-
-returns-3 : tie.Need-returns-3
-returns-3 c = (sym (link-to _ _ _ (c .before .before .before .before .if1 .left) (c .if3 .taken)), λ z. absurd (omega arith))
-
-returns-4 : tie.Need-returns-4
-returns-4 c = (sym (link-self _ _ _ (c .before .before .before .before .before .if1 .left) (c .if4 .taken)), λ z. absurd (omega arith))
-
-mul-member : tie.Need-mul-member
-mul-member c = search needs
-
-array-read-member : tie.Need-array-read-member
-array-read-member c = search needs
-
-member-requires : tie.Need-member-requires
-member-requires c κs = search needs
-
-returns-5 : tie.Need-returns-5
-unfolding hears heardBy
-returns-5 c = (sym (link-there _ _ _ (c .before .before .before .before .before .before .before .if1 .left) (c .before .before .before .before .before .if2 .left) (c .before .before .before .if3 .left) (c .before .before .if4 .left) (sym (c .before .member .ensures) ∙ c .if5 .taken)), λ z. absurd (omega arith))
+returns c = (c .before .link-cause .ensures, λ z. absurd (c .if1 .taken z))
 
 with-link-requires : tie.Need-with-link-requires
-with-link-requires c κs = search needs
+with-link-requires c κs = let l = link-accepted _ _ _ (sym (c .before .link-cause .ensures) ∙ c .if1 .left) in let n = c .before .before .before .pre in omega arith
 
-returns-6 : tie.Need-returns-6
-unfolding hears heardBy after
-returns-6 c = (sym (link-new _ _ _ (c .before .before .before .before .before .before .before .before .if1 .left) (c .before .before .before .before .before .before .if2 .left) (c .before .before .before .before .if3 .left) (c .before .before .before .if4 .left) (sym (c .before .before .member .ensures) ∙ c .before .if5 .left)), λ z. simp (c .with-link .ensures))
+returns-2 : tie.Need-returns-2
+unfolding after
+returns-2 c = (sym (c .before .if1 .left) ∙ c .before .before .link-cause .ensures, λ z. simp (c .with-link .ensures))
 
 pub link-spec : {M : Type 1} → statement M
-link-spec =
-    tie.close
-    (tie.spec
-    returns
-    returns-2
-    returns-3
-    returns-4
-    mul-member
-    array-read-member
-    member-requires
-    returns-5
-    with-link-requires
-    returns-6)
+link-spec = tie.close (tie.spec link-cause-requires returns with-link-requires returns-2)

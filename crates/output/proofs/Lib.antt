@@ -1,0 +1,4 @@
+-- A text that grows and is put into a list (TextLaws), what the lines say (LineLaws), and the laws for callers (Laws).
+mod TextLaws
+mod LineLaws
+pub mod Laws

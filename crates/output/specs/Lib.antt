@@ -1,0 +1,3 @@
+-- What the contracts of the text functions cite.
+pub mod Lines
+pub mod Texts

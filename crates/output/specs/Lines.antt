@@ -1,0 +1,25 @@
+-- Output frames (document 01, "Hexadecimal lines"): small digits, two a byte, larger numbers high byte first, each line ended by byte 10. Assumes nothing.
+use Prim.Native.Nat.{ℕ, _+_, _/_, _%_}
+use mathlib.Core.List.{List, [], _∷_, _++_}
+use lib.Dec.{ltb}
+use Rattle.sets.specs.Tests.{pick}
+
+unfoldable pub hexDigit : ℕ → ℕ
+hexDigit d = pick (ltb d 10) (48 + d) (87 + d)
+
+unfoldable pub hexByte : ℕ → List ℕ
+hexByte b = hexDigit (b / 16) ∷ hexDigit (b % 16) ∷ []
+
+unfoldable pub hexPair : ℕ → List ℕ
+hexPair v = hexByte (v / 256) ++ hexByte (v % 256)
+
+unfoldable pub hexTriple : ℕ → List ℕ
+hexTriple v = hexByte (v / 65536) ++ hexPair (v % 65536)
+
+-- ff: the number of a refusal, and its line
+unfoldable pub refusalLine : ℕ → ℕ → List ℕ
+refusalLine number line = hexByte 255 ++ hexByte number ++ hexPair line ++ (10 ∷ [])
+
+-- 81: 00 pass or 01 fail, then F, L, R
+unfoldable pub verdictLine : ℕ → ℕ → ℕ → ℕ → List ℕ
+verdictLine failed f l r = hexByte 129 ++ hexByte failed ++ hexTriple f ++ hexTriple l ++ hexTriple r ++ (10 ∷ [])

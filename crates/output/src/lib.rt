@@ -1,0 +1,21 @@
+// The answers as text: from a file's bytes to the output's bytes.
+mod line;
+mod text;
+
+ghost use mathlib.Core.Path.{_≡_};
+ghost use lib.ListN.{length};
+ghost use Rattle.output.specs.Texts.{verdictText, writtenOf, putInto};
+
+// The number of a refusal (12, a buffer shorter than the text) and the text's length.
+pub struct Written {
+    pub number: u8,
+    pub len: usize,
+}
+
+// What `verdict` prints on a plan file, into the lent buffer.
+pub fn verdict_text(text: &[u8], out: &mut [u8]) -> Written
+    ensures { λ r. ⌜ r ≡ writtenOf (verdictText (now (text .entry))) (length (now (out .entry))) ⌝ }
+    ensures { λ r. ⌜ now (out .exit) ≡ putInto (verdictText (now (text .entry))) (now (out .entry)) ⌝ }
+{
+    line::of_plan(text).put(out)
+}
