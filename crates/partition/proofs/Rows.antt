@@ -13,8 +13,8 @@ use lib.Pow.{pow-mono, pow-lt, pow-pos, ones-lt}
 use mir.Val.{boolByte}
 use Rattle.sets.specs.Tests.{_and_, _or_, _implies_}
 use Rattle.sets.specs.Sets.{bit, mem, all, count, mask, many, singleton}
-use Rattle.sets.proofs.Bools.{and-no-l, and-swap}
-use Rattle.sets.proofs.Laws.{below-or-not, mem-zero, mem-above, set-ext, mask-lt, mem-mask, mem-mask-above, mask-of, mask-cong, all-cong, count-none, count-width, few}
+use Rattle.sets.proofs.Bools.{clash, decide, and-l, and-r, and-no-l, and-swap, or-l, or-e, no-by, same-test}
+use Rattle.sets.proofs.Laws.{below-or-not, mem-zero, mem-above, set-ext, mask-lt, mem-mask, mem-mask-above, mask-of, mask-cong, all-cong, count-none, count-width, few, many-none}
 use Rattle.sets.proofs.Masks.{mem-and, mem-or, mem-not, mask-or}
 use Rattle.sets.proofs.Operations.{test-inside, singleton-narrow}
 use Rattle.plan.specs.declared.Plan.{Plan}
@@ -22,7 +22,7 @@ use Rattle.plan.specs.Plan.{heardBy, hears}
 use Rattle.plan.proofs.Laws.{Sound}
 use Rattle.propagation.specs.FaultSet.{hearsMany}
 use Rattle.propagation.specs.Closure.{joins, grow, reachedAfter, reached}
-use Rattle.propagation.proofs.Growth.{after-below, reached-early}
+use Rattle.propagation.proofs.Growth.{after-below, first-only, reached-early}
 use Rattle.partition.specs.Search.{over, direct}
 
 -- a loop that builds a mask, one bit a turn
@@ -133,11 +133,41 @@ left-is n a b t ha hb =
     none-of true y = refl
     none-of false y = refl
 
+-- whoever hears nobody of a set hears not many of it
+hears-none : (p : Plan) (b s : ℕ) → ((a : ℕ) → a < p .n → hears p b a and mem a s ≡ false) → hearsMany p b s ≡ false
+unfolding hearsMany
+hears-none p b s f = many-none (p .n) (p .f) (λ a. hears p b a and mem a s) f
+
 -- ---- the turns of the growth, as the loop counts them: k - 1 turns are done
 
 pub first-turn : (p : Plan) → Sound p → (faulty : ℕ) → singleton 32 (p .source) ≡ reachedAfter p faulty 0
 unfolding reachedAfter
 first-turn p s faulty = singleton-narrow 32 (p .n) (p .source) (s .source-below) (let t = s .twenty in omega arith)
+
+-- whoever hears more than f of the source alone hears the source, so the first turn adds those that hear it
+pub second-turn : (p : Plan) → Sound p → (hearers faulty s : ℕ) → hearers ≡ direct (p .rows) (p .source) → faulty < 2 ^ p .n → s ≡ singleton 32 (p .source)
+    → bitOr s (bitAnd hearers (4294967295 - faulty)) ≡ reachedAfter p faulty 1
+unfolding reachedAfter grow joins
+second-turn p s hearers faulty one d hf e =
+    mask-of (p .n) (bitOr one (bitAnd hearers (4294967295 - faulty)))
+    (λ b. mem b (reachedAfter p faulty 0) or (not (mem b faulty) and (hears p b (p .source) or hearsMany p b (reachedAfter p faulty 0))))
+    (or-lt (p .n) one (bitAnd hearers (4294967295 - faulty)) (subst (λ (x : ℕ). x < 2 ^ p .n) (sym (e ∙ first-turn p s faulty)) (after-below p faulty 0))
+    (lt-of-le-of-lt (and-le-l hearers (4294967295 - faulty)) (direct-below p s hearers d)))
+    (λ b k.
+    mem-or b one (bitAnd hearers (4294967295 - faulty))
+    ∙ ap₂ _or_ (ap (mem b) (e ∙ first-turn p s faulty))
+    (mem-and b hearers (4294967295 - faulty) ∙ and-swap (mem b hearers) (mem b (4294967295 - faulty))
+    ∙ ap₂ _and_ (mem-not 32 b faulty (word-of p s hf) (let t = s .twenty in omega arith))
+    (direct-mem p s hearers b d k ∙ same-test _ _ (λ h. or-l _ _ h) (λ h. ⊎-elim (λ y. y) (only b k) (or-e _ _ h)))))
+  where
+    only : (b : ℕ) → b < p .n → hearsMany p b (reachedAfter p faulty 0) ≡ true → hears p b (p .source) ≡ true
+    only b k h =
+        ⊎-elim (λ y. y)
+        (λ y.
+        clash h
+        (hears-none p b (reachedAfter p faulty 0)
+        (λ a l. no-by (λ m. clash (subst (λ (x : ℕ). hears p b x ≡ true) (first-only p faulty a l (and-r _ _ m)) (and-l _ _ m)) y))))
+        (decide (hears p b (p .source)))
 
 pub next-turn : (p : Plan) (faulty k l next : ℕ) → 1 ≤ k → l ≡ reachedAfter p faulty (k - 1) → next ≡ grow p faulty l
     → next ≡ reachedAfter p faulty (k + 1 - 1)

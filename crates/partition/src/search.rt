@@ -63,13 +63,14 @@ fn grown(p: Plan, hearers: u32, faulty: u32, l: u32) -> u32
     l | ((hearers | over(rows, p.f as u32, l)) & !faulty)
 }
 
-// What a notice reaches in spite of the fault set. The growth stops where a turn adds nothing.
+// What a notice reaches in spite of the fault set. The first turn reaches whoever hears the
+// source; the growth stops where a turn adds nothing.
 pub(crate) fn reach(p: Plan, hearers: u32, faulty: u32) -> u32
     requires { ⌜ (causeOf p ≡ 0) × (hearers ≡ direct (p .rows) (p .source)) × (faulty < 2 ^ p .n) ⌝ }
     ensures { λ r. ⌜ r ≡ reached p faulty ⌝ }
 {
-    let mut l = sets::singleton(p.source);
-    let mut k = 1;
+    let mut l = sets::singleton(p.source) | (hearers & !faulty);
+    let mut k = 2;
     while k < p.n {
         let next = grown(p, hearers, faulty, l);
         if next == l {
@@ -94,7 +95,8 @@ fn tried(p: Plan, hearers: u32, best: Best, s: u32) -> Best
     requires { ⌜ (causeOf p ≡ 0) × (hearers ≡ direct (p .rows) (p .source)) × (s < 2 ^ p .n) ⌝ }
     ensures { λ r. ⌜ ((x : Found) → StandsFor (p .n) best x → StandsFor (p .n) r (better p x s)) ⌝ }
 {
-    if sets::member(s, p.source) {
+    let source = p.source;
+    if (s >> source) & 1 == 1 {
         return best;
     }
     let members = sets::size(s);

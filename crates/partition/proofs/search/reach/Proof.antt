@@ -1,10 +1,10 @@
--- The loop's invariant: the set is that of turn k - 1; a turn that adds nothing is the last. Assumes nothing.
+-- The loop's invariant: the set is that of turn k - 1, from turn 1 on; a turn that adds nothing is the last. Assumes nothing.
 use Prim.Native.Nat.{ℕ, _≤_, _<_, _-_, _^_}
 use mathlib.Core.Path.{_≡_, sym, ap, subst, _∙_}
 use Rattle.plan.proofs.Laws.{sound}
 use Rattle.propagation.specs.Closure.{reachedAfter, reached}
 use Rattle.propagation.proofs.Growth.{after-below}
-use Rattle.partition.proofs.Rows.{first-turn, next-turn, last-turn}
+use Rattle.partition.proofs.Rows.{second-turn, next-turn, last-turn}
 use borrow.Author.Needs.{needs}
 use native.Mathlib.Omega.{arith}
 use Rattle.partition.proofs.search.reach.Statement.{statement}
@@ -20,8 +20,12 @@ singleton-requires : tie.Need-singleton-requires Inv-loop μ-loop
 singleton-requires c κs = search needs
 
 loop-holds : tie.Need-loop-holds Inv-loop μ-loop
-loop-holds c = let s = sound (c .before .args .p) (c .before .pre .0) in
-    (omega arith, omega arith, c .singleton .ensures ∙ first-turn (c .before .args .p) s (c .before .args .faulty))
+loop-holds c =
+    let s = sound (c .before .args .p) (c .before .pre .0) in (
+      omega arith,
+      omega arith,
+      second-turn (c .before .args .p) s (c .before .args .hearers) (c .before .args .faulty) (c .singleton .result) (c .before .pre .1) (c .before .pre .2) (c .singleton .ensures),
+    )
 
 grown-requires : tie.Need-grown-requires Inv-loop μ-loop
 grown-requires c κs = (c .before .before .before .before .pre .0, c .before .before .before .before .pre .1, c .before .before .before .before .pre .2, subst (λ (x : ℕ). x < 2 ^ c .before .before .before .before .args .p .n) (sym (c .before .before .loop .inv .2)) (after-below (c .before .before .before .before .args .p) (c .before .before .before .before .args .faulty) (c .before .before .loop .k - 1)))

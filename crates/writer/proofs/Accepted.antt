@@ -1,0 +1,222 @@
+-- The plan of an accepted file is sound, and written and read again it is the same plan. Assumes nothing.
+use Prim.Native.Nat.{ℕ, _+_, _^_, _≤_, _<_}
+use mathlib.Core.Path.{_≡_, refl, sym, ap, _∙_}
+use mathlib.Core.Logic.{_⊎_, inl, inr}
+use mathlib.Core.Bool.{Bool, true, false, not}
+use mathlib.Core.List.{List, [], _∷_, _++_}
+use native.Mathlib.Nat.{lt-of-lt-of-le}
+use native.Mathlib.Omega.{arith}
+use lib.Dec.{eqb, leb, ltb}
+use lib.ListN.{length, getD, set, replicate, length-append, length-set, length-replicate, getD-replicate}
+use lib.Pow.{pow-mono, pow-pos}
+use lib.Seq.{getD-set-same, getD-set-other}
+use borrow.Author.Tests.{ne-eqb, eqb-true, eqb-false, lt-ltb, ltb-true, leb-true}
+use Rattle.sets.specs.Tests.{_and_, _or_, pick}
+use Rattle.sets.specs.Sets.{mem, mask, with, within}
+use Rattle.sets.proofs.Bools.{and-l, and-r, and-i, or-no, not-i, not-e, pick-yes, pick-case}
+use Rattle.sets.proofs.Laws.{equal-or-not, below-or-not, mem-zero, mem-above, set-ext, mask-lt, mem-mask, mem-mask-above, all-at, all-i}
+use Rattle.terminal.specs.Answer.{inRange, hearsSoundly}
+use Rattle.plan.specs.declared.Plan.{Plan}
+use Rattle.plan.specs.Plan.{heardBy, hears, rowSound, linksSound, causeOf}
+use Rattle.plan.proofs.Laws.{Sound, sound, tests}
+use Rattle.frames.specs.declared.Progress.{Progress}
+use Rattle.frames.specs.declared.frame.Frame.{Frame}
+use Rattle.frames.specs.declared.frame.Frame.the-variants.{Foreign, Unknown, Head, Link, FaultSet, Start, Message}
+use Rattle.frames.specs.Lines.{Line, ended, cut, lastLine, linesFrom}
+use Rattle.frames.specs.Frames.{frameOf}
+use Rattle.frames.specs.Reading.{nothingRead, noWords, headCause, linkCause, faultSetCause, startCause, messageCause, causeIn, linked, after, wordsAfter, Reading, refusal, told, reading, planReading}
+use Rattle.writer.specs.Written.{planText}
+use Rattle.writer.proofs.ReadBack.{read-back}
+
+-- a plan that the check finds sound, with its 20 rows
+abbrev pub Whole : Plan → Type 0
+Whole p = (causeOf p ≡ 0) × (length (p .rows) ≡ 20)
+
+cause-none : (p : Plan) → inRange (p .n) (p .source) (p .f) ≡ true → linksSound p ≡ true → causeOf p ≡ 0
+unfolding causeOf
+cause-none p r l = pick-yes _ _ _ r ∙ pick-yes _ _ _ l
+
+-- ---- the head: no links yet
+
+zero-sound : (n b : ℕ) → rowSound n b 0 ≡ true
+unfolding rowSound hearsSoundly within
+zero-sound n b =
+    pick-case (λ (t : Bool). t ≡ true) (ltb b n) (ltb 0 (2 ^ n) and not (mem b 0)) (eqb 0 0)
+    (λ h. and-i _ _ (lt-ltb 0 (2 ^ n) (pow-pos n)) (not-i (mem-zero b))) (λ h. refl)
+
+head-whole : (n source f : ℕ) → inRange n source f ≡ true → Whole (record { n = n; source = source; f = f; rows = replicate 20 0 })
+unfolding linksSound heardBy
+head-whole n source f r = (
+  cause-none (record { n = n; source = source; f = f; rows = replicate 20 0 }) r
+      (all-i 20 (λ b. rowSound n b (getD (replicate 20 0) b 0)) (λ b h. ap (rowSound n b) (getD-replicate {A = ℕ} 20 b 0 0 h) ∙ zero-sound n b)),
+  length-replicate {A = ℕ} 20 0,
+)
+
+-- ---- one link more
+
+-- a set of n terminals with one of them more, in a wider word
+pub with-narrow : (w n s i : ℕ) → n ≤ w → s < 2 ^ n → i < n → with w s i < 2 ^ n
+unfolding with
+with-narrow w n s i h k l =
+    rw (set-ext w (mask w (λ j. mem j s or eqb j i)) (mask n (λ j. mem j s or eqb j i)) (mask-lt w (λ j. mem j s or eqb j i))
+    (lt-of-lt-of-le (mask-lt n (λ j. mem j s or eqb j i)) (pow-mono h)) (λ j m. mem-mask w j (λ j. mem j s or eqb j i) m ∙ sym (go j (below-or-not j n))))
+    (mask-lt n (λ j. mem j s or eqb j i))
+  where
+    go : (j : ℕ) → (j < n) ⊎ (n ≤ j) → mem j (mask n (λ j. mem j s or eqb j i)) ≡ mem j s or eqb j i
+    go j (inl m) = mem-mask n j (λ j. mem j s or eqb j i) m
+    go j (inr m) =
+        mem-mask-above n j (λ j. mem j s or eqb j i) m ∙ sym (or-no _ _ (mem-above n j s k m) (ne-eqb j i (λ e. omega arith)))
+
+mem-with : (w s i j : ℕ) → j < w → mem j (with w s i) ≡ mem j s or eqb j i
+unfolding with
+mem-with w s i j h = mem-mask w j (λ j. mem j s or eqb j i) h
+
+module _ (p : Plan) (w : Whole p) (from to : ℕ) (f : from < p .n) (t : to < p .n) (d : from ≡ to → ⊥) where
+  s : Sound p
+  s = sound p (w .0)
+
+  row-kept : rowSound (p .n) to (with 32 (heardBy p to) from) ≡ true
+  unfolding rowSound hearsSoundly within hears
+  row-kept =
+      let n : p .n ≤ 20 = s .twenty in
+      pick-yes _ _ _ (lt-ltb to (p .n) t)
+      ∙ and-i _ _ (lt-ltb _ (2 ^ p .n) (with-narrow 32 (p .n) (heardBy p to) from (omega arith) (s .row-below to t) f))
+      (not-i (mem-with 32 (heardBy p to) from to (omega arith) ∙ or-no _ _ (s .heard-other to t) (ne-eqb to from (λ e. d (sym e)))))
+
+  rows-kept : (b : ℕ) → b < 20 → (b ≡ to) ⊎ (b ≡ to → ⊥) → rowSound (p .n) b (heardBy (linked p from to) b) ≡ true
+  unfolding linked heardBy linksSound
+  rows-kept b h (inl e) =
+      let there : to < length (p .rows) = omega (arith, s .twenty, w .1) in
+      ap (λ (i : ℕ). rowSound (p .n) i (getD (set (p .rows) to (with 32 (getD (p .rows) to 0) from)) i 0)) e
+      ∙ ap (rowSound (p .n) to) (getD-set-same (p .rows) to (with 32 (getD (p .rows) to 0) from) 0 there)
+      ∙ row-kept
+  rows-kept b h (inr n) =
+      ap (rowSound (p .n) b) (getD-set-other (p .rows) to b (with 32 (getD (p .rows) to 0) from) 0 n)
+      ∙ all-at 20 (λ b. rowSound (p .n) b (getD (p .rows) b 0)) (tests p (w .0) .1) b h
+
+  link-whole : Whole (linked p from to)
+  unfolding linked linksSound
+  link-whole = (
+    cause-none (linked p from to) (tests p (w .0) .0)
+        (all-i 20 (λ b. rowSound (p .n) b (heardBy (linked p from to) b)) (λ b h. rows-kept b h (equal-or-not b to))),
+    length-set (p .rows) to (with 32 (heardBy p to) from) ∙ w .1,
+  )
+
+-- ---- an accepted frame
+
+-- a choice that is 0 where its second case is not
+pub choice-zero : (b : Bool) (x n : ℕ) → (n ≡ 0 → ⊥) → pick b x n ≡ 0 → (b ≡ true) × (x ≡ 0)
+unfolding pick
+choice-zero true x n h e = (refl, e)
+choice-zero false x n h e = absurd (h e)
+
+choice-none : (b : Bool) (n : ℕ) → (n ≡ 0 → ⊥) → pick b n 0 ≡ 0 → b ≡ false
+unfolding pick
+choice-none true n h e = absurd (h e)
+choice-none false n h e = refl
+
+module _ (p : Progress) (words : List ℕ) where
+  pub stage-of : (stage cause : ℕ) → pick (eqb (p .stage) stage) cause 3 ≡ 0 → (p .stage ≡ stage) × (cause ≡ 0)
+  stage-of stage cause h =
+      let c = choice-zero (eqb (p .stage) stage) cause 3 (λ z. omega arith) h in
+      (eqb-true (p .stage) stage (c .0), c .1)
+
+  pub head-accepted : (n source f : ℕ) → causeIn p words (Head n source f) ≡ 0 → (p .stage ≡ 0) × (inRange n source f ≡ true)
+  unfolding causeIn headCause
+  head-accepted n source f h =
+      let c = stage-of 0 (pick (inRange n source f) 0 4) h in
+      (c .0, choice-zero (inRange n source f) 0 4 (λ z. omega arith) (c .1) .0)
+
+  pub link-accepted : (from to : ℕ) → causeIn p words (Link from to) ≡ 0
+      → (p .stage ≡ 1) × (from < p .plan .n) × (to < p .plan .n) × (from ≡ to → ⊥) × (hears (p .plan) to from ≡ false)
+  unfolding causeIn linkCause
+  link-accepted from to h =
+      let c = stage-of 1 (pick (ltb from (p .plan .n) and ltb to (p .plan .n) and not (eqb from to)) (pick (hears (p .plan) to from) 6 0) 5) h in
+      let d = choice-zero (ltb from (p .plan .n) and ltb to (p .plan .n) and not (eqb from to)) (pick (hears (p .plan) to from) 6 0) 5
+      (λ z. omega arith) (c .1) in (
+        c .0,
+        ltb-true from (p .plan .n) (and-l _ _ (d .0)),
+        ltb-true to (p .plan .n) (and-l _ _ (and-r _ _ (d .0))),
+        eqb-false from to (not-e (eqb from to) (and-r _ _ (and-r _ _ (d .0)))),
+        choice-none (hears (p .plan) to from) 6 (λ z. omega arith) (d .1),
+      )
+
+  -- what is known once something was read is a whole plan
+  pub frame-whole : (frame : Frame) → ((p .stage ≡ 0 → ⊥) → Whole (p .plan)) → causeIn p words frame ≡ 0 → Whole (after p frame .plan)
+  unfolding causeIn faultSetCause startCause messageCause after
+  frame-whole Foreign i h = absurd (omega arith)
+  frame-whole Unknown i h = absurd (omega arith)
+  frame-whole (Head n source f) i h = head-whole n source f (head-accepted n source f h .1)
+  frame-whole (Link from to) i h =
+      let c = link-accepted from to h in
+      link-whole (p .plan) (i (λ z. omega (arith, c .0))) from to (c .1) (c .2) (c .3)
+  frame-whole (FaultSet s) i h = i (λ z. omega (arith, stage-of 1 _ h .0))
+  frame-whole (Start value rounds) i h = i (λ z. omega (arith, stage-of 2 _ h .0))
+  frame-whole (Message round from to value) i h = i (λ z. omega (arith, stage-of 3 _ h .0))
+
+-- ---- the lines
+
+Sound-if-read : Reading → Type 0
+Sound-if-read r = r .number ≡ 0 → Whole (r .progress .plan)
+
+told-whole : (kinds : ℕ) (p : Progress) (words : List ℕ) (k : ℕ) (lines : List Line) → Whole (p .plan) → Sound-if-read (told kinds p words k lines)
+unfolding told Sound-if-read
+told-whole kinds p words k [] w = λ z. w
+told-whole kinds p words k (cut line ∷ rest) w = λ z. absurd (omega arith)
+told-whole kinds p words k (ended line ∷ rest) w =
+    pick-case Sound-if-read (eqb (causeIn p words (frameOf kinds line)) 0)
+    (told kinds (after p (frameOf kinds line)) (wordsAfter p words (frameOf kinds line)) (k + 1) rest)
+    (refusal (causeIn p words (frameOf kinds line)) k)
+    (λ e.
+    told-whole kinds (after p (frameOf kinds line)) (wordsAfter p words (frameOf kinds line)) (k + 1) rest
+    (frame-whole p words (frameOf kinds line) (λ n. w) (eqb-true (causeIn p words (frameOf kinds line)) 0 e)))
+    (λ e z. absurd (eqb-false (causeIn p words (frameOf kinds line)) 0 e z))
+
+-- the first line, before which nothing is known
+first-whole : (kinds : ℕ) (p : Progress) (words : List ℕ) (k : ℕ) (line : Line) (rest : List Line) → p .stage ≡ 0
+    → Sound-if-read (told kinds p words k (line ∷ rest))
+unfolding told Sound-if-read
+first-whole kinds p words k (cut line) rest s = λ z. absurd (omega arith)
+first-whole kinds p words k (ended line) rest s =
+    pick-case Sound-if-read (eqb (causeIn p words (frameOf kinds line)) 0)
+    (told kinds (after p (frameOf kinds line)) (wordsAfter p words (frameOf kinds line)) (k + 1) rest)
+    (refusal (causeIn p words (frameOf kinds line)) k)
+    (λ e.
+    told-whole kinds (after p (frameOf kinds line)) (wordsAfter p words (frameOf kinds line)) (k + 1) rest
+    (frame-whole p words (frameOf kinds line) (λ n. absurd (n s)) (eqb-true (causeIn p words (frameOf kinds line)) 0 e)))
+    (λ e z. absurd (eqb-false (causeIn p words (frameOf kinds line)) 0 e z))
+
+-- a text that is not empty has a line
+some-line : (line text : List ℕ) → 0 < length line + length text → (l : Line) × (rest : List Line) × (linesFrom line text ≡ l ∷ rest)
+unfolding linesFrom lastLine
+some-line [] [] h = absurd (omega arith)
+some-line (b ∷ line) [] h = (cut (b ∷ line), [], refl)
+some-line line (b ∷ text) h =
+    pick-case (λ (x : List Line). (l : Line) × (rest : List Line) × (x ≡ l ∷ rest)) (eqb b 10) (ended line ∷ linesFrom [] text)
+    (linesFrom (line ++ (b ∷ [])) text) (λ e. (ended line, linesFrom [] text, refl))
+    (λ e. some-line (line ++ (b ∷ [])) text (simp length-append (omega arith)))
+
+pub reading-whole : (kinds : ℕ) (text : List ℕ) → reading kinds text .number ≡ 0 → Whole (reading kinds text .progress .plan)
+unfolding reading Sound-if-read
+reading-whole kinds text =
+    pick-case Sound-if-read (leb 1 (length text) and leb (length text) 24576) (told kinds nothingRead noWords 1 (linesFrom [] text)) (refusal 1 0)
+    (λ e.
+    let one : 1 ≤ length text = leb-true 1 (length text) (and-l _ _ e) in
+    let some = some-line [] text (omega arith) in
+    rw (some .2) (first-whole kinds nothingRead noWords 1 (some .0) (some .1) refl))
+    (λ e z. absurd (omega arith))
+
+pub accepted-sound : (text : List ℕ) → planReading text .number ≡ 0
+    → (causeOf (planReading text .progress .plan) ≡ 0) × (length (planReading text .progress .plan .rows) ≡ 20)
+unfolding planReading
+accepted-sound text h = reading-whole 2 text h
+
+-- ---- an accepted file's plan, written and read again
+
+pub again : (text : List ℕ) → planReading text .number ≡ 0
+    → (planReading (planText (planReading text .progress .plan)) .number ≡ 0)
+    × (planReading (planText (planReading text .progress .plan)) .progress .plan ≡ planReading text .progress .plan)
+again text h =
+    let w = accepted-sound text h in
+    let e = read-back (planReading text .progress .plan) (w .0) (w .1) in
+    (ap (λ (r : Reading). r .number) e, ap (λ (r : Reading). r .progress .plan) e)

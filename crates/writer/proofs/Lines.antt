@@ -1,0 +1,69 @@
+-- The lines of the text that is written, and how the reader takes them. Assumes nothing.
+use Prim.Native.Nat.{ℕ, zero, suc, _+_, _*_, _/_, _%_, _≤_, _<_}
+use mathlib.Core.Path.{_≡_, refl, sym, ap, _∙_}
+use mathlib.Core.Bool.{true}
+use mathlib.Core.List.{List, [], _∷_, _++_, append-nil}
+use native.Mathlib.Omega.{arith}
+use lib.ListN.{length, length-append}
+use lib.Seq.{append-snoc}
+use borrow.Author.Tests.{ne-eqb, eq-eqb}
+use Rattle.sets.specs.Tests.{pick}
+use Rattle.sets.proofs.Bools.{and-l, and-r, pick-yes, pick-no, pick-case}
+use Rattle.plan.specs.declared.Plan.{Plan}
+use Rattle.plan.specs.Plan.{hears}
+use Rattle.frames.specs.declared.frame.Frame.{Frame}
+use Rattle.frames.specs.declared.Progress.{Progress}
+use Rattle.frames.specs.Digits.{allDigits}
+use Rattle.frames.specs.Lines.{Line, ended, linesFrom}
+use Rattle.frames.specs.Frames.{frameOf}
+use Rattle.frames.specs.Reading.{causeIn, after, wordsAfter, told}
+use Rattle.writer.specs.Written.{hexByte, headLine, linkLine, linkLines}
+use Rattle.writer.proofs.Digits.{digit-no-end, headDigits, linkDigits, head-digits, link-digits}
+
+-- digits, then byte 10: one line that is ended
+pub line-of : (line digits rest : List ℕ) → allDigits digits ≡ true
+    → linesFrom line (digits ++ 10 ∷ rest) ≡ ended (line ++ digits) ∷ linesFrom [] rest
+unfolding linesFrom allDigits
+line-of line [] rest h = pick-yes _ _ _ refl ∙ ap (λ (l : List ℕ). ended l ∷ linesFrom [] rest) (sym (append-nil line))
+line-of line (d ∷ digits) rest h =
+    pick-no _ _ _ (ne-eqb d 10 (digit-no-end d (and-l _ _ h)))
+    ∙ line-of (line ++ (d ∷ [])) digits rest (and-r _ _ h)
+    ∙ ap (λ (l : List ℕ). ended l ∷ linesFrom [] rest) (append-snoc line d digits)
+
+pub head-lines : (p : Plan) (rest : List ℕ) → p .n < 256 → p .source < 256 → p .f < 256
+    → linesFrom [] (headLine p ++ rest) ≡ ended (headDigits (p .n) (p .source) (p .f)) ∷ linesFrom [] rest
+unfolding headLine hexByte
+head-lines p rest a b c = line-of [] (headDigits (p .n) (p .source) (p .f)) rest (head-digits (p .n) (p .source) (p .f) a b c)
+
+pub link-lines : (from to : ℕ) (rest : List ℕ) → from < 256 → to < 256
+    → linesFrom [] (linkLine from to ++ rest) ≡ ended (linkDigits from to) ∷ linesFrom [] rest
+unfolding linkLine hexByte
+link-lines from to rest a b = line-of [] (linkDigits from to) rest (link-digits from to a b)
+
+-- a line whose frame is accepted
+pub line-told : (kinds : ℕ) (p : Progress) (words : List ℕ) (k : ℕ) (line : List ℕ) (rest : List Line) (frame : Frame) → frameOf kinds line ≡ frame
+    → causeIn p words frame ≡ 0 → told kinds p words k (ended line ∷ rest) ≡ told kinds (after p frame) (wordsAfter p words frame) (k + 1) rest
+unfolding told
+line-told kinds p words k line rest frame f z =
+    pick-yes _ _ _ (eq-eqb (causeIn p words (frameOf kinds line)) 0 (ap (causeIn p words) f ∙ z))
+    ∙ ap (λ (x : Frame). told kinds (after p x) (wordsAfter p words x) (k + 1) rest) f
+
+-- ---- the text's length
+
+pub head-length : (p : Plan) → length (headLine p) ≡ 9
+unfolding headLine hexByte
+head-length p = refl
+
+pub link-length : (from to : ℕ) → length (linkLine from to) ≡ 7
+unfolding linkLine hexByte
+link-length from to = refl
+
+pub links-length : (p : Plan) (m k : ℕ) → length (linkLines p m k) ≤ 7 * m
+unfolding linkLines
+links-length p zero k = omega arith
+links-length p (suc m) k =
+    let rest : length (linkLines p m (suc k)) ≤ 7 * m = links-length p m (suc k) in
+    let here : length (pick (hears p (k % 20) (k / 20)) (linkLine (k / 20) (k % 20)) []) ≤ 7 =
+    pick-case (λ (l : List ℕ). length l ≤ 7) (hears p (k % 20) (k / 20)) (linkLine (k / 20) (k % 20)) []
+    (λ h. omega (arith, link-length (k / 20) (k % 20))) (λ h. omega arith) in
+    simp length-append (omega arith)

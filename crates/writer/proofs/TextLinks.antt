@@ -1,0 +1,178 @@
+-- The links of an accepted file's plan are those of its lines. Assumes nothing.
+use Prim.Native.Nat.{ℕ, _+_, _^_, _≤_, _<_}
+use mathlib.Core.Path.{_≡_, refl, sym, ap, _∙_}
+use mathlib.Core.Logic.{_⊎_, inl, inr, ⊎-elim, _↔_}
+use mathlib.Core.Bool.{true, false}
+use mathlib.Core.List.{List, [], _∷_}
+use native.Mathlib.Nat.{lt-of-lt-of-le}
+use native.Mathlib.Omega.{arith}
+use lib.Dec.{eqb, leb}
+use lib.ListN.{length, getD, set, replicate, getD-replicate, List·getD-eq-default}
+use lib.Pow.{pow-mono}
+use lib.Seq.{getD-set-same, getD-set-other}
+use borrow.Author.Tests.{eq-eqb, ne-eqb, eqb-true, eqb-false}
+use Rattle.sets.specs.Tests.{_and_, _or_}
+use Rattle.sets.specs.Sets.{mem, with}
+use Rattle.sets.proofs.Bools.{clash, or-l, or-r, or-e, or-no, pick-case}
+use Rattle.sets.proofs.Laws.{equal-or-not, below-or-not, mem-zero, mem-above, mem-mask, mem-mask-above}
+use Rattle.plan.specs.declared.Plan.{Plan}
+use Rattle.plan.specs.Plan.{heardBy, hears}
+use Rattle.plan.proofs.Laws.{sound}
+use Rattle.frames.specs.declared.Progress.{Progress}
+use Rattle.frames.specs.declared.frame.Frame.{Frame}
+use Rattle.frames.specs.declared.frame.Frame.the-variants.{Foreign, Unknown, Head, Link, FaultSet, Start, Message}
+use Rattle.frames.specs.Lines.{Line, ended, cut, linesFrom}
+use Rattle.frames.specs.Frames.{frameOf}
+use Rattle.frames.specs.Reading.{nothingRead, noWords, messageCause, causeIn, linked, after, wordsAfter, Reading, refusal, told, reading, planReading}
+use Rattle.writer.proofs.Accepted.{Whole, stage-of, head-accepted, link-accepted, frame-whole}
+
+-- some line is the link frame from a to b
+abbrev pub Tells : ℕ → ℕ → ℕ → List Line → Type 0
+Tells kinds a b [] = ⊥
+Tells kinds a b (cut line ∷ rest) = Tells kinds a b rest
+Tells kinds a b (ended line ∷ rest) = (frameOf kinds line ≡ Link a b) ⊎ Tells kinds a b rest
+
+-- a set with one terminal more
+mem-with : (w s i j : ℕ) → s < 2 ^ w → i < w → mem j (with w s i) ≡ mem j s or eqb j i
+unfolding with
+mem-with w s i j h k =
+    ⊎-elim (λ l. mem-mask w j (λ j. mem j s or eqb j i) l)
+    (λ l. mem-mask-above w j (λ j. mem j s or eqb j i) l ∙ sym (or-no _ _ (mem-above w j s h l) (ne-eqb j i (λ e. omega arith))))
+    (below-or-not j w)
+
+-- no links
+no-row : (b : ℕ) → getD {A = ℕ} (replicate 20 0) b 0 ≡ 0
+no-row b =
+    ⊎-elim (λ h. getD-replicate {A = ℕ} 20 b 0 0 h) (λ h. List·getD-eq-default {A = ℕ} (replicate 20 0) 0 h)
+    (below-or-not b 20)
+
+no-link : (n source f a b : ℕ) → hears (record { n = n; source = source; f = f; rows = replicate 20 0 }) b a ≡ false
+unfolding hears heardBy
+no-link n source f a b = ap (mem a) (no-row b) ∙ mem-zero a
+
+-- ---- one link more
+
+module _ (p : Plan) (w : Whole p) (from to : ℕ) (f : from < p .n) (t : to < p .n) (a b : ℕ) where
+  abbrev row : ℕ
+  row = with 32 (heardBy p to) from
+
+  row-more : mem a row ≡ hears p to a or eqb a from
+  unfolding hears
+  row-more =
+      let s = sound p (w .0) in
+      let n : p .n ≤ 32 = omega (arith, s .twenty) in
+      mem-with 32 (heardBy p to) from a (lt-of-lt-of-le (s .row-below to t) (pow-mono n)) (omega arith)
+
+  hears-same : b ≡ to → hears (linked p from to) b a ≡ hears p to a or eqb a from
+  unfolding hears heardBy linked
+  hears-same e =
+      let s = sound p (w .0) in
+      let there : to < length (p .rows) = omega (arith, s .twenty, w .1) in
+      ap (λ (i : ℕ). mem a (getD (set (p .rows) to row) i 0)) e ∙ ap (mem a) (getD-set-same (p .rows) to row 0 there) ∙ row-more
+
+  hears-other : (b ≡ to → ⊥) → hears (linked p from to) b a ≡ hears p b a
+  unfolding hears heardBy linked
+  hears-other n = ap (mem a) (getD-set-other (p .rows) to b row 0 n)
+
+  link-more : (b ≡ to) ⊎ (b ≡ to → ⊥) → (hears (linked p from to) b a ≡ true) ↔ ((hears p b a ≡ true) ⊎ (Link from to ≡ Link a b))
+  link-more (inl e) = (
+    λ h.
+        ⊎-elim (λ x. inl (ap (λ (i : ℕ). hears p i a) e ∙ x)) (λ x. inr (let y : a ≡ from = eqb-true a from x in cc))
+        (or-e (hears p to a) (eqb a from) (sym (hears-same e) ∙ h)),
+    ⊎-elim (λ x. hears-same e ∙ or-l _ _ (sym (ap (λ (i : ℕ). hears p i a) e) ∙ x))
+        (λ x. hears-same e ∙ or-r _ _ (eq-eqb a from (let y : a ≡ from = cc in y))),
+  )
+  link-more (inr n) = (
+    λ h. inl (sym (hears-other n) ∙ h),
+    ⊎-elim (λ x. hears-other n ∙ x) (λ x. absurd (n (let y : b ≡ to = cc in y))),
+  )
+
+-- ---- an accepted frame
+
+-- a whole plan once something was read, and no link before
+record Ready (p : Progress) : Type 0 where
+  begun : (p .stage ≡ 0 → ⊥) → Whole (p .plan)
+  empty : p .stage ≡ 0 → (a b : ℕ) → hears (p .plan) b a ≡ false
+
+module _ (p : Progress) (words : List ℕ) (r : Ready p) where
+  frame-stage : (frame : Frame) → causeIn p words frame ≡ 0 → after p frame .stage ≡ 0 → ⊥
+  unfolding causeIn messageCause after
+  frame-stage Foreign h z = omega arith
+  frame-stage Unknown h z = omega arith
+  frame-stage (Head n source f) h z = omega arith
+  frame-stage (Link from to) h z = omega arith
+  frame-stage (FaultSet s) h z = omega arith
+  frame-stage (Start value rounds) h z = omega arith
+  frame-stage (Message round from to value) h z = omega (arith, stage-of p words 3 _ h .0)
+
+  frame-ready : (frame : Frame) → causeIn p words frame ≡ 0 → Ready (after p frame)
+  frame-ready frame h = record { begun = λ n. frame-whole p words frame (r .begun) h; empty = λ z. absurd (frame-stage frame h z) }
+
+  -- a frame that is no link and keeps the plan
+  same-plan : (frame : Frame) (a b : ℕ) → (frame ≡ Link a b → ⊥) → (hears (p .plan) b a ≡ true) ↔ ((hears (p .plan) b a ≡ true) ⊎ (frame ≡ Link a b))
+  same-plan frame a b n = (λ h. inl h, ⊎-elim (λ h. h) (λ e. absurd (n e)))
+
+  frame-links : (frame : Frame) → causeIn p words frame ≡ 0 → (a b : ℕ)
+      → (hears (after p frame .plan) b a ≡ true) ↔ ((hears (p .plan) b a ≡ true) ⊎ (frame ≡ Link a b))
+  unfolding after
+  frame-links Foreign h a b = same-plan Foreign a b (λ e. let z : _≡_ {A = ℕ} 0 1 = cc in omega arith)
+  frame-links Unknown h a b = same-plan Unknown a b (λ e. let z : _≡_ {A = ℕ} 0 1 = cc in omega arith)
+  frame-links (Head n source f) h a b = (
+    λ x. clash x (no-link n source f a b),
+    ⊎-elim (λ x. clash x (r .empty (head-accepted p words n source f h .0) a b)) (λ e. absurd (let z : _≡_ {A = ℕ} 0 1 = cc in omega arith)),
+  )
+  frame-links (Link from to) h a b =
+      let c = link-accepted p words from to h in
+      link-more (p .plan) (r .begun (λ z. omega (arith, c .0))) from to (c .1) (c .2) a b (equal-or-not b to)
+  frame-links (FaultSet s) h a b = same-plan (FaultSet s) a b (λ e. let z : _≡_ {A = ℕ} 0 1 = cc in omega arith)
+  frame-links (Start value rounds) h a b = same-plan (Start value rounds) a b (λ e. let z : _≡_ {A = ℕ} 0 1 = cc in omega arith)
+  frame-links (Message round from to value) h a b = same-plan (Message round from to value) a b (λ e. let z : _≡_ {A = ℕ} 0 1 = cc in omega arith)
+
+-- ---- the lines
+
+-- where the file is read, its links are those known before, and those told
+Says : Progress → (ℕ → ℕ → Type 0) → Reading → Type 0
+Says p T r = r .number ≡ 0 → (a b : ℕ) → (hears (r .progress .plan) b a ≡ true) ↔ ((hears (p .plan) b a ≡ true) ⊎ T a b)
+
+joined : {A B C F T : Type 0} → B ↔ (A ⊎ F) → C ↔ (B ⊎ T) → C ↔ (A ⊎ (F ⊎ T))
+joined e g = (
+  λ c. ⊎-elim (λ b. ⊎-elim (λ a. inl a) (λ f. inr (inl f)) (e .0 b)) (λ t. inr (inr t)) (g .0 c),
+  ⊎-elim (λ a. g .1 (inl (e .1 (inl a)))) (⊎-elim (λ f. g .1 (inl (e .1 (inr f)))) (λ t. g .1 (inr t))),
+)
+
+told-links : (kinds : ℕ) (p : Progress) (words : List ℕ) (k : ℕ) (lines : List Line) → Ready p
+    → Says p (λ a b. Tells kinds a b lines) (told kinds p words k lines)
+unfolding told Says
+told-links kinds p words k [] r = λ z a b. (λ h. inl h, ⊎-elim (λ h. h) (λ e. absurd e))
+told-links kinds p words k (cut line ∷ rest) r = λ z. absurd (omega arith)
+told-links kinds p words k (ended line ∷ rest) r =
+    pick-case (Says p (λ a b. Tells kinds a b (ended line ∷ rest))) (eqb (causeIn p words (frameOf kinds line)) 0)
+    (told kinds (after p (frameOf kinds line)) (wordsAfter p words (frameOf kinds line)) (k + 1) rest)
+    (refusal (causeIn p words (frameOf kinds line)) k)
+    (λ e z a b.
+    let c : causeIn p words (frameOf kinds line) ≡ 0 = eqb-true (causeIn p words (frameOf kinds line)) 0 e in
+    joined (frame-links p words r (frameOf kinds line) c a b)
+    (told-links kinds (after p (frameOf kinds line)) (wordsAfter p words (frameOf kinds line)) (k + 1) rest (frame-ready p words r (frameOf kinds line) c) z
+    a b))
+    (λ e z. absurd (eqb-false (causeIn p words (frameOf kinds line)) 0 e z))
+
+nothing-ready : Ready nothingRead
+nothing-ready = record { begun = λ n. absurd (n refl); empty = λ z a b. no-link 0 0 0 a b }
+
+pub reading-links : (kinds : ℕ) (text : List ℕ) → reading kinds text .number ≡ 0 → (a b : ℕ)
+    → (hears (reading kinds text .progress .plan) b a ≡ true) ↔ Tells kinds a b (linesFrom [] text)
+unfolding reading Says
+reading-links kinds text =
+    pick-case
+    (λ (r : Reading). r .number ≡ 0 → (a b : ℕ) → (hears (r .progress .plan) b a ≡ true) ↔ Tells kinds a b (linesFrom [] text))
+    (leb 1 (length text) and leb (length text) 24576) (told kinds nothingRead noWords 1 (linesFrom [] text)) (refusal 1 0)
+    (λ e z a b.
+    let g = told-links kinds nothingRead noWords 1 (linesFrom [] text) nothing-ready z a b in
+    (λ h. ⊎-elim (λ x. clash x (no-link 0 0 0 a b)) (λ x. x) (g .0 h), λ x. g .1 (inr x)))
+    (λ e z. absurd (omega arith))
+
+-- b hears a exactly if some line of the file is the link from a to b
+pub same-links : (text : List ℕ) → planReading text .number ≡ 0 → (a b : ℕ)
+    → (hears (planReading text .progress .plan) b a ≡ true) ↔ Tells 2 a b (linesFrom [] text)
+unfolding planReading
+same-links text h a b = reading-links 2 text h a b

@@ -1,0 +1,177 @@
+-- Lists put into a list one after the other, and the links from one place on. Assumes nothing.
+use Prim.Native.Nat.{ℕ, suc, _+_, _-_, _/_, _%_, _≤_, _<_}
+use mathlib.Core.Path.{_≡_, refl, sym, ap, ap₂, _∙_}
+use mathlib.Core.Logic.{_⊎_, inl, inr, ⊎-elim}
+use mathlib.Core.Bool.{Bool, true, false}
+use mathlib.Core.List.{List, [], _∷_, _++_}
+use native.Mathlib.Nat.{add-zero}
+use native.Mathlib.Numerals.{add-one, add-two, add-four, add-six}
+use native.Mathlib.Omega.{arith}
+use lib.Dec.{eqb}
+use lib.ListN.{length, set, length-append}
+use lib.Seq.{sets, length-sets}
+use borrow.Author.Tests.{eq-eqb, ne-eqb, le-leb, lt-leb}
+use Rattle.sets.specs.Tests.{pick}
+use Rattle.sets.proofs.Bools.{pick-yes, pick-no}
+use Rattle.plan.specs.declared.Plan.{Plan}
+use Rattle.plan.specs.Plan.{hears, causeOf}
+use Rattle.writer.specs.declared.Written.{Written}
+use Rattle.writer.specs.Written.{hexDigit, hexByte, headLine, linkLine, linkLines, planText, writeCause, writtenOf, putInto}
+use Rattle.writer.proofs.Lines.{head-length, link-length}
+
+-- one list after another
+pub sets-append : (l : List ℕ) (i : ℕ) (xs ys : List ℕ) → sets l i (xs ++ ys) ≡ sets (sets l i xs) (i + length xs) ys
+sets-append l i [] ys = ap (λ (j : ℕ). sets l j ys) (sym (add-zero i))
+sets-append l i (x ∷ xs) ys =
+    let e : suc i + length xs ≡ i + suc (length xs) = omega arith in
+    sets-append (set l i x) (suc i) xs ys ∙ ap (λ (j : ℕ). sets (sets (set l i x) (suc i) xs) j ys) e
+
+-- ---- the links from place k on
+
+pub links-next : (p : Plan) (k : ℕ) → k < 400
+    → linkLines p (400 - k) k ≡ pick (hears p (k % 20) (k / 20)) (linkLine (k / 20) (k % 20)) [] ++ linkLines p (400 - (k + 1)) (k + 1)
+unfolding linkLines
+links-next p k h =
+    let e : 400 - k ≡ suc (400 - (k + 1)) = omega arith in
+    let f : suc k ≡ k + 1 = omega arith in
+    ap (λ (m : ℕ). linkLines p m k) e
+    ∙ ap (λ (j : ℕ). pick (hears p (k % 20) (k / 20)) (linkLine (k / 20) (k % 20)) [] ++ linkLines p (400 - (k + 1)) j) f
+
+module _ (p : Plan) (k : ℕ) (h : k < 400) where
+  pub links-here : hears p (k % 20) (k / 20) ≡ true → linkLines p (400 - k) k ≡ linkLine (k / 20) (k % 20) ++ linkLines p (400 - (k + 1)) (k + 1)
+  links-here e = links-next p k h ∙ ap (λ (l : List ℕ). l ++ linkLines p (400 - (k + 1)) (k + 1)) (pick-yes _ _ _ e)
+
+  pub links-not-here : hears p (k % 20) (k / 20) ≡ false → linkLines p (400 - k) k ≡ linkLines p (400 - (k + 1)) (k + 1)
+  links-not-here e = links-next p k h ∙ ap (λ (l : List ℕ). l ++ linkLines p (400 - (k + 1)) (k + 1)) (pick-no _ _ _ e)
+
+pub links-none : (p : Plan) (k : ℕ) → 400 ≤ k → linkLines p (400 - k) k ≡ []
+unfolding linkLines
+links-none p k h =
+    let e : 400 - k ≡ 0 = omega arith in
+    ap (λ (m : ℕ). linkLines p m k) e
+
+-- ---- a turn of each loop over the places
+
+-- the links of the places before k are put: those from k on have room, and with them the list is what it shall be
+abbrev pub Putting : Plan → List ℕ → List ℕ → ℕ → ℕ → Type 0
+Putting p before out at k =
+    (k ≤ 400) × (length out ≡ length before) × (at + length (linkLines p (400 - k) k) ≤ length out)
+    × (sets out at (linkLines p (400 - k) k) ≡ sets before 9 (linkLines p 400 0))
+
+-- place k passed, with its link put or without
+abbrev pub Turn : Bool → ℕ → List ℕ → List ℕ → ℕ → ℕ → Type 0
+Turn b k out next at on =
+    ((b ≡ true) × (next ≡ sets out at (linkLine (k / 20) (k % 20))) × (on ≡ at + 7)) ⊎ ((b ≡ false) × (next ≡ out) × (on ≡ at))
+
+module _ (p : Plan) (k : ℕ) (h : k < 400) (b : Bool) (e : b ≡ hears p (k % 20) (k / 20)) where
+  pub len-turn : (len next total : ℕ) → ((b ≡ true) × (next ≡ len + 7)) ⊎ ((b ≡ false) × (next ≡ len)) → len + length (linkLines p (400 - k) k) ≡ total
+      → next + length (linkLines p (400 - (k + 1)) (k + 1)) ≡ total
+  len-turn len next total (inl w) i =
+      let l : length (linkLines p (400 - k) k) ≡ length (linkLine (k / 20) (k % 20) ++ linkLines p (400 - (k + 1)) (k + 1)) =
+      ap length (links-here p k h (sym e ∙ w .0)) in
+      let s : length (linkLine (k / 20) (k % 20) ++ linkLines p (400 - (k + 1)) (k + 1))
+      ≡ length (linkLine (k / 20) (k % 20)) + length (linkLines p (400 - (k + 1)) (k + 1)) =
+      length-append (linkLine (k / 20) (k % 20)) (linkLines p (400 - (k + 1)) (k + 1)) in
+      let seven : length (linkLine (k / 20) (k % 20)) ≡ 7 = link-length (k / 20) (k % 20) in
+      let n : next ≡ len + 7 = w .1 in
+      omega arith
+  len-turn len next total (inr w) i =
+      let l : length (linkLines p (400 - k) k) ≡ length (linkLines p (400 - (k + 1)) (k + 1)) = ap length (links-not-here p k h (sym e ∙ w .0)) in
+      let n : next ≡ len = w .1 in
+      omega arith
+
+  pub room-here : (at room : ℕ) → b ≡ true → at + length (linkLines p (400 - k) k) ≤ room → at + 7 ≤ room
+  room-here at room t r =
+      let l : at + 7 + length (linkLines p (400 - (k + 1)) (k + 1)) ≡ at + length (linkLines p (400 - k) k) =
+      len-turn at (at + 7) (at + length (linkLines p (400 - k) k)) (inl (t, refl)) refl in
+      omega arith
+
+  list-turn : (out next all : List ℕ) (at on : ℕ) → Turn b k out next at on → sets out at (linkLines p (400 - k) k) ≡ all
+      → sets next on (linkLines p (400 - (k + 1)) (k + 1)) ≡ all
+  list-turn out next all at on (inl w) i =
+      let f : on ≡ at + length (linkLine (k / 20) (k % 20)) = w .2 ∙ ap (λ (n : ℕ). at + n) (sym (link-length (k / 20) (k % 20))) in
+      ap₂ (λ (l : List ℕ) (j : ℕ). sets l j (linkLines p (400 - (k + 1)) (k + 1))) (w .1) f
+      ∙ sym (sets-append out at (linkLine (k / 20) (k % 20)) (linkLines p (400 - (k + 1)) (k + 1)))
+      ∙ ap (sets out at) (sym (links-here p k h (sym e ∙ w .0)))
+      ∙ i
+  list-turn out next all at on (inr w) i =
+      ap₂ (λ (l : List ℕ) (j : ℕ). sets l j (linkLines p (400 - (k + 1)) (k + 1))) (w .1) (w .2)
+      ∙ ap (sets out at) (sym (links-not-here p k h (sym e ∙ w .0)))
+      ∙ i
+
+  length-turn : (out next : List ℕ) (at on : ℕ) → Turn b k out next at on → length next ≡ length out
+  length-turn out next at on (inl w) = ap length (w .1) ∙ length-sets out at (linkLine (k / 20) (k % 20))
+  length-turn out next at on (inr w) = ap length (w .1)
+
+  pub put-turn : (before out next : List ℕ) (at on : ℕ) → Turn b k out next at on → Putting p before out at k → Putting p before next on (k + 1)
+  put-turn before out next at on t i =
+      let same : length next ≡ length out = length-turn out next at on t in
+      let l : on + length (linkLines p (400 - (k + 1)) (k + 1)) ≡ at + length (linkLines p (400 - k) k) =
+      len-turn at on (at + length (linkLines p (400 - k) k)) (⊎-elim (λ w. inl (w .0, w .2)) (λ w. inr (w .0, w .2)) t) refl in
+      (omega arith, same ∙ i .1, omega arith, list-turn out next (sets before 9 (linkLines p 400 0)) at on t (i .3))
+
+-- ---- bytes put one after the other
+
+pub byte-put : (out : List ℕ) (at b x y : ℕ) → x ≡ hexDigit (b / 16) → y ≡ hexDigit (b % 16) → set (set out at x) (at + 1) y ≡ sets out at (hexByte b)
+unfolding hexByte
+byte-put out at b x y e f = rw (e, f, add-one) refl
+
+pub head-put : (p : Plan) (out o₁ o₂ o₃ o₄ : List ℕ) → o₁ ≡ sets out 0 (hexByte 1) → o₂ ≡ sets o₁ 2 (hexByte (p .n)) → o₃ ≡ sets o₂ 4 (hexByte (p .source))
+    → o₄ ≡ sets o₃ 6 (hexByte (p .f)) → set o₄ 8 10 ≡ sets out 0 (headLine p)
+unfolding hexByte headLine
+head-put p out o₁ o₂ o₃ o₄ a b c d = rw (d, c, b, a) refl
+
+pub link-put : (out o₁ o₂ o₃ : List ℕ) (at from to : ℕ) → o₁ ≡ sets out at (hexByte 2) → o₂ ≡ sets o₁ (at + 2) (hexByte from)
+    → o₃ ≡ sets o₂ (at + 4) (hexByte to) → set o₃ (at + 6) 10 ≡ sets out at (linkLine from to)
+unfolding hexByte linkLine
+link-put out o₁ o₂ o₃ at from to a b c = rw (c, b, a, add-two, add-four, add-six) refl
+
+-- ---- the answers
+
+text-length : (p : Plan) → length (planText p) ≡ 9 + length (linkLines p 400 0)
+unfolding planText
+text-length p = length-append (headLine p) (linkLines p 400 0) ∙ ap (λ (n : ℕ). n + length (linkLines p 400 0)) (head-length p)
+
+cause-unsound : (p : Plan) (room : ℕ) → (causeOf p ≡ 0 → ⊥) → writeCause p room ≡ causeOf p
+unfolding writeCause
+cause-unsound p room h = pick-no _ _ _ (ne-eqb (causeOf p) 0 h)
+
+module _ (p : Plan) (room : ℕ) (sound : causeOf p ≡ 0) where
+  pub cause-short : room < 9 + length (linkLines p 400 0) → writeCause p room ≡ 12
+  unfolding writeCause
+  cause-short h =
+      pick-yes _ _ _ (eq-eqb (causeOf p) 0 sound) ∙ pick-no _ _ _ (lt-leb (length (planText p)) room (omega (arith, text-length p)))
+
+  cause-none : 9 + length (linkLines p 400 0) ≤ room → writeCause p room ≡ 0
+  unfolding writeCause
+  cause-none h =
+      pick-yes _ _ _ (eq-eqb (causeOf p) 0 sound) ∙ pick-yes _ _ _ (le-leb (length (planText p)) room (omega (arith, text-length p)))
+
+-- a refused call
+pub refused : (p : Plan) (out : List ℕ) (cause : ℕ) → writeCause p (length out) ≡ cause → (cause ≡ 0 → ⊥)
+    → (_≡_ {A = Written} (record { number = cause; len = 0 }) (writtenOf p (length out))) × (out ≡ putInto p out)
+unfolding writtenOf putInto
+refused p out cause e h =
+    let n : eqb (writeCause p (length out)) 0 ≡ false = ne-eqb (writeCause p (length out)) 0 (λ z. h (sym e ∙ z)) in
+    (ap (λ (x : ℕ). record { number = x; len = 0 }) (sym e) ∙ sym (pick-no _ _ _ n), sym (pick-no _ _ _ n))
+
+pub refused-unsound : (p : Plan) (out : List ℕ) (cause : ℕ) → causeOf p ≡ cause → (cause ≡ 0 → ⊥)
+    → (_≡_ {A = Written} (record { number = cause; len = 0 }) (writtenOf p (length out))) × (out ≡ putInto p out)
+refused-unsound p out cause e h = refused p out cause (cause-unsound p (length out) (λ z. h (sym e ∙ z)) ∙ e) h
+
+-- a call that is done
+pub done : (p : Plan) (out o₁ o₂ : List ℕ) (links : ℕ) → links ≡ length (linkLines p 400 0) → causeOf p ≡ 0 → 9 + links ≤ length out → o₁ ≡ sets out 0 (headLine p)
+    → o₂ ≡ sets o₁ 9 (linkLines p 400 0)
+    → (_≡_ {A = Written} (record { number = 0; len = 9 + links }) (writtenOf p (length out))) × (o₂ ≡ putInto p out)
+unfolding writtenOf putInto planText
+done p out o₁ o₂ links l s h a b =
+    let n : eqb (writeCause p (length out)) 0 ≡ true = eq-eqb (writeCause p (length out)) 0 (cause-none p (length out) s (omega arith)) in
+    let all : 9 + links ≡ length (planText p) = omega (arith, text-length p) in
+    let nine : 9 ≡ 0 + length (headLine p) = omega (arith, head-length p) in (
+      ap (λ (x : ℕ). record { number = 0; len = x }) all ∙ sym (pick-yes _ _ _ n),
+      b
+          ∙ ap (λ (l : List ℕ). sets l 9 (linkLines p 400 0)) a
+          ∙ ap (λ (j : ℕ). sets (sets out 0 (headLine p)) j (linkLines p 400 0)) nine
+          ∙ sym (sets-append out 0 (headLine p) (linkLines p 400 0))
+          ∙ sym (pick-yes _ _ _ n),
+    )

@@ -1,0 +1,49 @@
+-- The plan's soundness decides. Assumes nothing.
+use mathlib.Core.Path.{sym, ap, _∙_}
+use Rattle.plan.specs.Plan.{numberOf}
+use Rattle.writer.proofs.WriteLaws.{refused-unsound}
+use native.Mathlib.Omega.{arith}
+use borrow.Author.Needs.{needs}
+use Rattle.writer.proofs.write_plan.Statement.{statement}
+use Rattle.writer.proofs.write_plan.Tie as tie
+
+check-requires : tie.Need-check-requires
+check-requires c κs = search needs
+
+enum-told : tie.Need-enum-told
+enum-told c = search needs
+
+put-plan-requires : tie.Need-put-plan-requires
+put-plan-requires c κs = sym (c .before .before .before .check .ensures) ∙ ap numberOf (c .before .enum-told .given .1)
+
+enum-told-2 : tie.Need-enum-told-2
+enum-told-2 c = search needs
+
+enum-told-3 : tie.Need-enum-told-3
+enum-told-3 c = search needs
+
+same-length : tie.Need-same-length
+same-length c = search needs
+
+returns : tie.Need-returns
+returns c = search needs
+
+returns-2 : tie.Need-returns-2
+returns-2 c = refused-unsound (c .before .before .before .before .args .p) (c .before .before .before .before .args .out .now) 4 (sym (c .before .before .check .ensures) ∙ ap numberOf (c .enum-told2 .given .1)) (λ z. omega arith)
+
+returns-3 : tie.Need-returns-3
+returns-3 c = refused-unsound (c .before .before .before .before .args .p) (c .before .before .before .before .args .out .now) 5 (sym (c .before .before .check .ensures) ∙ ap numberOf (c .enum-told3 .given .1)) (λ z. omega arith)
+
+pub write-plan-spec : {M : Type 1} → statement M
+write-plan-spec =
+    tie.close
+    (tie.spec
+    check-requires
+    enum-told
+    put-plan-requires
+    enum-told-2
+    enum-told-3
+    same-length
+    returns
+    returns-2
+    returns-3)

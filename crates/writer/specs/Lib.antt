@@ -1,0 +1,2 @@
+-- What the contract of the plan's writer cites.
+pub mod Written
