@@ -1,5 +1,5 @@
 -- The number of the run's first cause, by the tests that decide it. Assumes nothing.
-use Prim.Native.Nat.{ℕ, _*_, _≤_}
+use Prim.Native.Nat.{ℕ, _+_, _*_, _≤_}
 use mathlib.Core.Path.{_≡_, refl, sym, ap, _∙_}
 use mathlib.Core.Bool.{Bool, true, false, not}
 use mathlib.Core.List.{[], _∷_}
@@ -17,7 +17,7 @@ use Rattle.partition.specs.Answer.{faultCauseOf}
 use Rattle.partition.proofs.Laws.{fault-sound}
 use Rattle.simulation.specs.declared.Outcome.{Outcome}
 use Rattle.simulation.specs.declared.Outcome.the-variants.{Played, WrongRange, WrongLink, WrongMember, OverBound, WrongStart, WrongLength}
-use Rattle.simulation.specs.Answer.{numberOf, startSound, runCause}
+use Rattle.simulation.specs.Answer.{numberOf, startSound, runCause, turnsOf}
 use Rattle.simulation.proofs.Outcome.{the-type}
 
 -- an outcome other than Played has a number that is not 0
@@ -48,6 +48,14 @@ module _ (p : Plan) (faulty value rounds words places : ℕ) where
   pub cause-fault : (k : ℕ) → k ≡ faultCauseOf p faulty → eqb k 0 ≡ false → k ≡ runCause p faulty value rounds words places
   unfolding runCause
   cause-fault k e z = e ∙ sym (pick-no _ _ _ (ap (λ (x : ℕ). eqb x 0) (sym e) ∙ z))
+
+  pub turns-played : runCause p faulty value rounds words places ≡ 0 → (rounds + 1) * p .n ≡ turnsOf p faulty value rounds words places
+  unfolding turnsOf
+  turns-played e = sym (pick-yes _ _ _ (eq-eqb _ _ e))
+
+  pub turns-refused : (k : ℕ) → k ≡ runCause p faulty value rounds words places → eqb k 0 ≡ false → 0 ≡ turnsOf p faulty value rounds words places
+  unfolding turnsOf
+  turns-refused k e z = sym (pick-no _ _ _ (ap (λ (x : ℕ). eqb x 0) (sym e) ∙ z))
 
   -- what an accepted call has
   pub accepted-run : runCause p faulty value rounds words places ≡ 0

@@ -1,15 +1,18 @@
 -- Demand 3 of the run's own records, from the theory. Assumes nothing.
-use Prim.Native.Nat.{ℕ, _≤_, _<_, _-_}
+use Prim.Native.Nat.{ℕ, suc, _*_, _≤_, _<_, _-_}
 use mathlib.Core.Path.{_≡_, refl, sym, ap, _∙_, subst, fun-ext}
 use mathlib.Core.Bool.{Bool, true, false}
 use mathlib.Core.List.{List}
+use mathlib.Core.Logic.{⊎-elim}
+use native.Mathlib.Nat.{not-suc-le-zero}
+use native.Mathlib.Numerals.{add-one}
 use native.Mathlib.Omega.{arith}
 use lib.Dec.{eqb}
 use lib.ListN.{length, getD, replicate}
-use borrow.Author.Tests.{eq-eqb}
+use borrow.Author.Tests.{eqb-true, eq-eqb}
 use Rattle.sets.specs.Tests.{pick}
 use Rattle.sets.specs.Sets.{mem}
-use Rattle.sets.proofs.Bools.{pick-yes, pick-no}
+use Rattle.sets.proofs.Bools.{decide, pick-yes, pick-no}
 use Rattle.terminal.specs.declared.State.the-variants.{Waiting, Taken}
 use Rattle.terminal.specs.declared.Record.{Record}
 use Rattle.terminal.specs.Rule.{start}
@@ -22,9 +25,11 @@ use Rattle.propagation.specs.Run.{Script, silence, table, sites, site}
 use Rattle.propagation.specs.Demand3.{Good, Demand3}
 use Rattle.propagation.proofs.Demand3.{demand3}
 use Rattle.propagation.proofs.Rounds.{table-at}
-use Rattle.simulation.specs.Turns.{scriptOf}
-use Rattle.simulation.specs.Answer.{runCause, recordsAfter, arrayAfter, Demand3Holds}
-use Rattle.simulation.proofs.Causes.{accepted-run}
+use Rattle.simulation.specs.declared.Turn.{Turn}
+use Rattle.simulation.specs.Turns.{scriptOf, firstTurn, playedAfter, CanPlay, leftAfter}
+use Rattle.simulation.specs.Answer.{runCause, turnsOf, recordsAfter, arrayAfter, Demand3Holds}
+use Rattle.simulation.proofs.Causes.{accepted-run, turns-played, turns-refused}
+use Rattle.simulation.proofs.Walk.{walk-is, turn-placed}
 
 -- a list of words that are all 0 is the silent script
 silent-words : (n : ℕ) (words : List ℕ) → ((k : ℕ) → getD words k 0 ≡ 0) → scriptOf n words ≡ silence
@@ -62,3 +67,54 @@ array-promised p faulty value rounds words e records q =
     (λ b k.
     ap (λ (l : List Record). getD l b start) q
     ∙ table-at 20 (site p faulty value (scriptOf (p .n) words) rounds) b (let t = sound p (a .0) .twenty in omega arith))
+
+-- ---- the records that are lent
+
+module _ (p : Plan) (faulty value rounds : ℕ) (words : List ℕ) (ys : List Record) where
+  abbrev cause : ℕ
+  cause = runCause p faulty value rounds (length words) (length ys)
+
+  abbrev count : ℕ
+  count = turnsOf p faulty value rounds (length words) (length ys)
+
+  played-is : cause ≡ 0 → leftAfter words (firstTurn p faulty value) ys count ≡ recordsAfter p faulty value rounds words ys
+  unfolding recordsAfter
+  played-is e =
+      let a = accepted-run p faulty value rounds (length words) (length ys) e in
+      ap (leftAfter words (firstTurn p faulty value) ys)
+      (sym (turns-played p faulty value rounds (length words) (length ys) e) ∙ ap (λ (m : ℕ). m * p .n) (add-one rounds))
+      ∙ walk-is p (a .0) faulty value (λ z. let v = a .2 in omega arith) words (a .1) ys (a .5) rounds (a .3)
+      ∙ sym (pick-yes _ _ _ (eq-eqb _ _ e))
+
+  refused-is : eqb cause 0 ≡ false → leftAfter words (firstTurn p faulty value) ys count ≡ recordsAfter p faulty value rounds words ys
+  unfolding recordsAfter playedAfter
+  refused-is z =
+      ap (leftAfter words (firstTurn p faulty value) ys) (sym (turns-refused p faulty value rounds (length words) (length ys) cause refl z))
+      ∙ sym (pick-no _ _ _ z)
+
+  -- the turns of a run leave the records that its contract says
+  pub lent-left : (t : Turn) (n : ℕ) → t ≡ firstTurn p faulty value → n ≡ count → leftAfter words t ys n ≡ recordsAfter p faulty value rounds words ys
+  lent-left t n e f =
+      (λ i. leftAfter words (e i) ys (f i)) ∙ ⊎-elim (λ y. played-is (eqb-true cause 0 y)) refused-is (decide (eqb cause 0))
+
+  can-first : CanPlay words (firstTurn p faulty value) ys count
+  can-first k l =
+      ⊎-elim
+      (λ y.
+      let e = eqb-true cause 0 y in
+      let a = accepted-run p faulty value rounds (length words) (length ys) e in
+      let c : k < suc rounds * p .n = subst (λ (m : ℕ). k < m) (sym (turns-played p faulty value rounds (length words) (length ys) e) ∙ ap (λ (m : ℕ). m * p .n) (add-one rounds)) l in
+      turn-placed p (a .0) faulty value (λ z. let v = a .2 in omega arith) words (a .1) ys (let q = a .5 in omega arith) rounds (a .3) k c _ refl)
+      (λ z. absurd (not-suc-le-zero (subst (λ (m : ℕ). k < m) (sym (turns-refused p faulty value rounds (length words) (length ys) cause refl z)) l)))
+      (decide (eqb cause 0))
+
+  -- each of them can be played
+  pub lent-ready : (t : Turn) (n : ℕ) → t ≡ firstTurn p faulty value → n ≡ count → CanPlay words t ys n
+  lent-ready t n e f = subst (λ (u : Turn). CanPlay words u ys n) (sym e) (subst (CanPlay words (firstTurn p faulty value) ys) (sym f) can-first)
+
+  pub lent-promised : cause ≡ 0 → (records : List Record) → records ≡ recordsAfter p faulty value rounds words ys → Demand3Holds p faulty value rounds words records
+  unfolding recordsAfter site
+  lent-promised e records q =
+      let a = accepted-run p faulty value rounds (length words) (length ys) e in
+      promised p (a .0) faulty value rounds (a .1) (a .2) words records
+      (λ b k. ap (λ (l : List Record). getD l b start) (q ∙ pick-yes _ _ _ (eq-eqb _ _ e)))

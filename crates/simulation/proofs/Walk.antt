@@ -32,7 +32,7 @@ use Rattle.propagation.proofs.Safety.{safe, state-cases, not-both}
 use Rattle.propagation.proofs.Liveness.{source-taken}
 use Rattle.simulation.specs.declared.Turn.{Turn}
 use Rattle.simulation.specs.declared.Made.{Made}
-use Rattle.simulation.specs.Turns.{scriptOf, heardIn, listOf, recordOf, nextTurn, madeOf, Played, playOne, playedAfter, firstTurn}
+use Rattle.simulation.specs.Turns.{scriptOf, heardIn, listOf, recordOf, nextTurn, madeOf, Played, playOne, playedAfter, firstTurn, Ready}
 use Rattle.simulation.proofs.Lists.{list-length, list-at}
 
 pub played-add : (words : List ℕ) (s : Played) (a b : ℕ) → playedAfter words s (a + b) ≡ playedAfter words (playedAfter words s a) b
@@ -309,23 +309,37 @@ module _ (p : Plan) (checked : plan.causeOf p ≡ 0) (faulty value : ℕ) (layou
       subst (At ys q b) (sym (played-add words (record { turn = firstTurn p faulty value; records = ys }) (q * p .n) b))
       (in-round ys q (playedAfter words (record { turn = firstTurn p faulty value; records = ys }) (q * p .n)) (rounds-on ys l q (omega arith)) h l b k)
 
-  pub turn-ready : (ys : List Record) → p .n ≤ length ys → (r : ℕ) → r ≤ 40 → (k : ℕ) → k < suc r * p .n → (t : Turn)
-      → t ≡ playedAfter words (record { turn = firstTurn p faulty value; records = ys }) k .turn
-      → (t .plan .n ≤ 20) × (t .at < t .plan .n) × (t .round ≤ 40)
-  turn-ready ys l r h k m t e =
+  on-the-way : (ys : List Record) → p .n ≤ length ys → (r : ℕ) → r ≤ 40 → (k : ℕ) → k < suc r * p .n
+      → (k / p .n ≤ 40) × (k % p .n < p .n) × At ys (k / p .n) (k % p .n) (playedAfter words (record { turn = firstTurn p faulty value; records = ys }) k)
+  on-the-way ys l r h k m =
       let two = sound p checked .two in
       let pos : 0 < p .n = omega arith in
       let q : k / p .n < suc r = div-lt-iff-lt-mul pos .1 m in
       let b : k % p .n < p .n = mod-lt k pos in
-      let s : k / p .n * p .n + k % p .n ≡ k = div-add-mod' k (p .n) in
-      let a = subst (λ (x : ℕ). At ys (k / p .n) (k % p .n) (playedAfter words (record { turn = firstTurn p faulty value; records = ys }) x)) s
-      (turn-at ys l (k / p .n) (k % p .n) (omega arith) b) in
-      let pl : t .plan ≡ p = ap (λ (x : Turn). x .plan) e ∙ a .plan-is in
-      let an : t .plan .n ≡ p .n = ap (λ (x : Plan). x .n) pl in
+      let s : k / p .n * p .n + k % p .n ≡ k = div-add-mod' k (p .n) in (
+        omega arith,
+        b,
+        subst (λ (x : ℕ). At ys (k / p .n) (k % p .n) (playedAfter words (record { turn = firstTurn p faulty value; records = ys }) x)) s
+            (turn-at ys l (k / p .n) (k % p .n) (omega arith) b),
+      )
+
+  pub turn-placed : (ys : List Record) → p .n ≤ length ys → (r : ℕ) → r ≤ 40 → (k : ℕ) → k < suc r * p .n → (t : Turn)
+      → t ≡ playedAfter words (record { turn = firstTurn p faulty value; records = ys }) k .turn → Ready t (length ys)
+  turn-placed ys l r h k m t e =
+      let w = on-the-way ys l r h k m in
+      let a = w .2 in
+      let q = w .0 in
+      let b = w .1 in
+      let an : t .plan .n ≡ p .n = ap (λ (x : Turn). x .plan .n) e ∙ ap (λ (x : Plan). x .n) (a .plan-is) in
       let aa : t .at ≡ k % p .n = ap (λ (x : Turn). x .at) e ∙ a .at-is in
       let ar : t .round ≡ k / p .n = ap (λ (x : Turn). x .round) e ∙ a .round-is in
       let tw : p .n ≤ 20 = sound p checked .twenty in
-      (omega arith, omega arith, omega arith)
+      record { twenty = omega arith; within = omega arith; early = omega arith; place = omega arith }
+
+  pub turn-ready : (ys : List Record) → p .n ≤ length ys → (r : ℕ) → r ≤ 40 → (k : ℕ) → k < suc r * p .n → (t : Turn)
+      → t ≡ playedAfter words (record { turn = firstTurn p faulty value; records = ys }) k .turn
+      → (t .plan .n ≤ 20) × (t .at < t .plan .n) × (t .round ≤ 40)
+  turn-ready ys l r h k m t e = let w = turn-placed ys l r h k m t e in (w .twenty, w .within, w .early)
 
   -- the records in an array of twenty
   pub walk-array : (r : ℕ) → r ≤ 40
@@ -360,3 +374,8 @@ unfolding playedAfter playOne
 turn-on words s₀ k t records made e q =
     (λ i. record { turn = q i .turn; records = set records (t .at) (q i .after) })
     ∙ ap (playOne words) e ∙ ap (playedAfter words s₀) (sym (add-one k))
+
+pub played-length : (words : List ℕ) (s : Played) (k : ℕ) → length (playedAfter words s k .records) ≡ length (s .records)
+unfolding playedAfter playOne
+played-length words s zero = refl
+played-length words s (suc k) = length-set (playedAfter words s k .records) _ _ ∙ played-length words s k

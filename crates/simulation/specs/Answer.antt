@@ -1,5 +1,5 @@
 -- What the run answers for all arguments: document 01's number for each cause of refusal, and the records. Assumes nothing.
-use Prim.Native.Nat.{ℕ, _*_, _-_, _≤_, _<_}
+use Prim.Native.Nat.{ℕ, _+_, _*_, _-_, _≤_, _<_}
 use mathlib.Core.Path.{_≡_}
 use mathlib.Core.Bool.{Bool, true, false, not}
 use mathlib.Core.List.{List}
@@ -39,6 +39,10 @@ runCause p faulty value rounds words places =
     pick (eqb (faultCauseOf p faulty) 0)
     (pick (startSound value rounds) (pick (eqb words (rounds * (p .n * p .n)) and eqb places (p .n)) 0 12) 9)
     (faultCauseOf p faulty)
+
+-- the turns that the run is played in: one for each terminal in round 0 and in each round after it; none where the call is refused
+unfoldable pub turnsOf : Plan → ℕ → ℕ → ℕ → ℕ → ℕ → ℕ
+turnsOf p faulty value rounds words places = pick (eqb (runCause p faulty value rounds words places) 0) ((rounds + 1) * p .n) 0
 
 -- the records afterwards: those of the run by the rules, or where the call is refused those that were there
 unfoldable pub recordsAfter : Plan → ℕ → ℕ → ℕ → List ℕ → List Record → List Record

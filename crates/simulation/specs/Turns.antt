@@ -1,10 +1,10 @@
 -- The run as the code plays it: one record a turn, terminal by terminal, round by round; round 0 writes the start records. No caller sees this:
 -- proofs/Walk.antt shows that the records are those of the run by the rules. Assumes nothing.
-use Prim.Native.Nat.{ℕ, zero, suc, _+_, _-_, _*_}
+use Prim.Native.Nat.{ℕ, zero, suc, _+_, _-_, _*_, _≤_, _<_}
 use mathlib.Core.Bool.{Bool}
 use mathlib.Core.List.{List, [], _∷_}
 use lib.Dec.{eqb, ltb}
-use lib.ListN.{getD, set, take, replicate}
+use lib.ListN.{length, getD, set, take, replicate}
 use Rattle.sets.specs.Tests.{pick}
 use Rattle.sets.specs.Sets.{mem}
 use Rattle.terminal.specs.declared.Record.{Record}
@@ -84,3 +84,18 @@ playedAfter words s (suc k) = playOne words (playedAfter words s k)
 -- the first turn
 abbrev pub firstTurn : Plan → ℕ → ℕ → Turn
 firstTurn p faulty value = record { plan = p; faulty = faulty; value = value; round = 0; at = 0; spoken = replicate 20 0; next = replicate 20 0 }
+
+-- a turn that can be played on some places
+pub record Ready (t : Turn) (places : ℕ) : Type 0 where
+  pub twenty : t .plan .n ≤ 20
+  pub within : t .at < t .plan .n
+  pub early : t .round ≤ 40
+  pub place : t .at < places
+
+-- each of the turns on from t can be played
+abbrev pub CanPlay : List ℕ → Turn → List Record → ℕ → Type 0
+CanPlay words t records turns = (k : ℕ) → k < turns → Ready (playedAfter words (record { turn = t; records = records }) k .turn) (length records)
+
+-- the records that the turns on from t leave
+abbrev pub leftAfter : List ℕ → Turn → List Record → ℕ → List Record
+leftAfter words t records turns = playedAfter words (record { turn = t; records = records }) turns .records

@@ -11,8 +11,8 @@ ghost use Rattle.plan.specs.Plan.{causeOf};
 ghost use Rattle.propagation.specs.FaultSet.{isFaultSet};
 ghost use Rattle.propagation.specs.Run.{table, site};
 ghost use Rattle.partition.specs.Answer.{faultNumberOf};
-ghost use Rattle.simulation.specs.Turns.{scriptOf, firstTurn};
-ghost use Rattle.simulation.specs.Answer.{numberOf, startSound, runCause, arrayAfter, Demand3Holds};
+ghost use Rattle.simulation.specs.Turns.{scriptOf, firstTurn, CanPlay, leftAfter};
+ghost use Rattle.simulation.specs.Answer.{numberOf, startSound, runCause, turnsOf, recordsAfter, arrayAfter, Demand3Holds};
 use partition::FaultSetCheck;
 use plan::Plan;
 use terminal::Record;
@@ -49,6 +49,13 @@ pub struct Made {
 pub struct Ran {
     pub outcome: Outcome,
     pub records: [Record; 20],
+}
+
+// The outcome of a run, its first turn, and how many turns it has: none where it is refused.
+pub struct Begun {
+    pub outcome: Outcome,
+    pub turn: Turn,
+    pub turns: usize,
 }
 
 fn first_turn(p: Plan, faulty: u32, value: u16) -> Turn
@@ -152,4 +159,57 @@ pub fn run_site(p: Plan, faulty: u32, value: u16, rounds: u8, words: &[u16]) -> 
         outcome: outcome,
         records: [terminal::start(); 20],
     }
+}
+
+// Judges a run, before a record is touched.
+fn begin(p: Plan, faulty: u32, value: u16, rounds: u8, words: usize, places: usize) -> Begun
+    ensures { λ r. ⌜ (numberOf (r .outcome) ≡ runCause p faulty value rounds words places) × (r .turn ≡ firstTurn p faulty value) × (r .turns ≡ turnsOf p faulty value rounds words places) ⌝ }
+{
+    let outcome = judge(p, faulty, value, rounds, words, places);
+    let turn = first_turn(p, faulty, value);
+    if let Outcome::Played = outcome {
+        return Begun {
+            outcome: Outcome::Played,
+            turn: turn,
+            turns: ((rounds as usize) + 1) * p.n,
+        };
+    }
+    Begun {
+        outcome: outcome,
+        turn: turn,
+        turns: 0,
+    }
+}
+
+// Plays some turns, one record a turn, in place.
+fn play_turns(t: Turn, turns: usize, words: &[u16], records: &mut [Record])
+    requires { ⌜ CanPlay (now words) t (now records) turns ⌝ }
+    ensures { λ _. ⌜ now (records .exit) ≡ leftAfter (now (words .entry)) t (now (records .entry)) turns ⌝ }
+{
+    let mut u = t;
+    let mut k = 0;
+    while k < turns {
+        let m = playing::play(u, words, records[u.at]);
+        records[u.at] = m.after;
+        u = m.turn;
+        k += 1;
+    }
+}
+
+// The run over records that are lent, changed in place. A refused run changes none.
+pub fn run(
+    p: Plan,
+    faulty: u32,
+    value: u16,
+    rounds: u8,
+    words: &[u16],
+    records: &mut [Record],
+) -> Outcome
+    ensures { λ r. ⌜ numberOf r ≡ runCause p faulty value rounds (length (now (words .entry))) (length (now (records .entry))) ⌝ }
+    ensures { λ r. ⌜ now (records .exit) ≡ recordsAfter p faulty value rounds (now (words .entry)) (now (records .entry)) ⌝ }
+    ensures { λ r. ⌜ (numberOf r ≡ 0 → Demand3Holds p faulty value rounds (now (words .entry)) (now (records .exit))) ⌝ }
+{
+    let b = begin(p, faulty, value, rounds, words.len(), records.len());
+    play_turns(b.turn, b.turns, words, records);
+    b.outcome
 }
