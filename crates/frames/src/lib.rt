@@ -5,7 +5,6 @@ mod told;
 ghost use mathlib.Core.Path.{_≡_};
 ghost use Prim.Native.Nat.{_≤_};
 ghost use lib.ListN.{length};
-ghost use Rattle.sets.specs.Tests.{pick};
 ghost use Rattle.frames.specs.Reading.{nothingRead, noWords, reading, planReading, fileRead, runFile, wordsRead};
 use plan::Plan;
 

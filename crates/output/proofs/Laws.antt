@@ -10,7 +10,8 @@ use Rattle.sets.proofs.Bools.{pick-yes, pick-case}
 use Rattle.partition.specs.Answer.{Answer, answerOf}
 use Rattle.frames.specs.Reading.{planReading}
 use Rattle.output.specs.declared.Written.{Written}
-use Rattle.output.specs.Lines.{hexByte, hexPair, hexTriple, refusalLine, verdictLine}
+use Rattle.frames.specs.Digits.{hexByte}
+use Rattle.output.specs.Lines.{hexPair, hexTriple, refusalLine, verdictLine}
 use Rattle.output.specs.Texts.{answerText, verdictText, writtenOf}
 
 written-within : (text : List ℕ) (room : ℕ) → writtenOf text room .len ≤ room

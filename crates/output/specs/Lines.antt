@@ -1,14 +1,7 @@
 -- Output frames (document 01, "Hexadecimal lines"): small digits, two a byte, larger numbers high byte first, each line ended by byte 10. Assumes nothing.
-use Prim.Native.Nat.{ℕ, _+_, _/_, _%_}
+use Prim.Native.Nat.{ℕ, _/_, _%_}
 use mathlib.Core.List.{List, [], _∷_, _++_}
-use lib.Dec.{ltb}
-use Rattle.sets.specs.Tests.{pick}
-
-unfoldable pub hexDigit : ℕ → ℕ
-hexDigit d = pick (ltb d 10) (48 + d) (87 + d)
-
-unfoldable pub hexByte : ℕ → List ℕ
-hexByte b = hexDigit (b / 16) ∷ hexDigit (b % 16) ∷ []
+use Rattle.frames.specs.Digits.{hexByte}
 
 unfoldable pub hexPair : ℕ → List ℕ
 hexPair v = hexByte (v / 256) ++ hexByte (v % 256)

@@ -167,10 +167,6 @@ pub many-none : (n f : ℕ) (P : ℕ → Bool) → ((i : ℕ) → i < n → P i 
 unfolding many
 many-none n f P e = le-ltb f (count n P) (omega (arith, count-none n P e))
 
-pub many-cong : (n f : ℕ) (P Q : ℕ → Bool) → ((i : ℕ) → i < n → P i ≡ Q i) → many n f P ≡ many n f Q
-unfolding many
-many-cong n f P Q e = ap (ltb f) (count-cong n P Q e)
-
 -- ---- sets of n terminals, one within the other
 
 -- a set within another is that set, or has fewer members

@@ -13,7 +13,7 @@ use Rattle.sets.proofs.Laws.{below-or-not}
 use Rattle.frames.specs.declared.frame.Frame.the-variants.{Head, Link}
 use Rattle.frames.specs.Digits.{isFigure, isLetter, isDigit, digitOf, byteAt, allDigits, wellFormed}
 use Rattle.frames.specs.Frames.{headOf, linkOf, kindOf, frameOf}
-use Rattle.writer.specs.Written.{hexDigit, hexByte}
+use Rattle.frames.specs.Digits.{hexDigit, hexByte}
 
 -- ---- one digit
 

@@ -17,7 +17,8 @@ use Rattle.frames.specs.Digits.{allDigits}
 use Rattle.frames.specs.Lines.{Line, ended, linesFrom}
 use Rattle.frames.specs.Frames.{frameOf}
 use Rattle.frames.specs.Reading.{causeIn, after, wordsAfter, told}
-use Rattle.writer.specs.Written.{hexByte, headLine, linkLine, linkLines}
+use Rattle.frames.specs.Digits.{hexByte}
+use Rattle.writer.specs.Written.{headLine, linkLine, linkLines}
 use Rattle.writer.proofs.Digits.{digit-no-end, headDigits, linkDigits, head-digits, link-digits}
 
 -- digits, then byte 10: one line that is ended

@@ -1,20 +1,15 @@
 -- A plan as hexadecimal lines: head, then links by sender, then by hearer (document 01, "Hexadecimal lines"). Assumes nothing.
-use Prim.Native.Nat.{ℕ, zero, suc, _+_, _/_, _%_}
+use Prim.Native.Nat.{ℕ, zero, suc, _/_, _%_}
 use mathlib.Core.Bool.{Bool}
 use mathlib.Core.List.{List, [], _∷_, _++_}
-use lib.Dec.{eqb, leb, ltb}
+use lib.Dec.{eqb, leb}
 use lib.ListN.{length}
 use lib.Seq.{sets}
 use Rattle.sets.specs.Tests.{pick}
 use Rattle.plan.specs.declared.Plan.{Plan}
 use Rattle.plan.specs.Plan.{hears, causeOf}
+use Rattle.frames.specs.Digits.{hexByte}
 use Rattle.writer.specs.declared.Written.{Written}
-
-unfoldable pub hexDigit : ℕ → ℕ
-hexDigit d = pick (ltb d 10) (48 + d) (87 + d)
-
-unfoldable pub hexByte : ℕ → List ℕ
-hexByte b = hexDigit (b / 16) ∷ hexDigit (b % 16) ∷ []
 
 -- 01: n, source, f
 unfoldable pub headLine : Plan → List ℕ
