@@ -1,11 +1,10 @@
 -- The list of a function's values, and a loop that fills it. Assumes nothing.
-use Prim.Native.Nat.{ℕ, zero, suc, _+_, _≤_, _<_}
+use Prim.Native.Nat.{ℕ, zero, suc, _+_, _<_}
 use mathlib.Core.Path.{_≡_, refl, sym, ap, _∙_, subst}
-use mathlib.Core.Logic.{_⊎_, inl, inr, ⊎-elim}
-use mathlib.Core.List.{List, [], _∷_}
+use mathlib.Core.List.{List}
 use native.Mathlib.Nat.{le-of-suc-le-suc, not-suc-le-zero}
 use native.Mathlib.Omega.{arith}
-use lib.ListN.{length, getD, set, length-set}
+use lib.ListN.{length, getD, set}
 use lib.Seq.{ext-getD, getD-set-same, getD-set-other}
 use borrow.Author.Count.{below-more}
 use Rattle.terminal.specs.declared.Record.{Record}
@@ -44,9 +43,3 @@ made-is t words before r s u e q z =
     let w : u ≡ nextTurn t (saysIn (t .round + 1) (recordOf t words before .state)) =
     z ∙ ap (nextTurn t) (q ∙ ap (λ (x : Record). saysIn (t .round + 1) (x .state)) e) in
     λ i. record { turn = w i; after = e i }
-
--- what stands past a list's end does not matter within it
-pub getD-any {ℓ} : {A : Type ℓ} (l : List A) (i : ℕ) (d e : A) → i < length l → getD l i d ≡ getD l i e
-getD-any [] i d e k = absurd (not-suc-le-zero k)
-getD-any (x ∷ l) zero d e k = refl
-getD-any (x ∷ l) (suc i) d e k = getD-any l i d e (le-of-suc-le-suc k)

@@ -1,35 +1,31 @@
 -- Demand 3 of the run's own records, from the theory. Assumes nothing.
-use Prim.Native.Nat.{ℕ, suc, _*_, _≤_, _<_, _-_}
+use Prim.Native.Nat.{ℕ, suc, _*_, _≤_, _<_}
 use mathlib.Core.Path.{_≡_, refl, sym, ap, _∙_, subst, fun-ext}
-use mathlib.Core.Bool.{Bool, true, false}
+use mathlib.Core.Bool.{true, false}
 use mathlib.Core.List.{List}
 use mathlib.Core.Logic.{⊎-elim}
 use native.Mathlib.Nat.{not-suc-le-zero}
 use native.Mathlib.Numerals.{add-one}
 use native.Mathlib.Omega.{arith}
 use lib.Dec.{eqb}
-use lib.ListN.{length, getD, replicate}
+use lib.ListN.{length, getD, replicate, length-replicate}
 use borrow.Author.Tests.{eqb-true, eq-eqb}
 use Rattle.sets.specs.Tests.{pick}
-use Rattle.sets.specs.Sets.{mem}
 use Rattle.sets.proofs.Bools.{decide, pick-yes, pick-no}
-use Rattle.terminal.specs.declared.State.the-variants.{Waiting, Taken}
 use Rattle.terminal.specs.declared.Record.{Record}
 use Rattle.terminal.specs.Rule.{start}
 use Rattle.plan.specs.declared.Plan.{Plan}
 use Rattle.plan.specs.Plan.{causeOf}
 use Rattle.plan.proofs.Laws.{sound}
 use Rattle.propagation.specs.FaultSet.{isFaultSet}
-use Rattle.propagation.specs.Verdict.{verdict}
-use Rattle.propagation.specs.Run.{Script, silence, table, sites, site}
-use Rattle.propagation.specs.Demand3.{Good, Demand3}
+use Rattle.propagation.specs.Run.{silence, table, sites, site}
 use Rattle.propagation.proofs.Demand3.{demand3}
 use Rattle.propagation.proofs.Rounds.{table-at}
 use Rattle.simulation.specs.declared.Turn.{Turn}
 use Rattle.simulation.specs.Turns.{scriptOf, firstTurn, playedAfter, CanPlay, leftAfter}
 use Rattle.simulation.specs.Answer.{runCause, turnsOf, recordsAfter, arrayAfter, Demand3Holds}
 use Rattle.simulation.proofs.Causes.{accepted-run, turns-played, turns-refused}
-use Rattle.simulation.proofs.Walk.{walk-is, turn-placed}
+use Rattle.simulation.proofs.Walk.{walk-is, walk-array, turn-placed}
 
 -- a list of words that are all 0 is the silent script
 silent-words : (n : ℕ) (words : List ℕ) → ((k : ℕ) → getD words k 0 ≡ 0) → scriptOf n words ≡ silence
@@ -47,72 +43,96 @@ promised p c faulty value rounds fault v words records same = record {
       ap (λ (r : Record). r .state) (same b k) ∙ (λ i. site p (f i) value (silent-words (p .n) words z i) rounds b .state) ∙ demand3 p c .silent h value rounds b k m;
 }
 
+-- ---- the turns of a run on a list that has a place for each terminal where the run is accepted
+
+module _ (p : Plan) (faulty value rounds : ℕ) (words : List ℕ) (places : ℕ) (ys : List Record)
+    (room : runCause p faulty value rounds (length words) places ≡ 0 → p .n ≤ length ys)
+    (t : Turn) (n : ℕ) (first : t ≡ firstTurn p faulty value) (turns : n ≡ turnsOf p faulty value rounds (length words) places) where
+  abbrev cause : ℕ
+  cause = runCause p faulty value rounds (length words) places
+
+  all-turns : cause ≡ 0 → n ≡ suc rounds * p .n
+  all-turns e = turns ∙ sym (turns-played p faulty value rounds (length words) places e) ∙ ap (λ (m : ℕ). m * p .n) (add-one rounds)
+
+  no-turns : eqb cause 0 ≡ false → n ≡ 0
+  no-turns z = turns ∙ sym (turns-refused p faulty value rounds (length words) places cause refl z)
+
+  -- each can be played
+  ready : CanPlay words t ys n
+  ready k l =
+      ⊎-elim
+      (λ y.
+      let e = eqb-true cause 0 y in
+      let a = accepted-run p faulty value rounds (length words) places e in
+      turn-placed p (a .0) faulty value (λ z. let v = a .2 in omega arith) words (a .1) ys (room e) rounds (a .3) k
+      (subst (λ (m : ℕ). k < m) (all-turns e) l) _
+      (λ i. playedAfter words (record { turn = first i; records = ys }) k .turn))
+      (λ z. absurd (not-suc-le-zero (subst (λ (m : ℕ). k < m) (no-turns z) l)))
+      (decide (eqb cause 0))
+
+  -- they leave the records after the last round, or where the run is refused those that were there
+  left : (after : List Record) → (cause ≡ 0 → leftAfter words (firstTurn p faulty value) ys (suc rounds * p .n) ≡ after)
+      → leftAfter words t ys n ≡ pick (eqb cause 0) after ys
+  unfolding playedAfter
+  left after walk =
+      ⊎-elim
+      (λ y. let e = eqb-true cause 0 y in (λ i. leftAfter words (first i) ys (all-turns e i)) ∙ walk e ∙ sym (pick-yes _ _ _ y))
+      (λ z. ap (leftAfter words t ys) (no-turns z) ∙ sym (pick-no _ _ _ z))
+      (decide (eqb cause 0))
+
 -- ---- the array of twenty
 
-pub array-played : (p : Plan) (faulty value rounds : ℕ) (words : List ℕ) → runCause p faulty value rounds (length words) (p .n) ≡ 0
-    → table 20 (site p faulty value (scriptOf (p .n) words) rounds) ≡ arrayAfter p faulty value rounds words
-unfolding arrayAfter
-array-played p faulty value rounds words e = sym (pick-yes _ _ _ (eq-eqb _ _ e))
+module _ (p : Plan) (faulty value rounds : ℕ) (words : List ℕ) where
+  array-room : runCause p faulty value rounds (length words) (p .n) ≡ 0 → p .n ≤ length (replicate 20 start)
+  array-room e = let s = sound p (accepted-run p faulty value rounds (length words) (p .n) e .0) .twenty in omega (arith, length-replicate 20 start)
 
-pub array-refused : (p : Plan) (faulty value rounds : ℕ) (words : List ℕ) (k : ℕ) → k ≡ runCause p faulty value rounds (length words) (p .n) → eqb k 0 ≡ false
-    → (x : Record) → x ≡ start → replicate 20 x ≡ arrayAfter p faulty value rounds words
-unfolding arrayAfter table
-array-refused p faulty value rounds words k e z x q = ap (replicate 20) q ∙ sym (pick-no _ _ _ (ap (λ (m : ℕ). eqb m 0) (sym e) ∙ z))
+  pub array-ready : (t : Turn) (n : ℕ) → t ≡ firstTurn p faulty value → n ≡ turnsOf p faulty value rounds (length words) (p .n) → (x : Record) → x ≡ start
+      → CanPlay words t (replicate 20 x) n
+  array-ready t n e f x q =
+      subst (λ (y : Record). CanPlay words t (replicate 20 y) n) (sym q) (ready p faulty value rounds words (p .n) (replicate 20 start) array-room t n e f)
 
-pub array-promised : (p : Plan) (faulty value rounds : ℕ) (words : List ℕ) → runCause p faulty value rounds (length words) (p .n) ≡ 0
-    → (records : List Record) → records ≡ table 20 (site p faulty value (scriptOf (p .n) words) rounds) → Demand3Holds p faulty value rounds words records
-array-promised p faulty value rounds words e records q =
-    let a = accepted-run p faulty value rounds (length words) (p .n) e in
-    promised p (a .0) faulty value rounds (a .1) (a .2) words records
-    (λ b k.
-    ap (λ (l : List Record). getD l b start) q
-    ∙ table-at 20 (site p faulty value (scriptOf (p .n) words) rounds) b (let t = sound p (a .0) .twenty in omega arith))
+  -- the turns leave the records that the contract says
+  pub array-left : (t : Turn) (n : ℕ) → t ≡ firstTurn p faulty value → n ≡ turnsOf p faulty value rounds (length words) (p .n) → (x : Record) → x ≡ start
+      → leftAfter words t (replicate 20 x) n ≡ arrayAfter p faulty value rounds words
+  unfolding arrayAfter table
+  array-left t n e f x q =
+      ap (λ (y : Record). leftAfter words t (replicate 20 y) n) q
+      ∙ left p faulty value rounds words (p .n) (replicate 20 start) array-room t n e f (table 20 (site p faulty value (scriptOf (p .n) words) rounds))
+      (λ h.
+      let a = accepted-run p faulty value rounds (length words) (p .n) h in
+      walk-array p (a .0) faulty value (λ z. let v = a .2 in omega arith) words (a .1) rounds (a .3))
+
+  pub array-promised : runCause p faulty value rounds (length words) (p .n) ≡ 0 → (records : List Record)
+      → records ≡ arrayAfter p faulty value rounds words → Demand3Holds p faulty value rounds words records
+  unfolding arrayAfter
+  array-promised e records q =
+      let a = accepted-run p faulty value rounds (length words) (p .n) e in
+      promised p (a .0) faulty value rounds (a .1) (a .2) words records
+      (λ b k.
+      ap (λ (l : List Record). getD l b start) (q ∙ pick-yes _ _ _ (eq-eqb _ _ e))
+      ∙ table-at 20 (site p faulty value (scriptOf (p .n) words) rounds) b (let t = sound p (a .0) .twenty in omega arith))
 
 -- ---- the records that are lent
 
 module _ (p : Plan) (faulty value rounds : ℕ) (words : List ℕ) (ys : List Record) where
-  abbrev cause : ℕ
-  cause = runCause p faulty value rounds (length words) (length ys)
+  lent-room : runCause p faulty value rounds (length words) (length ys) ≡ 0 → p .n ≤ length ys
+  lent-room e = let q = accepted-run p faulty value rounds (length words) (length ys) e .5 in omega arith
 
-  abbrev count : ℕ
-  count = turnsOf p faulty value rounds (length words) (length ys)
+  pub lent-ready : (t : Turn) (n : ℕ) → t ≡ firstTurn p faulty value → n ≡ turnsOf p faulty value rounds (length words) (length ys) → CanPlay words t ys n
+  lent-ready = ready p faulty value rounds words (length ys) ys lent-room
 
-  played-is : cause ≡ 0 → leftAfter words (firstTurn p faulty value) ys count ≡ recordsAfter p faulty value rounds words ys
+  -- the turns leave the records that the contract says
+  pub lent-left : (t : Turn) (n : ℕ) → t ≡ firstTurn p faulty value → n ≡ turnsOf p faulty value rounds (length words) (length ys)
+      → leftAfter words t ys n ≡ recordsAfter p faulty value rounds words ys
   unfolding recordsAfter
-  played-is e =
-      let a = accepted-run p faulty value rounds (length words) (length ys) e in
-      ap (leftAfter words (firstTurn p faulty value) ys)
-      (sym (turns-played p faulty value rounds (length words) (length ys) e) ∙ ap (λ (m : ℕ). m * p .n) (add-one rounds))
-      ∙ walk-is p (a .0) faulty value (λ z. let v = a .2 in omega arith) words (a .1) ys (a .5) rounds (a .3)
-      ∙ sym (pick-yes _ _ _ (eq-eqb _ _ e))
-
-  refused-is : eqb cause 0 ≡ false → leftAfter words (firstTurn p faulty value) ys count ≡ recordsAfter p faulty value rounds words ys
-  unfolding recordsAfter playedAfter
-  refused-is z =
-      ap (leftAfter words (firstTurn p faulty value) ys) (sym (turns-refused p faulty value rounds (length words) (length ys) cause refl z))
-      ∙ sym (pick-no _ _ _ z)
-
-  -- the turns of a run leave the records that its contract says
-  pub lent-left : (t : Turn) (n : ℕ) → t ≡ firstTurn p faulty value → n ≡ count → leftAfter words t ys n ≡ recordsAfter p faulty value rounds words ys
   lent-left t n e f =
-      (λ i. leftAfter words (e i) ys (f i)) ∙ ⊎-elim (λ y. played-is (eqb-true cause 0 y)) refused-is (decide (eqb cause 0))
+      left p faulty value rounds words (length ys) ys lent-room t n e f (sites p faulty value (scriptOf (p .n) words) rounds)
+      (λ h.
+      let a = accepted-run p faulty value rounds (length words) (length ys) h in
+      walk-is p (a .0) faulty value (λ z. let v = a .2 in omega arith) words (a .1) ys (a .5) rounds (a .3))
 
-  can-first : CanPlay words (firstTurn p faulty value) ys count
-  can-first k l =
-      ⊎-elim
-      (λ y.
-      let e = eqb-true cause 0 y in
-      let a = accepted-run p faulty value rounds (length words) (length ys) e in
-      let c : k < suc rounds * p .n = subst (λ (m : ℕ). k < m) (sym (turns-played p faulty value rounds (length words) (length ys) e) ∙ ap (λ (m : ℕ). m * p .n) (add-one rounds)) l in
-      turn-placed p (a .0) faulty value (λ z. let v = a .2 in omega arith) words (a .1) ys (let q = a .5 in omega arith) rounds (a .3) k c _ refl)
-      (λ z. absurd (not-suc-le-zero (subst (λ (m : ℕ). k < m) (sym (turns-refused p faulty value rounds (length words) (length ys) cause refl z)) l)))
-      (decide (eqb cause 0))
-
-  -- each of them can be played
-  pub lent-ready : (t : Turn) (n : ℕ) → t ≡ firstTurn p faulty value → n ≡ count → CanPlay words t ys n
-  lent-ready t n e f = subst (λ (u : Turn). CanPlay words u ys n) (sym e) (subst (CanPlay words (firstTurn p faulty value) ys) (sym f) can-first)
-
-  pub lent-promised : cause ≡ 0 → (records : List Record) → records ≡ recordsAfter p faulty value rounds words ys → Demand3Holds p faulty value rounds words records
+  pub lent-promised : runCause p faulty value rounds (length words) (length ys) ≡ 0 → (records : List Record)
+      → records ≡ recordsAfter p faulty value rounds words ys → Demand3Holds p faulty value rounds words records
   unfolding recordsAfter site
   lent-promised e records q =
       let a = accepted-run p faulty value rounds (length words) (length ys) e in

@@ -1,34 +1,34 @@
 -- The walk, turn by turn, leaves the records of the run by the rules; no step of rounds 1 to 40 is refused. Assumes nothing.
 use Prim.Native.Nat.{ℕ, zero, suc, _+_, _-_, _*_, _/_, _%_, _≤_, _<_}
 use mathlib.Core.Path.{_≡_, refl, sym, ap, ap₂, _∙_, subst, fun-ext}
-use mathlib.Core.Logic.{_⊎_, inl, inr, ⊎-elim}
-use mathlib.Core.Bool.{Bool, true, false, not}
-use mathlib.Core.List.{List, [], _∷_}
+use mathlib.Core.Logic.{⊎-elim}
+use mathlib.Core.Bool.{Bool, true, false}
+use mathlib.Core.List.{List}
 use native.Mathlib.Nat.{add-zero, add-suc, suc-mul, zero-mul, mod-lt, div-lt-iff-lt-mul, div-add-mod'}
 use native.Mathlib.Numerals.{add-one}
 use native.Mathlib.Omega.{arith}
-use lib.Dec.{eqb, ltb, leb}
+use lib.Dec.{eqb, ltb}
 use lib.ListN.{length, getD, set, take, replicate, length-set, length-replicate, getD-replicate, List·getD-eq-default}
 use lib.Seq.{ext-getD, getD-set-same, getD-set-other, getD-take, length-take-le}
 use borrow.Author.Count.{below-more}
 use borrow.Author.Tests.{lt-ltb, le-ltb, le-leb, eq-eqb, ne-eqb}
 use Rattle.sets.specs.Tests.{_and_, pick}
 use Rattle.sets.specs.Sets.{mem}
-use Rattle.sets.proofs.Bools.{decide, and-i, not-i, pick-yes, pick-no, no-by, clash}
-use Rattle.sets.proofs.Laws.{below-or-not, equal-or-not}
+use Rattle.sets.proofs.Bools.{decide, and-i, not-i, pick-yes, pick-no, no-by}
+use Rattle.sets.proofs.Laws.{below-or-not}
 use Rattle.terminal.specs.declared.State.{State}
 use Rattle.terminal.specs.declared.State.the-variants.{Waiting, Taken}
 use Rattle.terminal.specs.declared.Record.{Record}
 use Rattle.terminal.specs.Rule.{start, step}
-use Rattle.terminal.specs.Answer.{inRange, hearsSoundly, stateSound, recordSound, causeOf, recordAfter}
+use Rattle.terminal.specs.Answer.{stateSound, recordSound, causeOf, recordAfter}
 use Rattle.plan.specs.declared.Plan.{Plan}
 use Rattle.plan.specs.Plan as plan
 use Rattle.plan.specs.Plan.{heardBy, hears}
-use Rattle.plan.proofs.Laws.{Sound, sound, tests, row-of}
+use Rattle.plan.proofs.Laws.{sound, tests, row-of}
 use Rattle.propagation.specs.FaultSet.{isFaultSet}
 use Rattle.propagation.specs.Run.{Script, table, startRecord, saysIn, heardFrom, sites, site}
 use Rattle.propagation.proofs.Rounds.{table-length, table-at, at, word, at-start, at-next, at-faulty, sites-length}
-use Rattle.propagation.proofs.Safety.{safe, state-cases, not-both}
+use Rattle.propagation.proofs.Safety.{safe, not-both}
 use Rattle.propagation.proofs.Liveness.{source-taken}
 use Rattle.simulation.specs.declared.Turn.{Turn}
 use Rattle.simulation.specs.declared.Made.{Made}
@@ -336,11 +336,6 @@ module _ (p : Plan) (checked : plan.causeOf p ≡ 0) (faulty value : ℕ) (layou
       let tw : p .n ≤ 20 = sound p checked .twenty in
       record { twenty = omega arith; within = omega arith; early = omega arith; place = omega arith }
 
-  pub turn-ready : (ys : List Record) → p .n ≤ length ys → (r : ℕ) → r ≤ 40 → (k : ℕ) → k < suc r * p .n → (t : Turn)
-      → t ≡ playedAfter words (record { turn = firstTurn p faulty value; records = ys }) k .turn
-      → (t .plan .n ≤ 20) × (t .at < t .plan .n) × (t .round ≤ 40)
-  turn-ready ys l r h k m t e = let w = turn-placed ys l r h k m t e in (w .twenty, w .within, w .early)
-
   -- the records in an array of twenty
   pub walk-array : (r : ℕ) → r ≤ 40
       → playedAfter words (record { turn = firstTurn p faulty value; records = replicate 20 start }) (suc r * p .n) .records ≡ table 20 (site p faulty value script r)
@@ -360,11 +355,6 @@ module _ (p : Plan) (checked : plan.causeOf p ≡ 0) (faulty value : ℕ) (layou
       ∙ sym (List·getD-eq-default (sites p faulty value script r) start (let e = sites-length p faulty value script r in omega arith)))
       (below-or-not b (p .n))
       ∙ sym (table-at 20 (site p faulty value script r) b kb))
-
--- a walk from a first turn and twenty start records, by whatever names they go
-pub same-start : (words : List ℕ) (p : Plan) (faulty value : ℕ) (t : Turn) (x : Record) (k : ℕ) → t ≡ firstTurn p faulty value → x ≡ start
-    → playedAfter words (record { turn = t; records = replicate 20 x }) k ≡ playedAfter words (record { turn = firstTurn p faulty value; records = replicate 20 start }) k
-same-start words p faulty value t x k e q = λ i. playedAfter words (record { turn = e i; records = replicate 20 (q i) }) k
 
 -- one turn of the loop
 pub turn-on : (words : List ℕ) (s₀ : Played) (k : ℕ) (t : Turn) (records : List Record) (made : Made)

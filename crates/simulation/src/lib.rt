@@ -4,14 +4,10 @@ mod playing;
 ghost use mathlib.Core.Path.{_≡_};
 ghost use Prim.Native.Nat.{_*_, _≤_};
 ghost use lib.ListN.{length};
-ghost use mathlib.Core.Bool.{true};
 ghost use lib.Dec.{eqb};
 ghost use Rattle.sets.specs.Tests.{_and_};
-ghost use Rattle.plan.specs.Plan.{causeOf};
-ghost use Rattle.propagation.specs.FaultSet.{isFaultSet};
-ghost use Rattle.propagation.specs.Run.{table, site};
 ghost use Rattle.partition.specs.Answer.{faultNumberOf};
-ghost use Rattle.simulation.specs.Turns.{scriptOf, firstTurn, CanPlay, leftAfter};
+ghost use Rattle.simulation.specs.Turns.{firstTurn, CanPlay, leftAfter};
 ghost use Rattle.simulation.specs.Answer.{numberOf, startSound, runCause, turnsOf, recordsAfter, arrayAfter, Demand3Holds};
 use partition::FaultSetCheck;
 use plan::Plan;
@@ -122,45 +118,6 @@ fn judge(p: Plan, faulty: u32, value: u16, rounds: u8, words: usize, places: usi
     fault
 }
 
-// The rounds of an accepted run, one record a turn.
-fn play_all(p: Plan, faulty: u32, value: u16, rounds: u8, words: &[u16]) -> [Record; 20]
-    requires { ⌜ (causeOf p ≡ 0) × (isFaultSet p faulty ≡ true) × (1 ≤ value) × (rounds ≤ 40) ⌝ }
-    ensures { λ r. ⌜ r ≡ table 20 (site p faulty value (scriptOf (p .n) (now (words .entry))) rounds) ⌝ }
-{
-    let mut records = [terminal::start(); 20];
-    let mut t = first_turn(p, faulty, value);
-    let turns = ((rounds as usize) + 1) * p.n;
-    let mut k = 0;
-    while k < turns {
-        let at = t.at;
-        let made = playing::play(t, words, records[at]);
-        let after = made.after;
-        records[at] = after;
-        t = made.turn;
-        k += 1;
-    }
-    records
-}
-
-// The run by value.
-pub fn run_site(p: Plan, faulty: u32, value: u16, rounds: u8, words: &[u16]) -> Ran
-    ensures { λ r. ⌜ numberOf (r .outcome) ≡ runCause p faulty value rounds (length (now (words .entry))) (p .n) ⌝ }
-    ensures { λ r. ⌜ r .records ≡ arrayAfter p faulty value rounds (now (words .entry)) ⌝ }
-    ensures { λ r. ⌜ (numberOf (r .outcome) ≡ 0 → Demand3Holds p faulty value rounds (now (words .entry)) (r .records)) ⌝ }
-{
-    let outcome = judge(p, faulty, value, rounds, words.len(), p.n);
-    if let Outcome::Played = outcome {
-        return Ran {
-            outcome: Outcome::Played,
-            records: play_all(p, faulty, value, rounds, words),
-        };
-    }
-    Ran {
-        outcome: outcome,
-        records: [terminal::start(); 20],
-    }
-}
-
 // Judges a run, before a record is touched.
 fn begin(p: Plan, faulty: u32, value: u16, rounds: u8, words: usize, places: usize) -> Begun
     ensures { λ r. ⌜ (numberOf (r .outcome) ≡ runCause p faulty value rounds words places) × (r .turn ≡ firstTurn p faulty value) × (r .turns ≡ turnsOf p faulty value rounds words places) ⌝ }
@@ -193,6 +150,30 @@ fn play_turns(t: Turn, turns: usize, words: &[u16], records: &mut [Record])
         records[u.at] = m.after;
         u = m.turn;
         k += 1;
+    }
+}
+
+// The same on an array by value: whoever has the records in an array calls this, and needs no walk.
+fn play_array(t: Turn, turns: usize, words: &[u16], records: [Record; 20]) -> [Record; 20]
+    requires { ⌜ CanPlay (now words) t records turns ⌝ }
+    ensures { λ r. ⌜ r ≡ leftAfter (now (words .entry)) t records turns ⌝ }
+{
+    let mut s = records;
+    play_turns(t, turns, words, &mut s);
+    s
+}
+
+// The run by value.
+pub fn run_site(p: Plan, faulty: u32, value: u16, rounds: u8, words: &[u16]) -> Ran
+    ensures { λ r. ⌜ numberOf (r .outcome) ≡ runCause p faulty value rounds (length (now (words .entry))) (p .n) ⌝ }
+    ensures { λ r. ⌜ r .records ≡ arrayAfter p faulty value rounds (now (words .entry)) ⌝ }
+    ensures { λ r. ⌜ (numberOf (r .outcome) ≡ 0 → Demand3Holds p faulty value rounds (now (words .entry)) (r .records)) ⌝ }
+{
+    let b = begin(p, faulty, value, rounds, words.len(), p.n);
+    let outcome = b.outcome;
+    Ran {
+        outcome: outcome,
+        records: play_array(b.turn, b.turns, words, [terminal::start(); 20]),
     }
 }
 
