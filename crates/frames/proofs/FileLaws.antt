@@ -23,22 +23,22 @@ unfolding runFile
 wrong-room text room h = pick-no _ _ _ (ne-eqb room 16000 h)
 
 module _ (text : List ℕ) (room : ℕ) (fits : room ≡ 16000) where
-  run-file : runFile text room ≡ whole (reading 5 text)
-  unfolding runFile runReading
+  pub run-file : runFile text room ≡ runReading text
+  unfolding runFile
   run-file = pick-yes _ _ _ (eq-eqb room 16000 fits)
 
   pub run-refused : (reading 5 text .number ≡ 0 → ⊥) → runFile text room ≡ reading 5 text
-  unfolding whole
+  unfolding whole runReading
   run-refused h = run-file ∙ pick-no _ _ _ (and-no-l _ _ (ne-eqb (reading 5 text .number) 0 h))
 
   pub run-early : reading 5 text .number ≡ 0 → (reading 5 text .progress .stage ≡ 3 → ⊥) → runFile text room ≡ refusal 3 0
-  unfolding whole
+  unfolding whole runReading
   run-early h s =
       run-file
       ∙ pick-yes _ _ _ (and-i _ _ (eq-eqb (reading 5 text .number) 0 h) (not-i (ne-eqb (reading 5 text .progress .stage) 3 s)))
 
   pub run-whole : reading 5 text .progress .stage ≡ 3 → runFile text room ≡ reading 5 text
-  unfolding whole
+  unfolding whole runReading
   run-whole s = run-file ∙ pick-no _ _ _ (and-no-r _ _ (not-yes (eq-eqb (reading 5 text .progress .stage) 3 s)))
 
 -- what a caller gets of a file that was found to be this one

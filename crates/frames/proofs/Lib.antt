@@ -1,6 +1,7 @@
--- The laws that the readers' proofs cite, in the order in which they are read: of digits, of what a frame does, of the pass over a file's bytes, and of
--- the file as a whole.
+-- The laws that the readers' proofs cite, in the order in which they are read: of digits, of an accepted file, of what a frame does, of the pass over a
+-- file's bytes, and of the file as a whole. Accepted and FileLaws are for callers too.
 mod DigitLaws
+pub mod Accepted
 mod TellLaws
 mod LineLaws
-mod FileLaws
+pub mod FileLaws

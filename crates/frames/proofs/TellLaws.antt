@@ -1,7 +1,7 @@
 -- What refuses a link or a word, where a word stands, and what an accepted frame keeps. Assumes nothing.
 use Prim.Native.Nat.{ℕ, _+_, _-_, _*_, _≤_, _<_}
 use mathlib.Core.Path.{_≡_, refl, sym, _∙_}
-use mathlib.Core.List.{List}
+use mathlib.Core.List.{List, []}
 use mathlib.Core.Bool.{Bool, true, false, not}
 use native.Mathlib.Nat.{mul-le-mul}
 use native.Mathlib.Omega.{arith}
@@ -9,27 +9,22 @@ use lib.Dec.{eqb, ltb}
 use borrow.Author.Tests.{eq-eqb, ne-eqb, lt-ltb, le-ltb, le-leb, lt-leb, leb-true, ltb-true}
 use Rattle.sets.specs.Tests.{_and_, pick}
 use Rattle.sets.specs.Sets.{mem}
-use Rattle.sets.proofs.Bools.{and-l, and-r, and-i, and-yes, and-no-l, and-no-r, not-i, not-yes, pick-yes, pick-no, pick-case}
+use Rattle.sets.proofs.Bools.{and-l, and-r, and-i, and-yes, and-no-l, and-no-r, not-i, not-yes, pick-yes, pick-no}
 use Rattle.terminal.specs.Answer.{inRange}
 use Rattle.plan.specs.Plan.{hears}
 use Rattle.frames.specs.declared.Progress.{Progress}
 use Rattle.frames.specs.declared.frame.Frame.{Frame}
 use Rattle.frames.specs.declared.frame.Frame.the-variants.{Foreign, Unknown, Head, Link, FaultSet, Start, Message}
 use Rattle.frames.specs.declared.told.Told.{Told}
-use Rattle.frames.specs.Reading.{headCause, linkCause, startCause, isWord, causeIn, linked, after, wordsAfter}
+use Rattle.frames.specs.Reading.{linkCause, isWord, causeIn, linked, after, wordsAfter}
+use Rattle.frames.proofs.Accepted.{head-accepted, link-accepted, start-accepted}
 
 -- ---- a link
 
 -- an accepted link ends at a terminal of the plan
-pub link-accepted : (p : Progress) (from to : ℕ) → linkCause p from to ≡ 0 → to < p .plan .n
-unfolding linkCause
-link-accepted p from to =
-    pick-case (λ (x : ℕ). x ≡ 0 → to < p .plan .n) (eqb (p .stage) 1)
-    (pick (ltb from (p .plan .n) and ltb to (p .plan .n) and not (eqb from to)) (pick (hears (p .plan) to from) 6 0) 5) 3
-    (λ s.
-    pick-case (λ (x : ℕ). x ≡ 0 → to < p .plan .n) (ltb from (p .plan .n) and ltb to (p .plan .n) and not (eqb from to)) (pick (hears (p .plan) to from) 6 0) 5
-    (λ e z. ltb-true to (p .plan .n) (and-l _ _ (and-r _ _ e))) (λ e z. absurd (omega arith)))
-    (λ s z. absurd (omega arith))
+pub link-end : (p : Progress) (from to : ℕ) → linkCause p from to ≡ 0 → to < p .plan .n
+unfolding causeIn
+link-end p from to h = link-accepted p [] from to h .2
 
 module _ (p : Progress) (from to : ℕ) (stage : p .stage ≡ 1) where
   link-wrong : ltb from (p .plan .n) and ltb to (p .plan .n) and not (eqb from to) ≡ false → linkCause p from to ≡ 5
@@ -134,29 +129,16 @@ unfolding pick
 either true words = refl
 either false words = refl
 
--- a choice that is 0 where only its first case can be
-chosen : (b : Bool) (n : ℕ) → (n ≡ 0 → ⊥) → pick b 0 n ≡ 0 → b ≡ true
-unfolding pick
-chosen true n h e = refl
-chosen false n h e = absurd (h e)
-
-first : (b : Bool) (x n : ℕ) → (n ≡ 0 → ⊥) → pick b x n ≡ 0 → x ≡ 0
-unfolding pick
-first true x n h e = e
-first false x n h e = absurd (h e)
-
 -- an accepted frame leaves at most 20 terminals and 40 rounds
 module _ (p : Progress) (words : List ℕ) (twenty : p .plan .n ≤ 20) (forty : p .rounds ≤ 40) where
   kept : (frame : Frame) → causeIn p words frame ≡ 0 → (after p frame .plan .n ≤ 20) × (after p frame .rounds ≤ 40)
-  unfolding causeIn headCause startCause inRange after linked
+  unfolding inRange after linked
   kept Foreign h = (twenty, forty)
   kept Unknown h = (twenty, forty)
-  kept (Head n source f) h =
-      (leb-true n 20 (and-l _ _ (and-r _ _ (chosen _ 4 (λ z. omega arith) (first (eqb (p .stage) 0) _ 3 (λ z. omega arith) h)))), omega arith)
+  kept (Head n source f) h = (leb-true n 20 (and-l _ _ (and-r _ _ (head-accepted p words n source f h .1))), omega arith)
   kept (Link from to) h = (twenty, omega arith)
   kept (FaultSet s) h = (twenty, omega arith)
-  kept (Start value rounds) h =
-      (twenty, leb-true rounds 40 (and-r _ _ (chosen _ 9 (λ z. omega arith) (first (eqb (p .stage) 2) _ 3 (λ z. omega arith) h))))
+  kept (Start value rounds) h = (twenty, leb-true rounds 40 (and-r _ _ (start-accepted p words value rounds h .1)))
   kept (Message round from to value) h = (twenty, forty)
 
   pub kept-next : (frame : Frame) (cause : ℕ) (next : Progress) → cause ≡ causeIn p words frame → cause ≡ 0 → next ≡ after p frame

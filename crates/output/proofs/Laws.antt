@@ -1,18 +1,25 @@
--- The laws of the texts for their callers: what is written lies within the lent list, and 23 bytes are room for every verdict. Assumes nothing.
-use Prim.Native.Nat.{ℕ, _≤_}
-use mathlib.Core.Path.{_≡_, refl, ap}
+-- The laws of the texts for their callers: what is written lies within the lent list; 23 bytes are room for every verdict, 260 for every run. Assumes nothing.
+use Prim.Native.Nat.{ℕ, zero, suc, _*_, _≤_}
+use mathlib.Core.Path.{_≡_, refl, ap, _∙_}
+use mathlib.Core.Bool.{Bool}
 use mathlib.Core.List.{List}
 use native.Mathlib.Omega.{arith}
 use lib.Dec.{eqb, leb}
-use lib.ListN.{length, take, length-take}
-use borrow.Author.Tests.{leb-true, le-leb}
+use lib.ListN.{length, take, length-append, length-take}
+use borrow.Author.Tests.{eqb-true, leb-true, le-leb}
+use Rattle.sets.specs.Sets.{mem}
 use Rattle.sets.proofs.Bools.{pick-yes, pick-case}
+use Rattle.terminal.specs.declared.State.{State}
+use Rattle.terminal.specs.declared.State.the-variants.{Waiting, Taken}
 use Rattle.partition.specs.Answer.{Answer, answerOf}
-use Rattle.frames.specs.Reading.{planReading}
-use Rattle.output.specs.declared.Written.{Written}
+use Rattle.frames.specs.declared.Progress.{Progress}
 use Rattle.frames.specs.Digits.{hexByte}
-use Rattle.output.specs.Lines.{hexPair, hexTriple, refusalLine, verdictLine}
+use Rattle.frames.specs.Reading.{planReading, runReading}
+use Rattle.output.specs.declared.Written.{Written}
+use Rattle.output.specs.Lines.{hexPair, hexTriple, refusalLine, verdictLine, terminalLine}
 use Rattle.output.specs.Texts.{answerText, verdictText, writtenOf}
+use Rattle.output.specs.Site.{goodLine, stateLine, siteLines, ranText, runText}
+use Rattle.output.proofs.SiteLaws.{run-playable}
 
 written-within : (text : List ℕ) (room : ℕ) → writtenOf text room .len ≤ room
 unfolding writtenOf
@@ -52,6 +59,52 @@ verdict-short file =
     (λ h. answer-length (answerOf (planReading file .progress .plan)))
     (λ h. omega (arith, refusal-length (planReading file .number) (planReading file .line)))
 
-pub verdict-fits : (file : List ℕ) (room : ℕ) → 23 ≤ room → writtenOf (verdictText file) room ≡ record { number = 0; len = length (verdictText file) }
+-- ---- the lines of a run have at most 260 bytes: 13 for each of 20 terminals
+
+terminal-length : (b state round value : ℕ) → length (terminalLine b state round value) ≡ 13
+unfolding terminalLine hexPair hexByte
+terminal-length b state round value = refl
+
+good-length : (b : ℕ) (state : State) → length (goodLine b state) ≡ 13
+unfolding goodLine
+good-length b Waiting = terminal-length b 0 0 0
+good-length b (Taken round value) = terminal-length b 1 round value
+
+state-length : (b : ℕ) (bad : Bool) (state : State) → length (stateLine b bad state) ≡ 13
+unfolding stateLine
+state-length b bad state =
+    pick-case (λ (t : List ℕ). length t ≡ 13) bad (terminalLine b 2 0 0) (goodLine b state) (λ h. terminal-length b 2 0 0) (λ h. good-length b state)
+
+site-length : (k faulty : ℕ) (state : ℕ → State) → length (siteLines k faulty state) ≡ 13 * k
+unfolding siteLines
+site-length zero faulty state = refl
+site-length (suc k) faulty state =
+    length-append (siteLines k faulty state) (stateLine k (mem k faulty) (state k))
+    ∙ omega (arith, site-length k faulty state, state-length k (mem k faulty) (state k))
+
+ran-length : (p : Progress) (words : List ℕ) → length (ranText p words) ≡ 13 * p .plan .n
+unfolding ranText
+ran-length p words = site-length (p .plan .n) (p .faulty) _
+
+pub run-short : (file : List ℕ) → length (runText file) ≤ 260
+unfolding runText
+run-short file =
+    pick-case (λ (t : List ℕ). length t ≤ 260) (eqb (runReading file .number) 0) (ranText (runReading file .progress) (runReading file .words))
+    (refusalLine (runReading file .number) (runReading file .line))
+    (λ h.
+    let play = run-playable file (eqb-true (runReading file .number) 0 h) in
+    let n : runReading file .progress .plan .n ≤ 20 = play .twenty in
+    omega (arith, ran-length (runReading file .progress) (runReading file .words)))
+    (λ h. omega (arith, refusal-length (runReading file .number) (runReading file .line)))
+
+-- ---- so these lists have room for every answer
+
+room-for : (text : List ℕ) (room : ℕ) → length text ≤ room → writtenOf text room ≡ record { number = 0; len = length text }
 unfolding writtenOf
-verdict-fits file room h = pick-yes _ _ _ (le-leb (length (verdictText file)) room (omega (arith, verdict-short file)))
+room-for text room h = pick-yes _ _ _ (le-leb (length text) room h)
+
+pub verdict-fits : (file : List ℕ) (room : ℕ) → 23 ≤ room → writtenOf (verdictText file) room ≡ record { number = 0; len = length (verdictText file) }
+verdict-fits file room h = room-for (verdictText file) room (omega (arith, verdict-short file))
+
+pub run-fits : (file : List ℕ) (room : ℕ) → 260 ≤ room → writtenOf (runText file) room ≡ record { number = 0; len = length (runText file) }
+run-fits file room h = room-for (runText file) room (omega (arith, run-short file))

@@ -1,4 +1,5 @@
--- A text that grows and is put into a list (TextLaws), what the lines say (LineLaws), and the laws for callers (Laws).
+-- A text that grows and is put into a list (TextLaws), what the lines say (LineLaws, SiteLaws), and the laws for callers (Laws).
 mod TextLaws
 mod LineLaws
+mod SiteLaws
 pub mod Laws

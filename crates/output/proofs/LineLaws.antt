@@ -3,8 +3,10 @@ use Prim.Native.Nat.{ℕ, _≤_, _<_, _^_}
 use mathlib.Core.Path.{_≡_, sym, ap, _∙_, subst}
 use mathlib.Core.List.{List}
 use native.Mathlib.Omega.{arith}
+use lib.Dec.{eqb}
 use lib.Pow.{pow-mono}
 use borrow.Author.Tests.{eq-eqb, ne-eqb}
+use Rattle.sets.specs.Tests.{pick}
 use Rattle.sets.proofs.Bools.{and-l, pick-yes, pick-no}
 use Rattle.plan.specs.declared.Plan.{Plan}
 use Rattle.plan.proofs.Laws.{sound}
@@ -17,7 +19,7 @@ use Rattle.partition.specs.declared.Judgement.the-variants.{Pass, Fail, WrongRa
 use Rattle.partition.specs.Answer.{Answer, told, answerOf}
 use Rattle.partition.proofs.Laws.{Failed, answer-fails}
 use Rattle.frames.specs.declared.FileRead.{FileRead}
-use Rattle.frames.specs.Reading.{planReading, fileRead}
+use Rattle.frames.specs.Reading.{Reading, planReading, fileRead}
 use Rattle.output.specs.declared.text.Text.{Text}
 use Rattle.output.specs.Lines.{refusalLine, verdictLine}
 use Rattle.output.specs.Texts.{Holds, answerText, verdictText}
@@ -56,22 +58,29 @@ module _ (j found : Judgement) (t : Text) (e : j ≡ found) where
   unfolding answerText
   says-refusal h = subst (Holds t) (sym (pick-no _ _ _ (ne-eqb (told found .number) 0 h)) ∙ same-answer)
 
--- ---- the line on a plan file
+-- ---- a file that is refused, or that has an answer
 
-module _ (file : List ℕ) (read : FileRead) (e : read ≡ fileRead (planReading file)) where
-  same-number : planReading file .number ≡ read .number
+module _ (r : Reading) (read : FileRead) (e : read ≡ fileRead r) (answer : List ℕ) (t : Text) where
+  same-number : r .number ≡ read .number
   same-number = sym (ap (λ (r : FileRead). r .number) e)
 
-  pub text-refused : (t : Text) → (read .number ≡ 0 → ⊥) → Holds t (refusalLine (read .number) (read .line)) → Holds t (verdictText file)
-  unfolding verdictText
-  text-refused t n =
+  pub text-refused : (read .number ≡ 0 → ⊥) → Holds t (refusalLine (read .number) (read .line))
+      → Holds t (pick (eqb (r .number) 0) answer (refusalLine (r .number) (r .line)))
+  text-refused n =
       subst (Holds t)
-      (ap (λ (r : FileRead). refusalLine (r .number) (r .line)) e
-      ∙ sym (pick-no _ _ _ (ne-eqb (planReading file .number) 0 (λ z. n (sym same-number ∙ z)))))
+      (ap (λ (r : FileRead). refusalLine (r .number) (r .line)) e ∙ sym (pick-no _ _ _ (ne-eqb (r .number) 0 (λ z. n (sym same-number ∙ z)))))
 
-  pub text-told : (t : Text) (a : Answer) → read .number ≡ 0 → a ≡ answerOf (read .progress .plan) → Holds t (answerText a) → Holds t (verdictText file)
+  pub text-answered : read .number ≡ 0 → Holds t answer → Holds t (pick (eqb (r .number) 0) answer (refusalLine (r .number) (r .line)))
+  text-answered z = subst (Holds t) (sym (pick-yes _ _ _ (eq-eqb (r .number) 0 (same-number ∙ z))))
+
+-- the line on a plan file
+module _ (file : List ℕ) (read : FileRead) (e : read ≡ fileRead (planReading file)) (t : Text) where
+  pub verdict-refused : (read .number ≡ 0 → ⊥) → Holds t (refusalLine (read .number) (read .line)) → Holds t (verdictText file)
   unfolding verdictText
-  text-told t a z q =
-      subst (Holds t)
-      (ap answerText (q ∙ ap (λ (r : FileRead). answerOf (r .progress .plan)) e)
-      ∙ sym (pick-yes _ _ _ (eq-eqb (planReading file .number) 0 (same-number ∙ z))))
+  verdict-refused = text-refused (planReading file) read e (answerText (answerOf (planReading file .progress .plan))) t
+
+  pub verdict-told : (a : Answer) → read .number ≡ 0 → a ≡ answerOf (read .progress .plan) → Holds t (answerText a) → Holds t (verdictText file)
+  unfolding verdictText
+  verdict-told a z q h =
+      text-answered (planReading file) read e (answerText (answerOf (planReading file .progress .plan))) t z
+      (subst (Holds t) (ap answerText (q ∙ ap (λ (r : FileRead). answerOf (r .progress .plan)) e)) h)

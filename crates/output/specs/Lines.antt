@@ -16,3 +16,7 @@ refusalLine number line = hexByte 255 ++ hexByte number ++ hexPair line ++ (10 �
 -- 81: 00 pass or 01 fail, then F, L, R
 unfoldable pub verdictLine : ℕ → ℕ → ℕ → ℕ → List ℕ
 verdictLine failed f l r = hexByte 129 ++ hexByte failed ++ hexTriple f ++ hexTriple l ++ hexTriple r ++ (10 ∷ [])
+
+-- 82: a terminal's number, its state (00 waiting, 01 taken, 02 bad), the round in which it took, and the value
+unfoldable pub terminalLine : ℕ → ℕ → ℕ → ℕ → List ℕ
+terminalLine b state round value = hexByte 130 ++ hexByte b ++ hexByte state ++ hexByte round ++ hexPair value ++ (10 ∷ [])

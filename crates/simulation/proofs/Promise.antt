@@ -102,15 +102,20 @@ module _ (p : Plan) (faulty value rounds : ℕ) (words : List ℕ) where
       let a = accepted-run p faulty value rounds (length words) (p .n) h in
       walk-array p (a .0) faulty value (λ z. let v = a .2 in omega arith) words (a .1) rounds (a .3))
 
+  -- of an accepted run they are, terminal by terminal, those of the rules
+  pub array-at : runCause p faulty value rounds (length words) (p .n) ≡ 0 → (records : List Record) → records ≡ arrayAfter p faulty value rounds words
+      → (b : ℕ) → b < p .n → getD records b start ≡ site p faulty value (scriptOf (p .n) words) rounds b
+  unfolding arrayAfter
+  array-at e records q b k =
+      let t = sound p (accepted-run p faulty value rounds (length words) (p .n) e .0) .twenty in
+      ap (λ (l : List Record). getD l b start) (q ∙ pick-yes _ _ _ (eq-eqb _ _ e))
+      ∙ table-at 20 (site p faulty value (scriptOf (p .n) words) rounds) b (omega arith)
+
   pub array-promised : runCause p faulty value rounds (length words) (p .n) ≡ 0 → (records : List Record)
       → records ≡ arrayAfter p faulty value rounds words → Demand3Holds p faulty value rounds words records
-  unfolding arrayAfter
   array-promised e records q =
       let a = accepted-run p faulty value rounds (length words) (p .n) e in
-      promised p (a .0) faulty value rounds (a .1) (a .2) words records
-      (λ b k.
-      ap (λ (l : List Record). getD l b start) (q ∙ pick-yes _ _ _ (eq-eqb _ _ e))
-      ∙ table-at 20 (site p faulty value (scriptOf (p .n) words) rounds) b (let t = sound p (a .0) .twenty in omega arith))
+      promised p (a .0) faulty value rounds (a .1) (a .2) words records (array-at e records q)
 
 -- ---- the records that are lent
 

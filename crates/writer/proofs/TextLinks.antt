@@ -23,8 +23,8 @@ use Rattle.frames.specs.declared.frame.Frame.{Frame}
 use Rattle.frames.specs.declared.frame.Frame.the-variants.{Foreign, Unknown, Head, Link, FaultSet, Start, Message}
 use Rattle.frames.specs.Lines.{Line, ended, cut, linesFrom}
 use Rattle.frames.specs.Frames.{frameOf}
-use Rattle.frames.specs.Reading.{nothingRead, noWords, messageCause, causeIn, linked, after, wordsAfter, Reading, refusal, told, reading, planReading}
-use Rattle.writer.proofs.Accepted.{Whole, stage-of, head-accepted, link-accepted, frame-whole}
+use Rattle.frames.specs.Reading.{nothingRead, noWords, causeIn, linked, after, wordsAfter, Reading, refusal, told, reading, planReading}
+use Rattle.frames.proofs.Accepted.{Whole, head-accepted, link-accepted, frame-stage, frame-whole}
 
 -- some line is the link frame from a to b
 abbrev pub Tells : ℕ → ℕ → ℕ → List Line → Type 0
@@ -95,18 +95,8 @@ record Ready (p : Progress) : Type 0 where
   empty : p .stage ≡ 0 → (a b : ℕ) → hears (p .plan) b a ≡ false
 
 module _ (p : Progress) (words : List ℕ) (r : Ready p) where
-  frame-stage : (frame : Frame) → causeIn p words frame ≡ 0 → after p frame .stage ≡ 0 → ⊥
-  unfolding causeIn messageCause after
-  frame-stage Foreign h z = omega arith
-  frame-stage Unknown h z = omega arith
-  frame-stage (Head n source f) h z = omega arith
-  frame-stage (Link from to) h z = omega arith
-  frame-stage (FaultSet s) h z = omega arith
-  frame-stage (Start value rounds) h z = omega arith
-  frame-stage (Message round from to value) h z = omega (arith, stage-of p words 3 _ h .0)
-
   frame-ready : (frame : Frame) → causeIn p words frame ≡ 0 → Ready (after p frame)
-  frame-ready frame h = record { begun = λ n. frame-whole p words frame (r .begun) h; empty = λ z. absurd (frame-stage frame h z) }
+  frame-ready frame h = record { begun = λ n. frame-whole p words frame (r .begun) h; empty = λ z. absurd (frame-stage p words frame h z) }
 
   -- a frame that is no link and keeps the plan
   same-plan : (frame : Frame) (a b : ℕ) → (frame ≡ Link a b → ⊥) → (hears (p .plan) b a ≡ true) ↔ ((hears (p .plan) b a ≡ true) ⊎ (frame ≡ Link a b))

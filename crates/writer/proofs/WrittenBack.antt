@@ -13,9 +13,9 @@ use Rattle.sets.proofs.Bools.{pick-yes, pick-case}
 use Rattle.plan.specs.declared.Plan.{Plan}
 use Rattle.plan.specs.Plan.{causeOf}
 use Rattle.frames.specs.Reading.{noWords, planReading}
+use Rattle.frames.proofs.Accepted.{choice-zero}
 use Rattle.writer.specs.declared.Written.{Written}
 use Rattle.writer.specs.Written.{planText, writeCause, writtenOf, putInto}
-use Rattle.writer.proofs.Accepted.{choice-zero}
 use Rattle.writer.proofs.ReadBack.{read-back}
 
 module _ (p : Plan) (out : List ℕ) where

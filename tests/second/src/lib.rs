@@ -15,6 +15,7 @@ pub mod output;
 pub mod plan;
 pub mod plans;
 pub mod reader;
+pub mod record;
 pub mod rng;
 pub mod run;
 pub mod step;

@@ -3,7 +3,7 @@
 use second::faults::Fault;
 use second::generate::Kind;
 use second::reader::LONGEST_FILE;
-use second::{compare, exhaust, faults, generate};
+use second::{compare, exhaust, faults, generate, record};
 use std::io::{self, Read, Write};
 use std::path::Path;
 use std::process::ExitCode;
@@ -14,7 +14,9 @@ const USAGE: &str = "usage:
   second generate verdict|run SEED COUNT DIR
   second compare PROGRAM_VERDICT PROGRAM_RUN SEED COUNT
   second faults [SEED COUNT]
-  second exhaust";
+  second exhaust
+  second record CALLS LINES
+  second boards SEED COUNT CALLS LINES";
 
 fn main() -> ExitCode {
     let words: Vec<String> = std::env::args().skip(1).collect();
@@ -57,6 +59,13 @@ fn dispatch(words: &[&str]) -> Option<bool> {
         ["faults"] => Some(faults::faults(1, 4000)),
         ["faults", seed, count] => Some(faults::faults(number(seed)?, number(count)?)),
         ["exhaust"] => Some(exhaust_all()),
+        ["boards", seed, count, calls, lines] => Some(told(record::write_boards(
+            number(seed)?,
+            number(count)?,
+            Path::new(calls),
+            Path::new(lines),
+        ))),
+        ["record", calls, lines] => Some(told(record::write(Path::new(calls), Path::new(lines)))),
         _ => None,
     }
 }

@@ -40,6 +40,18 @@ pub fn is_bad_set(plan: &Plan, bad: &Set, fault: Fault) -> Result<bool, Cause> {
     Ok(inside && bound_holds(plan, &Neighbours::of(plan), bad, fault))
 }
 
+/// Why a plan or a proposed bad set is refused: 4, 5, 7 or 8.
+pub fn fault_cause(plan: &Plan, bad: &Set) -> Result<(), Cause> {
+    plan.check()?;
+    if !members_allowed(plan, bad, Fault::None) {
+        return Err(Cause::BadSetMember);
+    }
+    if !bound_holds(plan, &Neighbours::of(plan), bad, Fault::None) {
+        return Err(Cause::BadSetBound);
+    }
+    Ok(())
+}
+
 struct Search<'a> {
     plan: &'a Plan,
     lists: Neighbours,

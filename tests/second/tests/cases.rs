@@ -4,6 +4,7 @@ use second::compare::{ask, Answer, TIME_LIMIT};
 use second::exhaust::exhaust;
 use second::faults::{Fault, Sound, PLANTED};
 use second::generate::{case, step_case, Kind};
+use second::record;
 use second::step::step;
 use std::collections::BTreeSet;
 
@@ -98,4 +99,28 @@ fn programs_are_asked() {
         ask("no-such-program", b"", TIME_LIMIT),
         Answer::Crash(_)
     ));
+}
+
+/// A recorded call that no case reaches would compare nothing.
+#[test]
+fn recorded_calls_reach_every_answer() {
+    let calls = record::calls(record::SEED);
+    let numbers = |kind: u8| -> BTreeSet<u8> {
+        let of_kind = calls.iter().filter(|call| call.kind == kind);
+        of_kind.map(|call| call.line[0]).collect()
+    };
+    let expected: [(u8, &[u8]); 8] = [
+        (b'v', &[0, 12]),
+        (b'r', &[0, 12]),
+        (b'f', &[0, 1, 2, 3, 4, 5, 6, 7, 8, 9, 10, 11, 12]),
+        (b'p', &[0, 4, 5, 12]),
+        (b's', &[0, 4, 5, 12, 13]),
+        (b'w', &[0, 1, 4, 5]),
+        (b'c', &[0, 4, 5, 7, 8]),
+        (b'n', &[0, 4, 5, 7, 8, 9, 12]),
+    ];
+    for (kind, answers) in expected {
+        let answers: BTreeSet<u8> = answers.iter().copied().collect();
+        assert_eq!(numbers(kind), answers, "kind {}", kind as char);
+    }
 }

@@ -1,7 +1,7 @@
 -- The cause decides; an accepted link is added. Assumes nothing.
 use mathlib.Core.Path.{sym, _∙_}
 use Rattle.frames.specs.Reading.{after}
-use Rattle.frames.proofs.TellLaws.{link-accepted}
+use Rattle.frames.proofs.TellLaws.{link-end}
 use native.Mathlib.Omega.{arith}
 use borrow.Author.Needs.{needs}
 use Rattle.frames.proofs.told.link.Statement.{statement}
@@ -14,7 +14,7 @@ returns : tie.Need-returns
 returns c = (c .before .link-cause .ensures, λ z. absurd (c .if1 .taken z))
 
 with-link-requires : tie.Need-with-link-requires
-with-link-requires c κs = let l = link-accepted _ _ _ (sym (c .before .link-cause .ensures) ∙ c .if1 .left) in let n = c .before .before .before .pre in omega arith
+with-link-requires c κs = let l = link-end _ _ _ (sym (c .before .link-cause .ensures) ∙ c .if1 .left) in let n = c .before .before .before .pre in omega arith
 
 returns-2 : tie.Need-returns-2
 unfolding after

@@ -1,6 +1,6 @@
 -- The file's reading decides, then the verdict on its plan. Assumes nothing.
 use borrow.Author.Needs.{needs}
-use Rattle.output.proofs.LineLaws.{answer-small, text-refused, text-told}
+use Rattle.output.proofs.LineLaws.{answer-small, verdict-refused, verdict-told}
 use Rattle.output.proofs.line.of_plan.Statement.{statement}
 use Rattle.output.proofs.line.of_plan.Tie as tie
 
@@ -11,7 +11,7 @@ refusal-requires : tie.Need-refusal-requires
 refusal-requires c κs = search needs
 
 returns : tie.Need-returns
-returns c = text-refused _ _ (c .before .before .before .read-plan .ensures) _ (c .before .if1 .taken) (c .refusal .ensures)
+returns c = verdict-refused _ _ (c .before .before .before .read-plan .ensures) _ (c .before .if1 .taken) (c .refusal .ensures)
 
 verdict-requires : tie.Need-verdict-requires
 verdict-requires c κs = search needs
@@ -20,7 +20,7 @@ answer-requires : tie.Need-answer-requires
 answer-requires c κs = answer-small _ (c .verdict .result) (c .verdict .ensures .0)
 
 returns-2 : tie.Need-returns-2
-returns-2 c = text-told _ _ (c .before .before .before .before .read-plan .ensures) _ _ (c .before .before .if1 .left) (c .before .verdict .ensures .0) (c .answer .ensures)
+returns-2 c = verdict-told _ _ (c .before .before .before .before .read-plan .ensures) _ _ (c .before .before .if1 .left) (c .before .verdict .ensures .0) (c .answer .ensures)
 
 pub of-plan-spec : {M : Type 1} → statement M
 of-plan-spec =

@@ -1,0 +1,138 @@
+// The calls on values: the step, the two checks of sets, the run.
+ghost use Prim.Native.Nat.{_≤_};
+use super::said;
+use super::say;
+use partition::FaultSetCheck;
+use partition::WitnessCheck;
+use simulation::Outcome as Run;
+use terminal::Outcome as Step;
+use terminal::Record;
+
+fn step_number(o: Step) -> u8 {
+    match o {
+        Step::Accepted => 0,
+        Step::WrongRange => 4,
+        Step::WrongLink => 5,
+        Step::WrongLength => 12,
+        Step::WrongRecord => 13,
+    }
+}
+
+fn step_on(body: &[u8], said_to: &[u16], line: &mut [u8]) -> usize {
+    let stepped = terminal::step(
+        said::byte(body, 0) as usize,
+        said::byte(body, 1) as usize,
+        said::byte(body, 2) as usize,
+        said::byte(body, 3) as usize,
+        said::quad(body, 4),
+        said::record(body, 8),
+        said_to,
+    );
+    let outcome = stepped.outcome;
+    let after = stepped.after;
+    let one = say::byte(line, 0, step_number(outcome));
+    say::record(line, one, after)
+}
+
+// The count of what was said, then n, source, f, own number, heard set, record, and what was said.
+pub(crate) fn step(count: usize, body: &[u8], line: &mut [u8]) -> usize {
+    let mut words = [0u16; 64];
+    said::pairs(body, 53, &mut words);
+    if count <= 64 {
+        return step_on(body, &words[..count], line);
+    }
+    0
+}
+
+fn witness_number(c: WitnessCheck) -> u8 {
+    match c {
+        WitnessCheck::Accepted => 0,
+        WitnessCheck::Rejected => 1,
+        WitnessCheck::WrongRange => 4,
+        WitnessCheck::WrongLink => 5,
+    }
+}
+
+// A plan and three sets.
+pub(crate) fn witness(body: &[u8], line: &mut [u8]) -> usize {
+    let p = said::plan(body);
+    let checked = partition::check_witness(
+        p,
+        said::quad(body, 83),
+        said::quad(body, 87),
+        said::quad(body, 91),
+    );
+    say::byte(line, 0, witness_number(checked))
+}
+
+fn fault_number(c: FaultSetCheck) -> u8 {
+    match c {
+        FaultSetCheck::Sound => 0,
+        FaultSetCheck::WrongRange => 4,
+        FaultSetCheck::WrongLink => 5,
+        FaultSetCheck::WrongMember => 7,
+        FaultSetCheck::OverBound => 8,
+    }
+}
+
+// A plan and a set.
+pub(crate) fn fault_set(body: &[u8], line: &mut [u8]) -> usize {
+    let p = said::plan(body);
+    let checked = partition::check_fault_set(p, said::quad(body, 83));
+    say::byte(line, 0, fault_number(checked))
+}
+
+fn run_number(o: Run) -> u8 {
+    match o {
+        Run::Played => 0,
+        Run::WrongRange => 4,
+        Run::WrongLink => 5,
+        Run::WrongMember => 7,
+        Run::OverBound => 8,
+        Run::WrongStart => 9,
+        Run::WrongLength => 12,
+    }
+}
+
+fn record_below(line: &mut [u8], at: usize, below: bool, r: Record) -> usize {
+    if below {
+        return say::record(line, at, r);
+    }
+    at
+}
+
+fn records(line: &mut [u8], at: usize, n: usize, list: [Record; 20]) -> usize {
+    let mut k = at;
+    let mut b = 0;
+    while b < 20 {
+        k = record_below(line, k, b < n, list[b]);
+        b += 1;
+    }
+    k
+}
+
+fn site_on(body: &[u8], words: &[u16], line: &mut [u8]) -> usize {
+    let p = said::plan(body);
+    let n = p.n;
+    let ran = simulation::run_site(
+        p,
+        said::quad(body, 83),
+        said::pair(body, 87),
+        said::byte(body, 89),
+        words,
+    );
+    let outcome = ran.outcome;
+    let list = ran.records;
+    let one = say::byte(line, 0, run_number(outcome));
+    records(line, one, n, list)
+}
+
+// The count of words, then a plan, the fault set, the value, the rounds, and the words.
+pub(crate) fn site(count: usize, body: &[u8], line: &mut [u8]) -> usize {
+    let mut words = [0u16; 12000];
+    said::pairs(body, 90, &mut words);
+    if count <= 12000 {
+        return site_on(body, &words[..count], line);
+    }
+    0
+}

@@ -1,0 +1,139 @@
+// The calls that have a text: a file in, or a plan out. A lent list holds a mark at each place before
+// the call, so that a place that was not to be touched shows.
+ghost use Prim.Native.Nat.{_≤_};
+use super::said;
+use super::say;
+use frames::FileRead;
+use plan::Plan;
+
+// The number, the text's length, and all of the lent list.
+fn written(line: &mut [u8], number: u8, len: usize, list: &[u8]) -> usize {
+    let one = say::byte(line, 0, number);
+    let two = say::size(line, one, len);
+    say::bytes(line, two, list)
+}
+
+fn verdict_into(file: &[u8], out: &mut [u8], line: &mut [u8]) -> usize {
+    let w = output::verdict_text(file, out);
+    written(line, w.number, w.len, out)
+}
+
+// The room of the lent list, and the file.
+pub(crate) fn verdict(room: usize, file: &[u8], line: &mut [u8]) -> usize {
+    let mut out = [90u8; 400];
+    if room <= 400 {
+        return verdict_into(file, &mut out[..room], line);
+    }
+    0
+}
+
+fn run_into(file: &[u8], out: &mut [u8], line: &mut [u8]) -> usize {
+    let w = output::run_text(file, out);
+    written(line, w.number, w.len, out)
+}
+
+// The same of a run file.
+pub(crate) fn run(room: usize, file: &[u8], line: &mut [u8]) -> usize {
+    let mut out = [90u8; 400];
+    if room <= 400 {
+        return run_into(file, &mut out[..room], line);
+    }
+    0
+}
+
+fn write_into(p: Plan, out: &mut [u8], line: &mut [u8]) -> usize {
+    let w = writer::write_plan(p, out);
+    written(line, w.number, w.len, out)
+}
+
+// The room of the lent list, and a plan.
+pub(crate) fn write(room: usize, body: &[u8], line: &mut [u8]) -> usize {
+    let mut out = [90u8; 2800];
+    if room <= 2800 {
+        return write_into(said::plan(body), &mut out[..room], line);
+    }
+    0
+}
+
+// 1 for a place that holds the mark.
+fn mark(word: u16) -> u32 {
+    if word == 23130 {
+        return 1;
+    }
+    0
+}
+
+// How many places of the list hold the mark.
+fn marks(words: &[u16]) -> u32 {
+    let mut count = 0u32;
+    let mut i = 0;
+    while i < words.len() {
+        count = std::num::wrapping_add_u32(count, mark(words[i]));
+        i += 1;
+    }
+    count
+}
+
+// A place that holds a word, and the word; nothing for silence and for the mark.
+fn word(line: &mut [u8], at: usize, place: usize, w: u16) -> usize {
+    if w == 0 {
+        return at;
+    }
+    if w == 23130 {
+        return at;
+    }
+    let one = say::size(line, at, place);
+    say::pair(line, one, w)
+}
+
+fn words_in(line: &mut [u8], at: usize, words: &[u16]) -> usize {
+    let mut k = at;
+    let mut i = 0;
+    while i < words.len() {
+        k = word(line, k, i, words[i]);
+        i += 1;
+    }
+    k
+}
+
+fn rows(line: &mut [u8], at: usize, list: [u32; 20]) -> usize {
+    let mut k = at;
+    let mut b = 0;
+    while b < 20 {
+        k = say::quad(line, k, list[b]);
+        b += 1;
+    }
+    k
+}
+
+// What was read, beside the words.
+fn file(line: &mut [u8], r: FileRead) -> usize {
+    let progress = r.progress;
+    let plan = progress.plan;
+    let list = plan.rows;
+    let one = say::byte(line, 0, r.number);
+    let two = say::pair(line, one, r.line);
+    let three = say::size(line, two, plan.n);
+    let four = say::size(line, three, plan.source);
+    let five = say::size(line, four, plan.f);
+    let six = rows(line, five, list);
+    let seven = say::quad(line, six, progress.faulty);
+    let eight = say::pair(line, seven, progress.value);
+    say::byte(line, eight, progress.rounds)
+}
+
+fn read_into(text: &[u8], words: &mut [u16], line: &mut [u8]) -> usize {
+    let r = frames::read_run(text, words);
+    let one = file(line, r);
+    let two = say::quad(line, one, marks(words));
+    words_in(line, two, words)
+}
+
+// The room of the lent list of words, and the file.
+pub(crate) fn read(room: usize, text: &[u8], line: &mut [u8]) -> usize {
+    let mut words = [23130u16; 16001];
+    if room <= 16001 {
+        return read_into(text, &mut words[..room], line);
+    }
+    0
+}

@@ -1,0 +1,564 @@
+//! Recorded calls: what the program `replay` is given, and what it has to print.
+//!
+//! A call is its kind, the length of the list that it lends, the length of its body (both two
+//! bytes, high byte first) and the body. Each call has one line of digits.
+
+use crate::faults::Fault;
+use crate::generate::{case, step_case, Kind, StepCase};
+use crate::output::{digits, run_text, verdict_text};
+use crate::plan::{number_of, set_of, write_plan, Cause, Plan, Set};
+use crate::plans::{deep_plan, random_plan, strong_plan, weak_plan};
+use crate::reader::{read_run, RunFile};
+use crate::rng::Rng;
+use crate::run::{run, Order};
+use crate::step::{step, Record, State};
+use crate::verdict::{fault_cause, verdict, witness_check};
+use std::fs;
+use std::io;
+use std::path::Path;
+
+pub const SEED: u64 = 20;
+
+/// What a lent list of bytes holds at each place before a call.
+const MARK: u8 = 0x5a;
+/// The same of a lent list of words.
+const MARK_WORD: u16 = 0x5a5a;
+/// Places in the list of words that the reader of run files is lent.
+const WORD_PLACES: usize = 16_000;
+/// The longest list that `replay` lends for a plan's text.
+const LONGEST_TEXT: usize = 2_800;
+
+/// So many calls of a kind may have a body longer than this.
+const MAY_BE_LONG: u64 = 120;
+const LONG: usize = 1_500;
+
+/// One call, and the line that answers it.
+pub struct Call {
+    pub kind: u8,
+    pub lent: usize,
+    pub body: Vec<u8>,
+    pub line: Vec<u8>,
+}
+
+/// Writes all calls into one file and all lines into another.
+pub fn write(calls_file: &Path, lines_file: &Path) -> io::Result<()> {
+    let (mut input, mut output) = (Vec::new(), Vec::new());
+    for call in calls(SEED) {
+        input.push(call.kind);
+        input.extend(pair(call.lent as u16));
+        input.extend(pair(call.body.len() as u16));
+        input.extend(&call.body);
+        output.extend(digits(&call.line));
+        output.push(10);
+    }
+    fs::write(calls_file, input)?;
+    fs::write(lines_file, output)
+}
+
+type Maker = fn(u64, u64) -> Call;
+
+/// Every kind of call, and how many of it.
+const KINDS: [(Maker, u64); 9] = [
+    (verdict_call, 600),
+    (run_call, 600),
+    (read_call, 300),
+    (write_call, 200),
+    (step_call, 1500),
+    (witness_call, 500),
+    (fault_set_call, 400),
+    (site_call, 300),
+    (small_site_call, 500),
+];
+
+/// The calls of each kind. Of the long files a few are enough.
+pub fn calls(seed: u64) -> Vec<Call> {
+    let of_kind = |&(make, count): &(Maker, u64)| {
+        let made = (0..count).map(move |index| (index, make(seed, index)));
+        made.filter(|(index, call)| *index < MAY_BE_LONG || call.body.len() <= LONG)
+    };
+    let calls = KINDS.iter().flat_map(of_kind);
+    calls.map(|(_, call)| call).collect()
+}
+
+fn pair(value: u16) -> [u8; 2] {
+    value.to_be_bytes()
+}
+
+fn quad(set: &Set) -> [u8; 4] {
+    number_of(set).to_be_bytes()
+}
+
+fn number(answer: Result<(), Cause>) -> u8 {
+    answer.map_or_else(Cause::number, |()| 0)
+}
+
+/// A generator for a kind of call that the cases of files do not use.
+fn rng_for(seed: u64, kind: u8, index: u64) -> Rng {
+    Rng::for_case(seed, 100 + u64::from(kind), index)
+}
+
+// ---- lent lists of bytes
+
+/// The number, the text's length, and the whole list after the call.
+fn written(text: Result<Vec<u8>, Cause>, room: usize) -> Vec<u8> {
+    let mut list = vec![MARK; room];
+    let answer = text.and_then(|text| match list.get_mut(..text.len()) {
+        Some(front) => {
+            front.copy_from_slice(&text);
+            Ok(text.len())
+        }
+        None => Err(Cause::Length),
+    });
+    let length = answer.unwrap_or(0) as u16;
+    [&[number(answer.map(|_| ()))], &pair(length)[..], &list].concat()
+}
+
+/// A list that just has room, is one short, is empty, or is longer than the text.
+fn room_for(rng: &mut Rng, text: usize, most: usize) -> usize {
+    let longer = text + rng.below(9);
+    let room = rng.pick(&[text, text, text.saturating_sub(1), 0, longer, longer]);
+    room.min(most)
+}
+
+fn text_call(kind: u8, seed: u64, index: u64, file: Vec<u8>, text: Vec<u8>) -> Call {
+    let lent = room_for(&mut rng_for(seed, kind, index), text.len(), 400);
+    Call {
+        kind,
+        lent,
+        body: file,
+        line: written(Ok(text), lent),
+    }
+}
+
+fn verdict_call(seed: u64, index: u64) -> Call {
+    let file = case(Kind::Verdict, seed, index);
+    let text = verdict_text(&file, Fault::None);
+    text_call(b'v', seed, index, file, text)
+}
+
+fn run_call(seed: u64, index: u64) -> Call {
+    let file = case(Kind::Run, seed, index);
+    let text = run_text(&file, Fault::None);
+    text_call(b'r', seed, index, file, text)
+}
+
+fn write_call(seed: u64, index: u64) -> Call {
+    let mut rng = rng_for(seed, b'p', index);
+    let plan = some_plan(&mut rng, if index.is_multiple_of(20) { 20 } else { 7 });
+    let mut list = vec![0; LONGEST_TEXT];
+    let text = write_plan(&plan, &mut list).map(|length| list[..length].to_vec());
+    let length = text.as_ref().map_or(9, Vec::len);
+    let lent = room_for(&mut rng, length, LONGEST_TEXT);
+    Call {
+        kind: b'p',
+        lent,
+        body: plan_bytes(&plan),
+        line: written(text, lent),
+    }
+}
+
+// ---- the reader of run files
+
+fn read_call(seed: u64, index: u64) -> Call {
+    let mut rng = rng_for(seed, b'f', index);
+    // Other files than those that are run.
+    let sorts = if rng.chance(40) { 8 } else { 16 };
+    let place = 10_000 + index * 16 + rng.below(sorts) as u64;
+    let body = case(Kind::Run, seed, place);
+    let wrong = [0, 1, WORD_PLACES - 1, WORD_PLACES + 1];
+    let lent = if rng.chance(15) {
+        rng.pick(&wrong)
+    } else {
+        WORD_PLACES
+    };
+    let line = if lent == WORD_PLACES {
+        match read_run(&body, Fault::None) {
+            Ok(file) => accepted_file(&file),
+            Err(refusal) => refused_file(refusal.cause, refusal.line, lent),
+        }
+    } else {
+        refused_file(Cause::Length, 0, lent)
+    };
+    Call {
+        kind: b'f',
+        lent,
+        body,
+        line,
+    }
+}
+
+/// Number and line, zeros for all that is read, and the list as it was.
+fn refused_file(cause: Cause, line: u16, lent: usize) -> Vec<u8> {
+    let nothing = [0; 6 + 80 + 4 + 2 + 1];
+    let marks = (lent as u32).to_be_bytes();
+    [&[cause.number()], &pair(line)[..], &nothing, &marks].concat()
+}
+
+fn accepted_file(file: &RunFile) -> Vec<u8> {
+    let plan = &file.plan;
+    let mut line = vec![0; 3];
+    for head in [plan.n, plan.source, plan.f] {
+        line.extend(pair(head as u16));
+    }
+    line.extend(row_bytes(plan));
+    line.extend(quad(&file.bad));
+    line.extend(pair(file.value));
+    line.push(file.rounds as u8);
+    let marks = file.words.values().filter(|&&word| word == MARK_WORD);
+    line.extend((marks.count() as u32).to_be_bytes());
+    for (place, &word) in words_of(file).iter().enumerate() {
+        if word != 0 && word != MARK_WORD {
+            line.extend(pair(place as u16));
+            line.extend(pair(word));
+        }
+    }
+    line
+}
+
+/// The words of a run file as the list that a run is lent.
+fn words_of(file: &RunFile) -> Vec<u16> {
+    let n = file.plan.n;
+    let mut words = vec![0; (file.rounds * n * n) as usize];
+    for (&(round, from, to), &value) in &file.words {
+        words[(((round - 1) * n + from) * n + to) as usize] = value;
+    }
+    words
+}
+
+// ---- plans and sets
+
+fn row_bytes(plan: &Plan) -> Vec<u8> {
+    (0..20)
+        .flat_map(|hearer| quad(&plan.heard_by(hearer)))
+        .collect()
+}
+
+fn plan_bytes(plan: &Plan) -> Vec<u8> {
+    let head = [plan.n as u8, plan.source as u8, plan.f as u8];
+    [&head[..], &row_bytes(plan)].concat()
+}
+
+/// A plan of at most so many terminals, one in four with a wrong number in it.
+fn some_plan(rng: &mut Rng, most: u32) -> Plan {
+    let n = rng.between(2, most);
+    let make = rng.pick(&[
+        strong_plan as fn(&mut Rng, u32) -> Plan,
+        weak_plan,
+        deep_plan,
+        |rng, n| random_plan(rng, n, None),
+    ]);
+    let mut plan = make(rng, n);
+    if rng.chance(25) {
+        break_plan(rng, &mut plan);
+    }
+    plan
+}
+
+fn break_plan(rng: &mut Rng, plan: &mut Plan) {
+    let n = plan.n;
+    let outside = rng.between(n, 31);
+    match rng.below(6) {
+        0 => plan.n = rng.pick(&[0, 1, 21, 255]),
+        1 => plan.source = rng.pick(&[n, 255]),
+        2 => plan.f = rng.pick(&[n, 255]),
+        3 => drop(plan.links.insert((outside, rng.between(0, n - 1)))),
+        4 if n < 20 => drop(plan.links.insert((0, rng.between(n, 19)))),
+        _ => {
+            let both = rng.between(0, n - 1);
+            plan.links.insert((both, both));
+        }
+    }
+}
+
+/// Any terminals of the site; seldom one that the site lacks.
+fn some_set(rng: &mut Rng, n: u32) -> Set {
+    let share = rng.pick(&[5, 20, 50, 90]);
+    let mut set: Set = (0..n.min(32)).filter(|_| rng.chance(share)).collect();
+    if rng.chance(8) {
+        set.insert(rng.between(n.min(31), 31));
+    }
+    set
+}
+
+// ---- the two checks
+
+fn witness_call(seed: u64, index: u64) -> Call {
+    let mut rng = rng_for(seed, b'w', index);
+    let plan = some_plan(&mut rng, 9);
+    let mut sets = [Set::new(), Set::new(), Set::new()];
+    match verdict(&plan, Fault::None) {
+        Ok(found) if found.fails => sets = [found.bad, found.reached, found.left],
+        _ => {
+            for terminal in 0..plan.n.min(20) {
+                sets[rng.below(3)].insert(terminal);
+            }
+        }
+    }
+    if rng.chance(50) {
+        spoil_sets(&mut rng, &plan, &mut sets);
+    }
+    let [bad, reached, left] = &sets;
+    let answer = match witness_check(&plan, bad, reached, left) {
+        Ok(accepted) => u8::from(!accepted),
+        Err(cause) => cause.number(),
+    };
+    Call {
+        kind: b'w',
+        lent: 0,
+        body: [
+            &plan_bytes(&plan)[..],
+            &quad(bad),
+            &quad(reached),
+            &quad(left),
+        ]
+        .concat(),
+        line: vec![answer],
+    }
+}
+
+/// One terminal put in, taken out or moved, or one that the site lacks.
+fn spoil_sets(rng: &mut Rng, plan: &Plan, sets: &mut [Set; 3]) {
+    let terminal = rng.between(0, plan.n.clamp(1, 20) - 1);
+    let (one, other) = (rng.below(3), rng.below(3));
+    match rng.below(4) {
+        0 => drop(sets[one].insert(terminal)),
+        1 => drop(sets[one].remove(&terminal)),
+        2 => {
+            sets.iter_mut().for_each(|set| {
+                set.remove(&terminal);
+            });
+            sets[other].insert(terminal);
+        }
+        _ => drop(sets[one].insert(rng.between(plan.n.min(31), 31))),
+    }
+}
+
+fn fault_set_call(seed: u64, index: u64) -> Call {
+    let mut rng = rng_for(seed, b'c', index);
+    let plan = some_plan(&mut rng, 20);
+    let mut bad = some_set(&mut rng, plan.n);
+    if rng.chance(70) {
+        bad.remove(&plan.source);
+    }
+    Call {
+        kind: b'c',
+        lent: 0,
+        body: [&plan_bytes(&plan)[..], &quad(&bad)].concat(),
+        line: vec![number(fault_cause(&plan, &bad))],
+    }
+}
+
+// ---- the step
+
+fn record_bytes(record: &Record) -> Vec<u8> {
+    let (state, round, value) = match record.state {
+        State::Waiting => (0, 0, 0),
+        State::Taken(round, value) => (1, round as u8, value),
+    };
+    let mut bytes = vec![state, round];
+    bytes.extend(pair(value));
+    bytes.push(record.round as u8);
+    for neighbour in 0..20 {
+        bytes.extend(pair(record.notes.get(&neighbour).copied().unwrap_or(0)));
+    }
+    bytes
+}
+
+fn step_call(seed: u64, index: u64) -> Call {
+    let StepCase {
+        place,
+        record,
+        said,
+    } = step_case(seed, index);
+    let mut body = vec![
+        place.n as u8,
+        place.source as u8,
+        place.f as u8,
+        place.number as u8,
+    ];
+    body.extend(quad(&place.heard));
+    body.extend(record_bytes(&record));
+    body.extend(said.iter().flat_map(|&word| pair(word)));
+    let (number, after) = match step(&place, record, &said, Fault::None) {
+        Ok(after) => (0, after),
+        Err((cause, after)) => (cause.number(), after),
+    };
+    Call {
+        kind: b's',
+        lent: said.len(),
+        body,
+        line: [&[number], &record_bytes(&after)[..]].concat(),
+    }
+}
+
+// ---- the run by value
+
+/// What a run is given, with its words as a list.
+struct Site {
+    plan: Plan,
+    bad: Set,
+    value: u16,
+    rounds: u32,
+    words: Vec<u16>,
+}
+
+fn site(of: Site) -> Call {
+    let mut body = plan_bytes(&of.plan);
+    body.extend(quad(&of.bad));
+    body.extend(pair(of.value));
+    body.push(of.rounds as u8);
+    body.extend(of.words.iter().flat_map(|&word| pair(word)));
+    let order = Order {
+        plan: &of.plan,
+        bad: &of.bad,
+        value: of.value,
+        rounds: of.rounds,
+        words: &of.words,
+    };
+    // Twenty places are printed at most; a plan with more is refused and leaves start records.
+    let mut records = vec![Record::waiting(); of.plan.n as usize];
+    let mut line = vec![number(run(&order, &mut records, Fault::None))];
+    line.extend(records.iter().take(20).flat_map(record_bytes));
+    Call {
+        kind: b'n',
+        lent: of.words.len(),
+        body,
+        line,
+    }
+}
+
+/// The run of a file, with noise where no word is looked at; one in three is then broken.
+fn site_call(seed: u64, index: u64) -> Call {
+    let mut rng = rng_for(seed, b'n', index);
+    let file = loop {
+        let index = 100_000 + rng.below(1 << 30) as u64 * 16 + rng.below(8) as u64;
+        match read_run(&case(Kind::Run, seed, index), Fault::None) {
+            Ok(file) if file.plan.n <= 8 => break file,
+            _ => continue,
+        }
+    };
+    let mut of = Site {
+        words: words_of(&file),
+        plan: file.plan,
+        bad: file.bad,
+        value: file.value,
+        rounds: file.rounds,
+    };
+    let n = of.plan.n as usize;
+    for (place, word) in of.words.iter_mut().enumerate() {
+        let link = ((place / n % n) as u32, (place % n) as u32);
+        let looked_at = of.bad.contains(&link.0) && of.plan.links.contains(&link);
+        if !looked_at && rng.chance(30) {
+            *word = rng.pick(&[1, 3, of.value]);
+        }
+    }
+    if rng.chance(33) {
+        break_site(&mut rng, &mut of);
+    }
+    site(of)
+}
+
+fn break_site(rng: &mut Rng, of: &mut Site) {
+    let length = of.words.len();
+    match rng.below(7) {
+        0 => break_plan(rng, &mut of.plan),
+        1 => drop(of.bad.insert(of.plan.source)),
+        2 => drop(of.bad.insert(rng.between(of.plan.n, 31))),
+        3 => of.bad = some_set(rng, of.plan.n),
+        4 => of.value = 0,
+        5 => of.rounds = rng.pick(&[41, 255]),
+        _ => {
+            let short = length.saturating_sub(1);
+            of.words.resize(rng.pick(&[0, short, length + 1]), 1);
+        }
+    }
+}
+
+/// A sample of the whole space of sites with three terminals: any links, f, bad set and script
+/// over silence, the value and a lie, for two rounds.
+fn small_site_call(seed: u64, index: u64) -> Call {
+    let mut rng = rng_for(seed, b'x', index);
+    let mut plan = Plan::new(3, rng.between(0, 2), rng.between(0, 2));
+    for (from, to) in [(0, 1), (0, 2), (1, 0), (1, 2), (2, 0), (2, 1)] {
+        if rng.chance(60) {
+            plan.links.insert((from, to));
+        }
+    }
+    let mut bad = set_of(rng.between(0, 7));
+    bad.remove(&plan.source);
+    let words = (0..18).map(|_| rng.pick(&[0, 7, 3])).collect();
+    site(Site {
+        plan,
+        bad,
+        value: 7,
+        rounds: 2,
+        words,
+    })
+}
+
+// ---- the step as a board calls it
+
+/// Board calls as lines of digits, and the lines that answer them: n, source, f and own number in
+/// two bytes, the heard set in four, the record, and what was said.
+pub fn write_boards(seed: u64, count: u64, calls: &Path, lines: &Path) -> io::Result<()> {
+    let (mut input, mut output) = (Vec::new(), Vec::new());
+    for index in 0..count {
+        let (call, line) = board_call(seed, index);
+        input.extend(digits(&call));
+        input.push(10);
+        output.extend(digits(&line));
+        output.push(10);
+    }
+    fs::write(calls, input)?;
+    fs::write(lines, output)
+}
+
+/// A step's call; one record in five has bytes that are no state.
+fn board_call(seed: u64, index: u64) -> (Vec<u8>, Vec<u8>) {
+    let mut rng = rng_for(seed, b'b', index);
+    let StepCase {
+        place,
+        record,
+        said,
+    } = step_case(seed, index);
+    let mut bytes = record_bytes(&record);
+    let broken = rng.chance(20);
+    if broken {
+        break_state(&mut rng, &mut bytes);
+    }
+    let mut call = Vec::new();
+    for head in [place.n, place.source, place.f, place.number] {
+        call.extend(pair(head as u16));
+    }
+    call.extend(quad(&place.heard));
+    call.extend(&bytes);
+    call.extend(said.iter().flat_map(|&word| pair(word)));
+    // Bytes that are no state are a wrong record, and that is looked at in the same place.
+    let stands_for = if broken {
+        Record {
+            state: State::Taken(0, 0),
+            ..record
+        }
+    } else {
+        record
+    };
+    let line = match step(&place, stands_for, &said, Fault::None) {
+        Ok(after) => [&[0], &record_bytes(&after)[..]].concat(),
+        Err((cause, _)) => [&[cause.number()], &bytes[..]].concat(),
+    };
+    (call, line)
+}
+
+/// A first byte that is neither 0 nor 1, or a waiting record with a round or a value.
+fn break_state(rng: &mut Rng, bytes: &mut [u8]) {
+    bytes[..4].copy_from_slice(&[0; 4]);
+    match rng.below(4) {
+        0 => bytes[1] = 1 + rng.below(255) as u8,
+        1 => bytes[2 + rng.below(2)] = 1 + rng.below(255) as u8,
+        _ => {
+            bytes[0] = 2 + rng.below(254) as u8;
+            bytes[1] = rng.byte();
+            bytes[3] = rng.byte();
+        }
+    }
+}
