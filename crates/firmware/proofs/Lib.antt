@@ -1,0 +1,2 @@
+-- The laws of a board's record.
+pub mod Laws

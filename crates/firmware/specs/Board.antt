@@ -1,0 +1,34 @@
+-- A board's record, and the step on it. Assumes nothing.
+use Prim.Native.Nat.{ℕ}
+use mathlib.Core.List.{List}
+use lib.Dec.{eqb}
+use lib.ListN.{length}
+use Rattle.sets.specs.Tests.{_and_, pick}
+use Rattle.terminal.specs.declared.State.{State}
+use Rattle.terminal.specs.declared.State.the-variants.{Waiting, Taken}
+use Rattle.terminal.specs.declared.Record.{Record}
+use Rattle.terminal.specs.Answer.{causeOf, recordAfter}
+use Rattle.firmware.specs.declared.BoardRecord.{BoardRecord}
+use Rattle.firmware.specs.declared.BoardAnswer.{BoardAnswer}
+
+-- 1 is taken, three zeros are waiting; any other bytes stand for a state that no step takes: taken with value 0, which is refused 13
+unfoldable pub stateOf : ℕ → ℕ → ℕ → State
+stateOf taken at value = pick (eqb taken 1) (Taken at value) (pick (eqb taken 0 and eqb at 0 and eqb value 0) Waiting (Taken 0 0))
+
+unfoldable pub recordOf : BoardRecord → Record
+recordOf b = record { state = stateOf (b .taken) (b .at) (b .value); round = b .round; notes = b .notes }
+
+-- a record as a board keeps it
+unfoldable pub boardWith : State → ℕ → List ℕ → BoardRecord
+boardWith Waiting round notes = record { taken = 0; at = 0; value = 0; round = round; notes = notes }
+boardWith (Taken at value) round notes = record { taken = 1; at = at; value = value; round = round; notes = notes }
+
+unfoldable pub boardOf : Record → BoardRecord
+boardOf r = boardWith (r .state) (r .round) (r .notes)
+
+-- the step on what the board's record stands for; a refused record comes back as it went in, whatever its bytes
+unfoldable pub boardAnswer : ℕ → ℕ → ℕ → ℕ → ℕ → BoardRecord → List ℕ → BoardAnswer
+boardAnswer n source f own heard before said =
+    pick (eqb (causeOf n source f own heard (recordOf before) (length said)) 0)
+    (record { number = 0; after = boardOf (recordAfter n source f own heard (recordOf before) said) })
+    (record { number = causeOf n source f own heard (recordOf before) (length said); after = before })

@@ -1,0 +1,2 @@
+-- What the contracts of the step for C cite.
+pub mod Board

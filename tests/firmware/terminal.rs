@@ -1,0 +1,106 @@
+//! A safe wrapper of the archive for Rust, to be copied; `main` tries it on drawing C.
+
+#[repr(C)]
+#[derive(Clone, Copy, Debug, PartialEq, Eq)]
+pub struct Record {
+    pub taken: u8,
+    pub at: u8,
+    pub value: u16,
+    pub round: u8,
+    pub notes: [u16; 20],
+}
+
+#[repr(C)]
+struct Answer {
+    number: u8,
+    after: Record,
+}
+
+// What the archive was built for.
+const _: () = assert!(size_of::<Record>() == 46 && size_of::<Answer>() == 48);
+
+extern "C" {
+    fn hulmayek_start() -> Record;
+    fn hulmayek_source_start(value: u16) -> Record;
+    fn hulmayek_step(
+        n: usize,
+        source: usize,
+        f: usize,
+        own: usize,
+        heard: u32,
+        before: Record,
+        said: *const u16,
+        said_len: usize,
+    ) -> Answer;
+}
+
+/// Where a terminal stands on its site.
+#[derive(Clone, Copy)]
+pub struct Place {
+    pub n: usize,
+    pub source: usize,
+    pub f: usize,
+    pub own: usize,
+    /// Bit j: it hears terminal j.
+    pub heard: u32,
+}
+
+pub fn start() -> Record {
+    // SAFETY: takes nothing.
+    unsafe { hulmayek_start() }
+}
+
+pub fn source_start(value: u16) -> Record {
+    // SAFETY: takes a number.
+    unsafe { hulmayek_source_start(value) }
+}
+
+/// One round; or the number of the refusal, and the record is then still the caller's.
+pub fn step(place: Place, before: Record, said: &[u16]) -> Result<Record, u8> {
+    let Place {
+        n,
+        source,
+        f,
+        own,
+        heard,
+    } = place;
+    // SAFETY: a slice's pointer and length are true, and nobody writes while it is lent.
+    let answer =
+        unsafe { hulmayek_step(n, source, f, own, heard, before, said.as_ptr(), said.len()) };
+    match answer.number {
+        0 => Ok(answer.after),
+        number => Err(number),
+    }
+}
+
+fn main() {
+    let second = Place {
+        n: 3,
+        source: 0,
+        f: 0,
+        own: 1,
+        heard: 1,
+    };
+    let third = Place {
+        own: 2,
+        heard: 2,
+        ..second
+    };
+    let one = step(second, start(), &[7, 0, 0]).expect("round 1 of terminal 1");
+    assert_eq!((one.taken, one.at, one.value), (1, 1, 7));
+    let two = step(third, start(), &[7, 0, 0]).expect("round 1 of terminal 2");
+    assert_eq!((two.taken, two.round), (0, 1));
+    let two = step(third, two, &[0, 7, 0]).expect("round 2 of terminal 2");
+    assert_eq!((two.taken, two.at, two.value), (1, 2, 7));
+    let source = Place {
+        own: 0,
+        heard: 0,
+        ..second
+    };
+    assert_eq!(
+        step(source, source_start(7), &[0; 3]).map(|after| after.value),
+        Ok(7)
+    );
+    assert_eq!(step(second, one, &[0; 2]), Err(12));
+    println!("drawing C from Rust: as document 01 has it");
+}
