@@ -1,4 +1,5 @@
--- The laws of the texts for their callers: what is written lies within the lent list; 23 bytes are room for every verdict, 260 for every run. Assumes nothing.
+-- The laws of the texts for their callers: what is written lies within the lent list; 23 bytes are room for every verdict, 260 for every run, 2809 for every
+-- plan. Assumes nothing.
 use Prim.Native.Nat.{ℕ, zero, suc, _*_, _≤_}
 use mathlib.Core.Path.{_≡_, refl, ap, _∙_}
 use mathlib.Core.Bool.{Bool}
@@ -16,8 +17,10 @@ use Rattle.frames.specs.declared.Progress.{Progress}
 use Rattle.frames.specs.Digits.{hexByte}
 use Rattle.frames.specs.Reading.{planReading, runReading}
 use Rattle.output.specs.declared.Written.{Written}
+use Rattle.writer.specs.Written.{planText}
+use Rattle.writer.proofs.Laws.{text-short}
 use Rattle.output.specs.Lines.{hexPair, hexTriple, refusalLine, verdictLine, terminalLine}
-use Rattle.output.specs.Texts.{answerText, verdictText, writtenOf}
+use Rattle.output.specs.Texts.{answerText, verdictText, writtenOf, rewrittenText}
 use Rattle.output.specs.Site.{goodLine, stateLine, siteLines, ranText, runText}
 use Rattle.output.proofs.SiteLaws.{run-playable}
 
@@ -97,6 +100,13 @@ run-short file =
     omega (arith, ran-length (runReading file .progress) (runReading file .words)))
     (λ h. omega (arith, refusal-length (runReading file .number) (runReading file .line)))
 
+pub rewritten-short : (file : List ℕ) → length (rewrittenText file) ≤ 2809
+unfolding rewrittenText
+rewritten-short file =
+    pick-case (λ (t : List ℕ). length t ≤ 2809) (eqb (planReading file .number) 0) (planText (planReading file .progress .plan))
+    (refusalLine (planReading file .number) (planReading file .line)) (λ h. text-short (planReading file .progress .plan))
+    (λ h. omega (arith, refusal-length (planReading file .number) (planReading file .line)))
+
 -- ---- so these lists have room for every answer
 
 room-for : (text : List ℕ) (room : ℕ) → length text ≤ room → writtenOf text room ≡ record { number = 0; len = length text }
@@ -108,3 +118,7 @@ verdict-fits file room h = room-for (verdictText file) room (omega (arith, verdi
 
 pub run-fits : (file : List ℕ) (room : ℕ) → 260 ≤ room → writtenOf (runText file) room ≡ record { number = 0; len = length (runText file) }
 run-fits file room h = room-for (runText file) room (omega (arith, run-short file))
+
+pub rewritten-fits : (file : List ℕ) (room : ℕ) → 2809 ≤ room
+    → writtenOf (rewrittenText file) room ≡ record { number = 0; len = length (rewrittenText file) }
+rewritten-fits file room h = room-for (rewrittenText file) room (omega (arith, rewritten-short file))

@@ -9,6 +9,7 @@ use lib.Seq.{sets}
 use Rattle.sets.specs.Tests.{pick}
 use Rattle.partition.specs.Answer as partition
 use Rattle.frames.specs.Reading.{Reading, planReading}
+use Rattle.writer.specs.Written.{planText}
 use Rattle.output.specs.declared.Written.{Written}
 use Rattle.output.specs.declared.text.Text.{Text}
 use Rattle.output.specs.Lines.{refusalLine, verdictLine}
@@ -21,6 +22,12 @@ answerText a = pick (eqb (a .number) 0) (verdictLine (a .failed) (a .f) (a .l) (
 unfoldable pub verdictText : List ℕ → List ℕ
 verdictText file =
     pick (eqb (planReading file .number) 0) (answerText (partition.answerOf (planReading file .progress .plan)))
+    (refusalLine (planReading file .number) (planReading file .line))
+
+-- what `rewrite` prints: the file's plan written anew, or why the file is refused
+unfoldable pub rewrittenText : List ℕ → List ℕ
+rewrittenText file =
+    pick (eqb (planReading file .number) 0) (planText (planReading file .progress .plan))
     (refusalLine (planReading file .number) (planReading file .line))
 
 -- a text put into a lent list: the text's length, or 12 where the list is shorter than the text

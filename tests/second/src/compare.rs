@@ -1,8 +1,8 @@
-//! Two programs against this implementation, byte for byte.
+//! The programs against this implementation, byte for byte.
 
 use crate::faults::Fault;
 use crate::generate::{case, Kind};
-use crate::output::{run_text, verdict_text};
+use crate::output::{rewritten_text, run_text, verdict_text};
 use std::fs;
 use std::io::{Read, Write};
 use std::process::{Child, Command, Stdio};
@@ -88,16 +88,40 @@ fn finish(mut child: Child, output: Vec<u8>, end: Instant) -> Answer {
     }
 }
 
-/// Compares both programs; prints one line in all, and true if nothing differed.
-pub fn compare(verdict_program: &str, run_program: &str, seed: u64, count: u64) -> bool {
+/// A program under test: its own name, the cases it gets, and what it has to print.
+struct Tested<'a> {
+    name: &'static str,
+    program: &'a str,
+    kind: Kind,
+    text: fn(&[u8], Fault) -> Vec<u8>,
+}
+
+/// The programs, in this order: verdict, run, rewrite.
+fn tested<'a>(programs: &[&'a str; 3]) -> [Tested<'a>; 3] {
+    let [verdict, run, rewrite] = *programs;
+    let of = |name, program, kind, text| Tested {
+        name,
+        program,
+        kind,
+        text,
+    };
+    [
+        of("verdict", verdict, Kind::Verdict, verdict_text),
+        of("run", run, Kind::Run, run_text),
+        of("rewrite", rewrite, Kind::Verdict, rewritten_text),
+    ]
+}
+
+/// Compares the programs; prints one line in all, and true if nothing differed.
+pub fn compare(programs: &[&str; 3], seed: u64, count: u64) -> bool {
     let (mut cases, mut mismatches) = (0, 0);
-    for (kind, program) in [(Kind::Verdict, verdict_program), (Kind::Run, run_program)] {
+    for tested in tested(programs) {
         let mut here = 0;
         for index in 0..count {
             cases += 1;
-            let input = case(kind, seed, index);
-            if let Some(reason) = difference(kind, program, &input) {
-                report(kind, seed, index, &input, &reason);
+            let input = case(tested.kind, seed, index);
+            if let Some(reason) = difference(&tested, &input) {
+                report(tested.name, seed, index, &input, &reason);
                 here += 1;
             }
             if here == ENOUGH_MISMATCHES {
@@ -110,12 +134,9 @@ pub fn compare(verdict_program: &str, run_program: &str, seed: u64, count: u64) 
     mismatches == 0
 }
 
-fn difference(kind: Kind, program: &str, input: &[u8]) -> Option<String> {
-    let own = match kind {
-        Kind::Verdict => verdict_text(input, Fault::None),
-        Kind::Run => run_text(input, Fault::None),
-    };
-    match ask(program, input, TIME_LIMIT) {
+fn difference(tested: &Tested, input: &[u8]) -> Option<String> {
+    let own = (tested.text)(input, Fault::None);
+    match ask(tested.program, input, TIME_LIMIT) {
         Answer::Output(output) if output == own => None,
         Answer::Output(output) => Some(format!(
             "printed {:?} instead of {:?}",
@@ -127,8 +148,8 @@ fn difference(kind: Kind, program: &str, input: &[u8]) -> Option<String> {
     }
 }
 
-fn report(kind: Kind, seed: u64, index: u64, input: &[u8], reason: &str) {
-    let name = format!("mismatch-{}-{}-{}.txt", kind.name(), seed, index);
+fn report(program: &str, seed: u64, index: u64, input: &[u8], reason: &str) {
+    let name = format!("mismatch-{program}-{seed}-{index}.txt");
     eprintln!("{name}: {reason}");
     if let Err(error) = fs::write(&name, input) {
         eprintln!("{name} not written: {error}");

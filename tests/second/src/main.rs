@@ -12,7 +12,7 @@ const USAGE: &str = "usage:
   second verdict < FILE
   second run < FILE
   second generate verdict|run SEED COUNT DIR
-  second compare PROGRAM_VERDICT PROGRAM_RUN SEED COUNT
+  second compare PROGRAM_VERDICT PROGRAM_RUN PROGRAM_REWRITE SEED COUNT
   second faults [SEED COUNT]
   second exhaust
   second record CALLS LINES
@@ -50,9 +50,8 @@ fn dispatch(words: &[&str]) -> Option<bool> {
                 Path::new(folder),
             )))
         }
-        ["compare", verdict, run, seed, count] => Some(compare::compare(
-            verdict,
-            run,
+        ["compare", verdict, run, rewrite, seed, count] => Some(compare::compare(
+            &[verdict, run, rewrite],
             number(seed)?,
             number(count)?,
         )),

@@ -68,6 +68,14 @@ pub fn verdict_text(text: &[u8], fault: Fault) -> Vec<u8> {
     }
 }
 
+/// All of the program `rewrite`, from text to text.
+pub fn rewritten_text(text: &[u8], fault: Fault) -> Vec<u8> {
+    match read_plan(text, fault) {
+        Ok(plan) => plan_text(&plan),
+        Err(refusal) => refusal_line(refusal),
+    }
+}
+
 /// All of the program `run`, from text to text.
 pub fn run_text(text: &[u8], fault: Fault) -> Vec<u8> {
     let answer = read_run(text, fault).and_then(|file| {

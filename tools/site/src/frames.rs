@@ -1,0 +1,132 @@
+//! Frames, one a line: from bytes to numbers and back. Nothing is checked here but the form:
+//! what comes in has been accepted by a proved program, or was printed by one.
+
+pub struct Plan {
+    pub terminals: u8,
+    pub source: u8,
+    pub bound: u8,
+    /// (sender, hearer), in the file's order.
+    pub links: Vec<(u8, u8)>,
+}
+
+/// Cause and line of a refused file; line 0 is the whole file.
+pub struct Refusal {
+    pub cause: u8,
+    pub line: usize,
+}
+
+/// F, L and R of a failing plan; all empty where it passes.
+pub struct Verdict {
+    pub fails: bool,
+    pub bad: Vec<u8>,
+    pub reached: Vec<u8>,
+    pub cut_off: Vec<u8>,
+}
+
+pub enum State {
+    Waiting,
+    Taken { round: u8, value: u16 },
+    Bad,
+}
+
+pub enum Answer {
+    Refused(Refusal),
+    Verdict(Verdict),
+    /// By terminal, ascending.
+    Terminals(Vec<(u8, State)>),
+    /// A plan in its fixed order.
+    Plan,
+}
+
+pub fn head(terminals: u8, source: u8, bound: u8) -> String {
+    format!("01{terminals:02x}{source:02x}{bound:02x}\n")
+}
+
+pub fn link(from: u8, to: u8) -> String {
+    format!("02{from:02x}{to:02x}\n")
+}
+
+/// Kinds 03 to 05 are those that only `run` has.
+pub fn is_run_file(file: &[u8]) -> bool {
+    let mut lines = file.split(|&byte| byte == b'\n');
+    lines.any(|line| matches!(line, [b'0', b'3' | b'4' | b'5', ..]))
+}
+
+/// The head and the links of an accepted file; other frames of a run file are passed over.
+pub fn plan(file: &[u8]) -> Plan {
+    let mut plan = Plan {
+        terminals: 0,
+        source: 0,
+        bound: 0,
+        links: Vec::new(),
+    };
+    for line in String::from_utf8_lossy(file).lines() {
+        match bytes(line).unwrap_or_default()[..] {
+            [1, terminals, source, bound] => {
+                (plan.terminals, plan.source, plan.bound) = (terminals, source, bound);
+            }
+            [2, from, to] => plan.links.push((from, to)),
+            _ => {}
+        }
+    }
+    plan
+}
+
+/// What a program printed, by the kind of its first frame.
+pub fn answer(printed: &str) -> Option<Answer> {
+    let frames: Option<Vec<Vec<u8>>> = printed.lines().map(bytes).collect();
+    let frames = frames?;
+    match frames.first()?[..] {
+        [0xff, cause, high, low] => Some(Answer::Refused(Refusal {
+            cause,
+            line: usize::from(u16::from_be_bytes([high, low])),
+        })),
+        [0x81, fails, ..] => verdict(fails, &frames[0][2..]),
+        [0x82, ..] => {
+            let states: Option<Vec<_>> = frames.iter().map(|frame| terminal(frame)).collect();
+            states.map(Answer::Terminals)
+        }
+        [0x01, ..] => Some(Answer::Plan),
+        _ => None,
+    }
+}
+
+fn verdict(fails: u8, sets: &[u8]) -> Option<Answer> {
+    let [a, b, c, d, e, f, g, h, i] = *sets else {
+        return None;
+    };
+    Some(Answer::Verdict(Verdict {
+        fails: fails == 1,
+        bad: members([a, b, c]),
+        reached: members([d, e, f]),
+        cut_off: members([g, h, i]),
+    }))
+}
+
+fn terminal(frame: &[u8]) -> Option<(u8, State)> {
+    let [0x82, number, state, round, high, low] = *frame else {
+        return None;
+    };
+    let value = u16::from_be_bytes([high, low]);
+    match state {
+        0 => Some((number, State::Waiting)),
+        1 => Some((number, State::Taken { round, value })),
+        2 => Some((number, State::Bad)),
+        _ => None,
+    }
+}
+
+/// A set is a number whose bit i stands for terminal i, high byte first.
+fn members([high, middle, low]: [u8; 3]) -> Vec<u8> {
+    let set = u32::from_be_bytes([0, high, middle, low]);
+    (0..24)
+        .filter(|&terminal| set >> terminal & 1 == 1)
+        .collect()
+}
+
+fn bytes(line: &str) -> Option<Vec<u8>> {
+    let digits: Option<Vec<u32>> = line.chars().map(|digit| digit.to_digit(16)).collect();
+    let pairs = digits?;
+    let byte = |pair: &[u32]| Some((pair.first()? * 16 + pair.get(1)?) as u8);
+    pairs.chunks(2).map(byte).collect()
+}

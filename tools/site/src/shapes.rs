@@ -1,0 +1,167 @@
+//! Outlines and arrowheads. What a terminal is shows in its shape and stroke as well as in its
+//! colour, so that a picture can be read without colours.
+
+#[derive(Clone, Copy)]
+pub struct Point {
+    pub x: f64,
+    pub y: f64,
+}
+
+impl Point {
+    /// The point at a distance from here, in a direction of length 1.
+    pub fn moved(self, direction: Point, distance: f64) -> Point {
+        Point {
+            x: self.x + direction.x * distance,
+            y: self.y + direction.y * distance,
+        }
+    }
+
+    /// The direction from here to there, of length 1.
+    pub fn towards(self, there: Point) -> Point {
+        let (x, y) = (there.x - self.x, there.y - self.y);
+        let length = x.hypot(y);
+        Point {
+            x: x / length,
+            y: y / length,
+        }
+    }
+}
+
+/// What the verdict says of a terminal; `Plain` where the plan passes.
+#[derive(Clone, Copy)]
+pub enum Role {
+    Plain,
+    Bad,
+    Reached,
+    CutOff,
+}
+
+impl Role {
+    pub fn name(self) -> &'static str {
+        match self {
+            Role::Plain => "plain",
+            Role::Bad => "bad",
+            Role::Reached => "reached",
+            Role::CutOff => "cut-off",
+        }
+    }
+
+    /// Fill and stroke; the strokes are of the Okabe-Ito palette, which colour-blind eyes tell apart.
+    fn look(self) -> &'static str {
+        match self {
+            Role::Plain => r##"fill="#ffffff" stroke="#333333" stroke-width="2""##,
+            Role::Bad => {
+                r##"fill="#f9d9c4" stroke="#d55e00" stroke-width="3" stroke-dasharray="6 3""##
+            }
+            Role::Reached => r##"fill="#d4e8f4" stroke="#0072b2" stroke-width="3""##,
+            Role::CutOff => r##"fill="#f7ef8a" stroke="#000000" stroke-width="1.5""##,
+        }
+    }
+
+    /// How far the outline is from its middle in a direction.
+    pub fn reach(self, size: f64, direction: Point) -> f64 {
+        let (x, y) = (direction.x.abs(), direction.y.abs());
+        match self {
+            Role::Plain | Role::Reached => size,
+            Role::Bad => size * 0.92 / x.max(y),
+            Role::CutOff => size * 1.4 / (x + y),
+        }
+    }
+
+    /// A circle, a dashed square, or a diamond with a double line.
+    pub fn outline(self, at: Point, size: f64) -> String {
+        let look = self.look();
+        match self {
+            Role::Plain | Role::Reached => circle(at, size, look),
+            Role::Bad => {
+                let (x, y, side) = (at.x - size * 0.92, at.y - size * 0.92, size * 1.84);
+                format!(
+                    r#"<rect x="{x:.1}" y="{y:.1}" width="{side:.1}" height="{side:.1}" {look}/>"#
+                )
+            }
+            Role::CutOff => {
+                let inner = r##"fill="none" stroke="#000000" stroke-width="1.5""##;
+                diamond(at, size * 1.4, look) + &diamond(at, size * 1.4 - 5.0, inner)
+            }
+        }
+    }
+}
+
+pub fn circle(at: Point, radius: f64, look: &str) -> String {
+    let Point { x, y } = at;
+    format!(r#"<circle cx="{x:.1}" cy="{y:.1}" r="{radius:.1}" {look}/>"#)
+}
+
+fn diamond(at: Point, half: f64, look: &str) -> String {
+    let Point { x, y } = at;
+    let (left, right, top, bottom) = (x - half, x + half, y - half, y + half);
+    format!(
+        r#"<polygon points="{x:.1},{top:.1} {right:.1},{y:.1} {x:.1},{bottom:.1} {left:.1},{y:.1}" {look}/>"#
+    )
+}
+
+/// How links are drawn; thin and half-transparent where there are many.
+pub struct Pen {
+    pub width: f64,
+    pub opacity: f64,
+    pub head_length: f64,
+    pub head_half: f64,
+}
+
+impl Pen {
+    pub fn for_links(links: usize) -> Pen {
+        let (width, opacity, head_length, head_half) = match links {
+            0..=60 => (1.8, 0.9, 12.0, 4.5),
+            61..=200 => (1.0, 0.55, 9.0, 3.0),
+            _ => (0.8, 0.4, 8.0, 2.2),
+        };
+        Pen {
+            width,
+            opacity,
+            head_length,
+            head_half,
+        }
+    }
+
+    /// A head with its tip here, pointing in a direction.
+    pub fn head(&self, tip: Point, direction: Point) -> String {
+        let base = tip.moved(direction, -self.head_length);
+        let side = Point {
+            x: -direction.y,
+            y: direction.x,
+        };
+        let (left, right) = (
+            base.moved(side, self.head_half),
+            base.moved(side, -self.head_half),
+        );
+        format!(
+            r##"<polygon class="head" points="{:.1},{:.1} {:.1},{:.1} {:.1},{:.1}" fill="#333333" fill-opacity="{}"/>"##,
+            tip.x, tip.y, left.x, left.y, right.x, right.y, self.opacity
+        )
+    }
+
+    pub fn line(&self, from: Point, to: Point) -> String {
+        format!(
+            r##"<line class="link" x1="{:.1}" y1="{:.1}" x2="{:.1}" y2="{:.1}" stroke="#333333" stroke-width="{}" stroke-opacity="{}"/>"##,
+            from.x, from.y, to.x, to.y, self.width, self.opacity
+        )
+    }
+
+    /// The line between two tips, one element, with a head at each end that has one. The line
+    /// stops at a head's base, since a half-transparent head would show it.
+    pub fn arrow(&self, tips: [Point; 2], heads: [bool; 2]) -> String {
+        let along = tips[0].towards(tips[1]);
+        let back = tips[1].towards(tips[0]);
+        let cut = |has_head: bool| if has_head { self.head_length } else { 0.0 };
+        let start = tips[0].moved(along, cut(heads[0]));
+        let end = tips[1].moved(back, cut(heads[1]));
+        let mut drawn = self.line(start, end);
+        if heads[0] {
+            drawn += &self.head(tips[0], back);
+        }
+        if heads[1] {
+            drawn += &self.head(tips[1], along);
+        }
+        drawn + "\n"
+    }
+}
