@@ -1,21 +1,22 @@
-// The search of crates/partition/src/search.rt in plain Rust: the same functions, the same tests in
-// the same order. tests/bench/run compiles it by `rustc -O` and compares instruction counts.
-// It reads an accepted plan file on standard input and refuses nothing.
+// The search of crates/partition/src (search.rt, bound.rt, branch.rt) in plain Rust: the same
+// functions, the same tests in the same order. tests/bench/run compiles it by `rustc -O` and
+// compares instruction counts. It reads an accepted plan file on standard input and refuses nothing.
+// hunt.rs looks for plans that are bad for it.
 use std::io::{Read, Write};
 
 #[derive(Clone, Copy)]
-struct Plan {
-    n: usize,
-    source: usize,
-    f: usize,
-    rows: [u32; 20],
+pub struct Plan {
+    pub n: usize,
+    pub source: usize,
+    pub f: usize,
+    pub rows: [u32; 20],
 }
 
 // The best set so far: members above 20 for none.
 #[derive(Clone, Copy)]
-struct Best {
-    members: usize,
-    set: u32,
+pub struct Best {
+    pub members: usize,
+    pub set: u32,
 }
 
 fn over(rows: &[u32; 20], f: u32, a: u32) -> u32 {
@@ -26,16 +27,12 @@ fn over(rows: &[u32; 20], f: u32, a: u32) -> u32 {
     found
 }
 
-fn direct(rows: &[u32; 20], source: usize) -> u32 {
+pub fn direct(rows: &[u32; 20], source: usize) -> u32 {
     let mut found = 0;
     for b in 0..20 {
         found |= ((rows[b] >> source) & 1) << b;
     }
     found
-}
-
-fn bounded(p: &Plan, s: u32) -> bool {
-    over(&p.rows, p.f as u32, s) & !s == 0
 }
 
 fn grown(p: &Plan, hearers: u32, faulty: u32, l: u32) -> u32 {
@@ -60,35 +57,135 @@ fn left_out(n: usize, faulty: u32, l: u32) -> u32 {
     ((1u32 << n) - 1) & !(faulty | l)
 }
 
-fn tried(p: &Plan, hearers: u32, best: Best, s: u32) -> Best {
-    if (s >> p.source) & 1 == 1 {
-        return best;
-    }
-    let members = s.count_ones() as usize;
-    if best.members <= members {
-        return best;
-    }
-    if bounded(p, s) {
-        let l = reach(p, hearers, s);
-        if left_out(p.n, s, l) != 0 {
-            return Best { members, set: s };
+fn forced(p: &Plan, inn: u32) -> u32 {
+    let mut s = inn;
+    loop {
+        let next = s | over(&p.rows, p.f as u32, s);
+        if next == s {
+            return s;
         }
+        s = next;
     }
-    best
 }
 
-fn search(p: &Plan, hearers: u32) -> Best {
-    let mut best = Best {
-        members: 21,
-        set: 0,
-    };
-    let end = 1u32 << p.n;
-    let mut s = 0;
-    while s < end {
-        best = tried(p, hearers, best, s);
-        s += 1;
+fn settled(p: &Plan, out: u32, known: u32) -> u32 {
+    let f = p.f as u32;
+    let mut s = known;
+    loop {
+        let next = s | over(&p.rows, f, s & out) | over(&p.rows, 2 * f, s);
+        if next == s {
+            return s;
+        }
+        s = next;
     }
-    best
+}
+
+fn all_hear(rows: &[u32; 20], rest: u32, inn: u32, known: u32, need: u32) -> bool {
+    for b in 0..20 {
+        if (rest >> b) & 1 == 1 && (known & (rows[b] | inn)).count_ones() < need {
+            return false;
+        }
+    }
+    true
+}
+
+fn heard(rows: &[u32; 20], s: u32) -> u32 {
+    let mut found = 0;
+    for b in 0..20 {
+        if (s >> b) & 1 == 1 {
+            found |= rows[b];
+        }
+    }
+    found
+}
+
+fn hubs(rows: &[u32; 20]) -> u32 {
+    let (mut ones, mut twos, mut fours, mut eights) = (0, 0, 0, 0);
+    for &one in rows {
+        let two = ones & one;
+        let four = twos & two;
+        eights |= fours & four;
+        fours ^= four;
+        twos ^= two;
+        ones ^= one;
+    }
+    eights
+}
+
+fn key(s: u32) -> u32 {
+    (s.count_ones() << 20) + s
+}
+
+fn defeats(p: &Plan, hearers: u32, s: u32) -> bool {
+    let l = reach(p, hearers, s);
+    left_out(p.n, s, l) != 0
+}
+
+fn highest(s: u32) -> usize {
+    31 - s.leading_zeros() as usize
+}
+
+fn chosen(heard: u32, hubs: u32, free: u32) -> usize {
+    let near = heard & free;
+    if hubs & near != 0 {
+        return highest(hubs & near);
+    }
+    if near != 0 {
+        return highest(near);
+    }
+    highest(free)
+}
+
+fn hopeless(p: &Plan, inn: u32, known: u32, rest: u32, best: u32) -> bool {
+    let more = (inn < best & 0xfffff) as u32;
+    all_hear(&p.rows, rest, inn, known, p.f as u32 + (best >> 20) + more)
+}
+
+fn split(p: &Plan, hearers: u32, hubs: u32, inn: u32, out: u32, known: u32, best: u32) -> u32 {
+    let sure = settled(p, out, known);
+    let rest = left_out(p.n, inn, sure);
+    if hopeless(p, inn, sure, rest, best) {
+        return best;
+    }
+    let free = left_out(p.n, inn, out);
+    if free == 0 {
+        return best;
+    }
+    let b = chosen(heard(&p.rows, rest) & sure, hubs, free);
+    let first = split(p, hearers, hubs, inn, out | 1 << b, sure, best);
+    inside(p, hearers, hubs, inn | 1 << b, out, sure, first)
+}
+
+fn inside(p: &Plan, hearers: u32, hubs: u32, inn: u32, out: u32, known: u32, best: u32) -> u32 {
+    let all = forced(p, inn);
+    if all & out != 0 {
+        return best;
+    }
+    let own = key(all);
+    if best <= own {
+        return best;
+    }
+    if defeats(p, hearers, all) {
+        return own;
+    }
+    split(p, hearers, hubs, all, out, known | all, best)
+}
+
+pub fn search(p: &Plan, hearers: u32) -> Best {
+    let source = 1 << p.source;
+    let best = inside(
+        p,
+        hearers,
+        hubs(&p.rows),
+        0,
+        source,
+        source | hearers,
+        21 << 20,
+    );
+    Best {
+        members: (best >> 20) as usize,
+        set: best & 0xfffff,
+    }
 }
 
 fn digit(b: u8) -> u8 {
@@ -100,7 +197,7 @@ fn digit(b: u8) -> u8 {
 }
 
 // One pass: the bytes of the line so far, applied at its end.
-fn read(text: &[u8]) -> Plan {
+pub fn read(text: &[u8]) -> Plan {
     let mut p = Plan {
         n: 0,
         source: 0,

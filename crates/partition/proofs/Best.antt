@@ -1,79 +1,110 @@
--- What the search keeps after it has tried a set. Assumes nothing.
-use Prim.Native.Nat.{ℕ, _≤_, _<_, _^_}
+-- The least key, read as the best set of the definition. Assumes nothing.
+use Prim.Native.Nat.{ℕ, _/_, _%_, _≤_, _<_, _^_}
 use mathlib.Core.Path.{_≡_, refl, sym, ap, _∙_, subst}
-use mathlib.Core.Logic.{_⊎_, inl, inr}
-use mathlib.Core.Bool.{Bool, true, false, not}
+use mathlib.Core.Logic.{_⊎_, inl, inr, ⊎-elim}
+use mathlib.Core.Bool.{true, false}
 use native.Mathlib.Nat.{lt-of-lt-of-le}
 use native.Mathlib.Omega.{arith}
-use lib.Dec.{ltb}
-use lib.Pow.{pow-mono}
-use borrow.Author.Tests.{lt-ltb, le-ltb}
-use Rattle.sets.specs.Tests.{_and_, _implies_, pick}
-use Rattle.sets.specs.Sets.{mem, all, mask, size, within}
-use Rattle.sets.proofs.Bools.{clash, and-i, and-no-l, and-no-r, not-i, no-by, pick-yes, pick-no}
-use Rattle.sets.proofs.Laws.{count-le}
-use Rattle.sets.proofs.Masks.{ones-count}
+use lib.Bits.{bitOr, or-lt}
+use lib.Dec.{eqb}
+use lib.Pow.{pow-mono, pow-pos}
+use borrow.Author.Tests.{eqb-true, eq-eqb}
+use Rattle.sets.specs.Sets.{mem, mask, size, singleton}
+use Rattle.sets.proofs.Bools.{clash, decide, or-e}
+use Rattle.sets.proofs.Laws.{mask-lt, mem-mask, mem-below, mem-zero}
+use Rattle.sets.proofs.Masks.{mem-or}
+use Rattle.sets.proofs.Operations.{singleton-narrow}
 use Rattle.plan.specs.declared.Plan.{Plan}
-use Rattle.plan.proofs.Laws.{Sound}
-use Rattle.propagation.specs.FaultSet.{hearsMany, isFaultSet}
-use Rattle.propagation.specs.Closure.{reached, rest, cutOff}
-use Rattle.propagation.specs.Verdict.{defeats, Found, none, found, better}
-use Rattle.propagation.proofs.Faults.{fault-source}
-use Rattle.propagation.proofs.Witness.{defeats-fault, defeats-cuts, defeats-i}
+use Rattle.plan.specs.Plan.{causeOf}
+use Rattle.plan.proofs.Laws.{sound}
+use Rattle.propagation.specs.Closure.{reached}
+use Rattle.propagation.specs.Verdict.{defeats, Found, none, found, bestBelow}
+use Rattle.propagation.proofs.Faults.{fault-below, fault-source}
+use Rattle.propagation.proofs.Growth.{joins-source, reached-closed, reached-source}
+use Rattle.propagation.proofs.Witness.{Ahead, IsBest, best-below, defeats-fault}
 use Rattle.partition.specs.declared.search.Best.{Best}
-use Rattle.partition.specs.Search.{StandsFor}
+use Rattle.partition.specs.Search.{direct, key, StandsFor, Between, Part, Least}
+use Rattle.partition.proofs.Rows.{direct-mem, direct-below}
+use Rattle.partition.proofs.Members.{key-low, key-members, key-set, size-twenty}
 
--- the members of a set of n terminals, counted in a whole word
-pub size-narrow : (p : Plan) → Sound p → (s : ℕ) → s < 2 ^ p .n → size 32 s ≡ size (p .n) s
-unfolding size
-size-narrow p sound s h =
-    let t : p .n ≤ 32 = let u = sound .twenty in omega arith in
-    sym (ones-count 32 s (lt-of-lt-of-le h (pow-mono t))) ∙ ones-count (p .n) s h
+module _ (p : Plan) (e : causeOf p ≡ 0) (one : ℕ) (q : one ≡ singleton 32 (p .source)) where
+  one-is : one ≡ mask (p .n) (λ j. eqb j (p .source))
+  one-is = q ∙ (let s = sound p e in singleton-narrow 32 (p .n) (p .source) (s .source-below) (omega arith))
 
--- ---- why a set does not defeat the plan, and why it does
+  one-below : one < 2 ^ p .n
+  one-below = subst (λ (x : ℕ). x < 2 ^ p .n) (sym one-is) (mask-lt (p .n) (λ j. eqb j (p .source)))
 
-pub source-faulty : (p : Plan) (s : ℕ) → mem (p .source) s ≡ true → defeats p s ≡ false
-source-faulty p s m = no-by (λ d. clash m (fault-source p s (defeats-fault p s d)))
+  one-only : (i : ℕ) → mem i one ≡ true → i ≡ p .source
+  one-only i m =
+      eqb-true i (p .source)
+      (sym (ap (mem i) one-is ∙ mem-mask (p .n) i (λ j. eqb j (p .source)) (mem-below (p .n) i one one-below m)) ∙ m)
 
-pub unbounded : (p : Plan) (s : ℕ) → all (p .n) (λ b. not (mem b s) implies not (hearsMany p b s)) ≡ false → defeats p s ≡ false
-unfolding defeats isFaultSet
-unbounded p s e = and-no-l _ _ (and-no-r _ _ (and-no-r _ _ e))
+  -- the whole search: no fault set has the source, and the source and its hearers are settled
+  pub whole : (hearers : ℕ) → hearers ≡ direct (p .rows) (p .source) → Part p hearers 0 one (bitOr one hearers)
+  whole hearers d = record {
+    plan = e;
+    hearers-are = d;
+    inn-below = pow-pos (p .n);
+    out-below = one-below;
+    known-below = or-lt (p .n) one hearers one-below (direct-below p (sound p e) hearers d);
+    source-out =
+        ap (mem (p .source)) one-is ∙ mem-mask (p .n) (p .source) (λ j. eqb j (p .source)) (sound p e .source-below)
+        ∙ eq-eqb (p .source) (p .source) refl;
+    settled = λ s t w i m. ⊎-elim (λ v. inr (at-source s i (one-only i v))) (hearing s i) (or-e _ _ (sym (mem-or i one hearers) ∙ m));
+  }
+    where
+      at-source : (s i : ℕ) → i ≡ p .source → mem i (reached p s) ≡ true
+      at-source s i v = subst (λ (x : ℕ). mem x (reached p s) ≡ true) (sym v) (reached-source p s (sound p e .source-below))
 
-cut-is : (p : Plan) (s l r : ℕ) → l ≡ reached p s → r ≡ mask (p .n) (λ b. not (mem b s) and not (mem b l)) → r ≡ cutOff p s
-unfolding cutOff rest
-cut-is p s l r e q = q ∙ ap (λ (x : ℕ). mask (p .n) (λ b. not (mem b s) and not (mem b x))) e
+      hearing : (s i : ℕ) → mem i hearers ≡ true → (mem i s ≡ true) ⊎ (mem i (reached p s) ≡ true)
+      hearing s i v =
+          let k = mem-below (p .n) i hearers (direct-below p (sound p e) hearers d) v in
+          let h = sym (direct-mem p (sound p e) hearers i d k) ∙ v in
+          ⊎-elim inl (λ g. inr (reached-closed p s (sound p e .source-below) i k (joins-source p s (reached p s) i g h))) (decide (mem i s))
 
-pub none-cut : (p : Plan) (s l r : ℕ) → l ≡ reached p s → r ≡ mask (p .n) (λ b. not (mem b s) and not (mem b l)) → r ≡ 0 → defeats p s ≡ false
-none-cut p s l r e q z = no-by (λ d. defeats-cuts p s d (sym (cut-is p s l r e q) ∙ z))
+  between : (s : ℕ) → defeats p s ≡ true → Between 0 one s
+  between s d = record {
+    has = λ i m. clash m (mem-zero i);
+    lacks = λ i m. subst (λ (x : ℕ). mem x s ≡ false) (sym (one-only i m)) (fault-source p s (defeats-fault p s d));
+  }
 
-pub some-cut : (p : Plan) (s l r : ℕ) → s < 2 ^ p .n → mem (p .source) s ≡ false
-    → all (p .n) (λ b. not (mem b s) implies not (hearsMany p b s)) ≡ true
-    → l ≡ reached p s → r ≡ mask (p .n) (λ b. not (mem b s) and not (mem b l)) → (r ≡ 0 → ⊥) → defeats p s ≡ true
-unfolding isFaultSet within
-some-cut p s l r h m b e q z =
-    defeats-i p s (and-i _ _ (lt-ltb s (2 ^ p .n) h) (and-i _ _ (not-i m) b)) (λ c. z (cut-is p s l r e q ∙ c))
+  below : (s : ℕ) → defeats p s ≡ true → s < 2 ^ p .n
+  below s d = fault-below p s (defeats-fault p s d)
 
--- ---- the best after s was tried
+  low : (s : ℕ) → defeats p s ≡ true → s < 2 ^ 20
+  low s d = lt-of-lt-of-le (below s d) (pow-mono (sound p e .twenty))
 
-module _ (p : Plan) (best : Best) (s : ℕ) where
-  pub keep-undefeated : defeats p s ≡ false → (x : Found) → StandsFor (p .n) best x → StandsFor (p .n) best (better p x s)
-  unfolding better
-  keep-undefeated d none h = subst (StandsFor (p .n) best) (sym (pick-no _ _ _ d)) h
-  keep-undefeated d (found b) h = subst (StandsFor (p .n) best) (sym (pick-no _ _ _ (and-no-l _ _ d))) h
+  narrow : (s : ℕ) → defeats p s ≡ true → size 20 s ≡ size (p .n) s
+  narrow s d = size-twenty (p .n) s (sound p e .twenty) (below s d)
 
-  pub keep-fewer : Sound p → best .members ≤ size (p .n) s → (x : Found) → StandsFor (p .n) best x → StandsFor (p .n) best (better p x s)
-  unfolding better StandsFor size
-  keep-fewer sound l none h =
-      let t = sound .twenty in
-      absurd (omega (arith, count-le (p .n) (λ i. mem i s)))
-  keep-fewer sound l (found b) h =
-      let q : best .members ≡ size (p .n) b = h .1 in
-      subst (StandsFor (p .n) best) (sym (pick-no _ _ _ (and-no-r _ _ (le-ltb (size (p .n) s) (size (p .n) b) (subst (λ (m : ℕ). m ≤ size (p .n) s) q l))))) h
+  -- ahead of another set, no greater key
+  ahead-key : (t s : ℕ) → defeats p t ≡ true → defeats p s ≡ true → Ahead p t s → key t ≤ key s
+  unfolding Ahead key
+  ahead-key t s c d a =
+      let u = narrow t c in
+      let v = narrow s d in
+      let x = low t c in
+      ⊎-elim (λ l. omega arith) (λ l. omega arith) a
 
-  pub take-better : defeats p s ≡ true → size (p .n) s < best .members → (x : Found) → StandsFor (p .n) best x
-      → (made : Best) → made .members ≡ size (p .n) s → made .set ≡ s → StandsFor (p .n) made (better p x s)
-  unfolding better StandsFor
-  take-better d l none h made e q = subst (StandsFor (p .n) made) (sym (pick-yes _ _ _ d)) (q, e)
-  take-better d l (found b) h made e q =
-      subst (StandsFor (p .n) made)
-      (sym (pick-yes _ _ _ (and-i _ _ d (lt-ltb (size (p .n) s) (size (p .n) b) (subst (λ (m : ℕ). size (p .n) s < m) (h .1) l))))) (q, e)
+  -- the least key is the definition's best set
+  pub stands : (r : ℕ) → Least p 0 one 22020096 r → (made : Best) → made .members ≡ r / 1048576 → made .set ≡ r % 1048576
+      → StandsFor (p .n) made (bestBelow p (2 ^ p .n))
+  unfolding StandsFor IsBest
+  stands r h made m c = go (bestBelow p (2 ^ p .n)) (best-below p (2 ^ p .n))
+    where
+      go : (x : Found) → IsBest p (2 ^ p .n) x → StandsFor (p .n) made x
+      go none b =
+          ⊎-elim (λ v. m ∙ ap (λ (y : ℕ). y / 1048576) v) (λ v. clash (v .1) (b (v .0) (below (v .0) (v .1)))) (h .comes)
+      go (found t) b = same (h .comes)
+        where
+          same : (r ≡ 22020096) ⊎ ((s : ℕ) × (defeats p s ≡ true) × (r ≡ key s)) → StandsFor (p .n) made (found t)
+          same (inl v) =
+              let l : r ≤ key t = h .below t (b .1) (between t (b .1)) in
+              absurd (omega (arith, key-low t (low t (b .1))))
+          same (inr (s, d, v)) =
+              let l : r ≤ key t = h .below t (b .1) (between t (b .1)) in
+              let g : key t ≤ key s = ahead-key t s (b .1) d (b .2 s (below s d) d) in
+              let w : r ≡ key t = omega arith in (
+                c ∙ ap (λ (y : ℕ). y % 1048576) w ∙ key-set t (low t (b .1)),
+                m ∙ ap (λ (y : ℕ). y / 1048576) w ∙ key-members t (low t (b .1)) ∙ narrow t (b .1),
+              )

@@ -1,5 +1,5 @@
 -- The words that the search computes from a sound plan's rows are the theory's sets. Assumes nothing.
-use Prim.Native.Nat.{ℕ, zero, suc, _+_, _-_, _*_, _%_, _^_, _≤_, _<_}
+use Prim.Native.Nat.{ℕ, suc, _+_, _-_, _*_, _%_, _^_, _≤_, _<_}
 use mathlib.Core.Path.{_≡_, refl, sym, ap, ap₂, _∙_, subst}
 use mathlib.Core.Logic.{_⊎_, inl, inr, ⊎-elim}
 use mathlib.Core.Bool.{Bool, true, false, not}
@@ -37,6 +37,10 @@ pub byte-bit : (b : Bool) → boolByte b ≡ bit b
 byte-bit true = refl
 byte-bit false = refl
 
+pub byte-le : (b : Bool) → boolByte b ≤ 1
+byte-le true = omega arith
+byte-le false = omega arith
+
 -- rows at and above n are empty, so a property that the empty row lacks has the same mask over twenty rows as over n
 rows-mask : (p : Plan) → Sound p → (P : ℕ → Bool) → P 0 ≡ false → mask 20 (λ b. P (heardBy p b)) ≡ mask (p .n) (λ b. P (heardBy p b))
 rows-mask p s P z =
@@ -53,18 +57,28 @@ unfolding direct hears heardBy
 direct-is p s = rows-mask p s (mem (p .source)) (mem-zero (p .source))
 
 -- how many of a row's terminals are in a, over all 32 bits and over n
-pub over-is : (p : Plan) → Sound p → (a : ℕ) → over (p .rows) (p .f) a ≡ mask (p .n) (λ b. hearsMany p b a)
-unfolding over heardBy hears hearsMany many
-over-is p s a =
-    rows-mask p s (λ row. ltb (p .f) (count 32 (λ i. mem i row and mem i a)))
-    (few (p .f) (count-none 32 (λ i. mem i 0 and mem i a) (λ i k. and-no-l _ _ (mem-zero i))))
-    ∙ mask-cong (p .n) (λ b. ltb (p .f) (count 32 (λ i. mem i (heardBy p b) and mem i a))) (λ b. hearsMany p b a) (λ b k. counted b k)
+pub over-many : (p : Plan) → Sound p → (g a : ℕ) → over (p .rows) g a ≡ mask (p .n) (λ b. many (p .n) g (λ i. hears p b i and mem i a))
+unfolding over heardBy hears many
+over-many p s g a =
+    rows-mask p s (λ row. ltb g (count 32 (λ i. mem i row and mem i a)))
+    (few g (count-none 32 (λ i. mem i 0 and mem i a) (λ i k. and-no-l _ _ (mem-zero i))))
+    ∙ mask-cong (p .n) (λ b. ltb g (count 32 (λ i. mem i (heardBy p b) and mem i a))) (λ b. many (p .n) g (λ i. hears p b i and mem i a))
+    (λ b k. counted b k)
   where
-    counted : (b : ℕ) → b < p .n → ltb (p .f) (count 32 (λ i. mem i (heardBy p b) and mem i a)) ≡ hearsMany p b a
+    counted : (b : ℕ) → b < p .n → ltb g (count 32 (λ i. mem i (heardBy p b) and mem i a)) ≡ many (p .n) g (λ i. hears p b i and mem i a)
     counted b k =
-        ap (ltb (p .f))
+        ap (ltb g)
         (count-width (p .n) 32 (λ i. mem i (heardBy p b) and mem i a) (let t = s .twenty in omega arith)
         (λ i l. and-no-l _ _ (mem-above (p .n) i (heardBy p b) (s .row-below b k) l)))
+
+pub over-is : (p : Plan) → Sound p → (a : ℕ) → over (p .rows) (p .f) a ≡ mask (p .n) (λ b. hearsMany p b a)
+unfolding hearsMany
+over-is p s a = over-many p s (p .f) a
+
+pub over-why : (p : Plan) → Sound p → (g a o b : ℕ) → o ≡ over (p .rows) g a → b < p .n
+    → mem b o ≡ many (p .n) g (λ i. hears p b i and mem i a)
+over-why p s g a o b e k =
+    ap (mem b) (e ∙ over-many p s g a) ∙ mem-mask (p .n) b (λ b. many (p .n) g (λ i. hears p b i and mem i a)) k
 
 pub direct-mem : (p : Plan) → Sound p → (d b : ℕ) → d ≡ direct (p .rows) (p .source) → b < p .n → mem b d ≡ hears p b (p .source)
 direct-mem p s d b e k = ap (mem b) (e ∙ direct-is p s) ∙ mem-mask (p .n) b (λ b. hears p b (p .source)) k
@@ -75,8 +89,12 @@ direct-below p s d e = subst (λ (x : ℕ). x < 2 ^ p .n) (sym (e ∙ direct-is 
 pub over-mem : (p : Plan) → Sound p → (a o b : ℕ) → o ≡ over (p .rows) (p .f) a → b < p .n → mem b o ≡ hearsMany p b a
 over-mem p s a o b e k = ap (mem b) (e ∙ over-is p s a) ∙ mem-mask (p .n) b (λ b. hearsMany p b a) k
 
+pub over-low : (p : Plan) → Sound p → (g a o : ℕ) → o ≡ over (p .rows) g a → o < 2 ^ p .n
+over-low p s g a o e =
+    subst (λ (x : ℕ). x < 2 ^ p .n) (sym (e ∙ over-many p s g a)) (mask-lt (p .n) (λ b. many (p .n) g (λ i. hears p b i and mem i a)))
+
 pub over-below : (p : Plan) → Sound p → (a o : ℕ) → o ≡ over (p .rows) (p .f) a → o < 2 ^ p .n
-over-below p s a o e = subst (λ (x : ℕ). x < 2 ^ p .n) (sym (e ∙ over-is p s a)) (mask-lt (p .n) (λ b. hearsMany p b a))
+over-below p s a o e = over-low p s (p .f) a o e
 
 word-of : (p : Plan) → Sound p → {x : ℕ} → x < 2 ^ p .n → x < 2 ^ 32
 word-of p s h = let t : p .n ≤ 32 = let u = s .twenty in omega arith in lt-of-lt-of-le h (pow-mono t)

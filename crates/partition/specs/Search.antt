@@ -1,14 +1,18 @@
 -- What the search's own functions compute, on a plan's rows. No caller sees these. Assumes nothing.
-use Prim.Native.Nat.{ℕ, zero, suc, _-_}
-use mathlib.Core.Bool.{Bool, true, false, not}
+use Prim.Native.Nat.{ℕ, _+_, _*_, _^_, _≤_, _<_}
+use mathlib.Core.Bool.{true, false, not}
+use mathlib.Core.Logic.{_⊎_}
 use mathlib.Core.List.{List}
 use mathlib.Core.Path.{_≡_}
-use lib.Dec.{eqb, ltb}
+use lib.Dec.{ltb}
 use lib.ListN.{getD}
-use Rattle.sets.specs.Tests.{_and_, _or_}
-use Rattle.sets.specs.Sets.{mem, count, mask, size}
+use Rattle.sets.specs.Tests.{_and_, _or_, _implies_}
+use Rattle.sets.specs.Sets.{mem, all, count, mask, size}
 use Rattle.plan.specs.declared.Plan.{Plan}
-use Rattle.propagation.specs.Verdict.{Found, none, found}
+use Rattle.plan.specs.Plan.{causeOf}
+use Rattle.propagation.specs.FaultSet.{hearsMany, isFaultSet}
+use Rattle.propagation.specs.Closure.{reached}
+use Rattle.propagation.specs.Verdict.{defeats, Found, none, found}
 use Rattle.partition.specs.declared.search.Best.{Best}
 
 -- the terminals that hear more than f members of a
@@ -19,7 +23,72 @@ over rows f a = mask 20 (λ b. ltb f (count 32 (λ i. mem i (getD rows b 0) and 
 unfoldable pub direct : List ℕ → ℕ → ℕ
 direct rows source = mask 20 (λ b. mem source (getD rows b 0))
 
+-- the terminals of n outside two sets
+abbrev pub outside : ℕ → ℕ → ℕ → ℕ
+outside n a b = mask n (λ i. not (mem i a) and not (mem i b))
+
 -- the search's memory stands for the best set found: more than 20 members for none
 unfoldable pub StandsFor : ℕ → Best → Found → Type 0
 StandsFor n best none = best .members ≡ 21
 StandsFor n best (found s) = (best .set ≡ s) × (best .members ≡ size n s)
+
+-- ---- branch and bound
+
+-- "fewest members, then the smallest as a number" as one number: a set of twenty terminals is below 2 ^ 20 = 1048576
+unfoldable pub key : ℕ → ℕ
+key s = size 20 s * 1048576 + s
+
+-- every member of a is one of b; no member of a is one of b
+abbrev pub Inside : ℕ → ℕ → Type 0
+Inside a b = (i : ℕ) → mem i a ≡ true → mem i b ≡ true
+
+abbrev pub Apart : ℕ → ℕ → Type 0
+Apart a b = (i : ℕ) → mem i a ≡ true → mem i b ≡ false
+
+-- a part of the search: the sets that have all of inn and none of out
+pub record Between (inn out s : ℕ) : Type 0 where
+  pub has : Inside inn s
+  pub lacks : Apart out s
+
+-- all of known are in the fault set s, or a notice reaches them in spite of it
+abbrev pub Settled : Plan → ℕ → ℕ → Type 0
+Settled p s known = (i : ℕ) → mem i known ≡ true → (mem i s ≡ true) ⊎ (mem i (reached p s) ≡ true)
+
+-- how many of known terminal b hears, where those of inn count as heard; everyone of rest hears at least need
+unfoldable pub heardOf : List ℕ → ℕ → ℕ → ℕ → ℕ
+heardOf rows inn known b = count 32 (λ i. mem i known and (mem i (getD rows b 0) or mem i inn))
+
+abbrev pub AllHear : List ℕ → ℕ → ℕ → ℕ → ℕ → Type 0
+AllHear rows rest inn known need = (b : ℕ) → b < 20 → mem b rest ≡ true → need ≤ heardOf rows inn known b
+
+-- no set that has inn, and for which known is settled, comes before best
+abbrev pub Hopeless : Plan → ℕ → ℕ → ℕ → Type 0
+Hopeless p inn known best = (s : ℕ) → defeats p s ≡ true → Inside inn s → Settled p s known → best ≤ key s
+
+-- r is inn with all that it forces: every fault set that has inn has r, and whoever is outside r hears at most f of it
+pub record Forced (p : Plan) (inn r : ℕ) : Type 0 where
+  pub below : r < 2 ^ p .n
+  pub has : Inside inn r
+  pub bounded : all (p .n) (λ b. not (mem b r) implies not (hearsMany p b r)) ≡ true
+  pub least : (s : ℕ) → isFaultSet p s ≡ true → Inside inn s → Inside r s
+
+-- r is settled wherever known is, for the fault sets with none of out
+pub record Grown (p : Plan) (out known r : ℕ) : Type 0 where
+  pub below : r < 2 ^ p .n
+  pub settled : (s : ℕ) → isFaultSet p s ≡ true → Apart out s → Settled p s known → Settled p s r
+
+-- what each call of the search is given
+pub record Part (p : Plan) (hearers inn out known : ℕ) : Type 0 where
+  pub plan : causeOf p ≡ 0
+  pub hearers-are : hearers ≡ direct (p .rows) (p .source)
+  pub inn-below : inn < 2 ^ p .n
+  pub out-below : out < 2 ^ p .n
+  pub known-below : known < 2 ^ p .n
+  pub source-out : mem (p .source) out ≡ true
+  pub settled : (s : ℕ) → isFaultSet p s ≡ true → Between inn out s → Settled p s known
+
+-- and what it returns: the least of best and the keys of the part's sets that defeat the plan
+pub record Least (p : Plan) (inn out best r : ℕ) : Type 0 where
+  pub at-most : r ≤ best
+  pub comes : (r ≡ best) ⊎ ((s : ℕ) × (defeats p s ≡ true) × (r ≡ key s))
+  pub below : (s : ℕ) → defeats p s ≡ true → Between inn out s → r ≤ key s

@@ -1,4 +1,6 @@
 // The verdict on a plan, and the check of a witness that anybody proposes.
+mod bound;
+mod branch;
 mod check;
 mod search;
 

@@ -1,14 +1,16 @@
-// The search for the least set that defeats a sound plan.
+// The words that the search computes from a sound plan, and its answer.
 ghost use mathlib.Core.Path.{_≡_};
 ghost use mathlib.Core.Bool.{not};
-ghost use Prim.Native.Nat.{ℕ, _<_, _≤_, _^_};
+ghost use Prim.Native.Nat.{_<_, _≤_, _^_};
 ghost use Rattle.sets.specs.Tests.{_and_, _implies_};
 ghost use Rattle.sets.specs.Sets.{mem, all, mask};
 ghost use Rattle.plan.specs.Plan.{causeOf};
 ghost use Rattle.propagation.specs.FaultSet.{hearsMany};
 ghost use Rattle.propagation.specs.Closure.{grow, reached};
-ghost use Rattle.propagation.specs.Verdict.{Found, better, bestBelow};
+ghost use Rattle.propagation.specs.Verdict.{bestBelow};
 ghost use Rattle.partition.specs.Search.{over, direct, StandsFor};
+use super::bound;
+use super::branch;
 use plan::Plan;
 
 // The best set so far: members above 20 for none.
@@ -90,45 +92,25 @@ pub(crate) fn left_out(n: usize, faulty: u32, l: u32) -> u32
     ((1u32 << n) - 1) & !(faulty | l)
 }
 
-// The better of the best so far and the set s, which is tried for no more than it takes to tell.
-fn tried(p: Plan, hearers: u32, best: Best, s: u32) -> Best
-    requires { ⌜ (causeOf p ≡ 0) × (hearers ≡ direct (p .rows) (p .source)) × (s < 2 ^ p .n) ⌝ }
-    ensures { λ r. ⌜ ((x : Found) → StandsFor (p .n) best x → StandsFor (p .n) r (better p x s)) ⌝ }
-{
-    let source = p.source;
-    if (s >> source) & 1 == 1 {
-        return best;
-    }
-    let members = sets::size(s);
-    if best.members <= members {
-        return best;
-    }
-    if bounded(p, s) {
-        let l = reach(p, hearers, s);
-        if left_out(p.n, s, l) != 0 {
-            return Best {
-                members: members,
-                set: s,
-            };
-        }
-    }
-    best
-}
-
-// The best of all sets of the plan's terminals, taken in ascending order.
+// The least of all sets that defeat the plan: the least key, or 21 members (21 · 2^20 = 22020096),
+// above every key, for none.
 pub(crate) fn search(p: Plan, hearers: u32) -> Best
     requires { ⌜ (causeOf p ≡ 0) × (hearers ≡ direct (p .rows) (p .source)) ⌝ }
     ensures { λ r. ⌜ StandsFor (p .n) r (bestBelow p (2 ^ p .n)) ⌝ }
 {
-    let mut best = Best {
-        members: 21,
-        set: 0,
-    };
-    let end = 1u32 << p.n;
-    let mut s: u32 = 0;
-    while s < end {
-        best = tried(p, hearers, best, s);
-        s += 1;
+    let rows = p.rows;
+    let source = sets::singleton(p.source);
+    let best = branch::inside(
+        p,
+        hearers,
+        bound::hubs(rows),
+        0,
+        source,
+        source | hearers,
+        22020096,
+    );
+    Best {
+        members: (best >> 20) as usize,
+        set: best & 1048575,
     }
-    best
 }

@@ -1,0 +1,113 @@
+// The least set that defeats a sound plan, by branch and bound. A part of the search is the sets that
+// have all of inn and none of out.
+ghost use mathlib.Core.Path.{_≡_};
+ghost use mathlib.Core.Bool.{true, false};
+ghost use Prim.Native.Nat.{_<_, _^_};
+ghost use Rattle.sets.specs.Sets.{mem};
+ghost use Rattle.plan.specs.Plan.{causeOf};
+ghost use Rattle.propagation.specs.FaultSet.{isFaultSet};
+ghost use Rattle.propagation.specs.Verdict.{defeats};
+ghost use Rattle.partition.specs.Search.{outside, direct, key, Hopeless, Part, Least};
+use super::bound;
+use super::search;
+use plan::Plan;
+
+// Fewer members come first, then the smaller number: the members above the twenty bits of the set.
+fn key(s: u32) -> u32
+    requires { ⌜ s < 2 ^ 20 ⌝ }
+    ensures { λ r. ⌜ r ≡ key s ⌝ }
+{
+    u32::count_ones(s) * 1048576 + s
+}
+
+// A fault set defeats the plan where it leaves somebody cut off.
+fn defeats(p: Plan, hearers: u32, s: u32) -> bool
+    requires { ⌜ (causeOf p ≡ 0) × (hearers ≡ direct (p .rows) (p .source)) × (isFaultSet p s ≡ true) ⌝ }
+    ensures { λ r. ⌜ r ≡ defeats p s ⌝ }
+{
+    let l = search::reach(p, hearers, s);
+    search::left_out(p.n, s, l) != 0
+}
+
+// The highest terminal of s.
+fn highest(s: u32) -> usize
+    requires { ⌜ (s ≡ 0 → ⊥) ⌝ }
+    ensures { λ r. ⌜ mem r s ≡ true ⌝ }
+{
+    31 - u32::leading_zeros(s) as usize
+}
+
+// One of the free terminals. Any choice is right: one that the rest hears, and of these one that many
+// hear, makes the two parts small.
+fn chosen(heard: u32, hubs: u32, free: u32) -> usize
+    requires { ⌜ (free ≡ 0 → ⊥) ⌝ }
+    ensures { λ r. ⌜ mem r free ≡ true ⌝ }
+{
+    let near = heard & free;
+    if hubs & near != 0 {
+        return highest(hubs & near);
+    }
+    if near != 0 {
+        return highest(near);
+    }
+    highest(free)
+}
+
+// No set of the part comes before best. Whoever is cut off is one of the rest, and hears at most f
+// who are reached: all others of known that it hears are in the set, and so are those of inn.
+fn hopeless(p: Plan, inn: u32, known: u32, rest: u32, best: u32) -> bool
+    requires { ⌜ (causeOf p ≡ 0) × (inn < 2 ^ p .n) × (known < 2 ^ p .n) × (rest ≡ outside (p .n) inn known) ⌝ }
+    ensures { λ r. ⌜ (r ≡ true → Hopeless p inn known best) ⌝ }
+{
+    let rows = p.rows;
+    let more = (inn < best & 1048575) as u32;
+    bound::all_hear(rows, rest, inn, known, p.f as u32 + (best >> 20) + more)
+}
+
+// The lesser of best and the part's least key, where inn itself does not defeat the plan: first the
+// sets without one of the free terminals, then those with it.
+fn split(p: Plan, hearers: u32, hubs: u32, inn: u32, out: u32, known: u32, best: u32) -> u32
+    requires { ⌜ Part p hearers inn out known × (defeats p inn ≡ false) ⌝ }
+    ensures { λ r. ⌜ Least p inn out best r ⌝ }
+{
+    let sure = bound::settled(p, out, known);
+    let rest = search::left_out(p.n, inn, sure);
+    if hopeless(p, inn, sure, rest, best) {
+        return best;
+    }
+    let free = search::left_out(p.n, inn, out);
+    if free == 0 {
+        return best;
+    }
+    let rows = p.rows;
+    let b = chosen(bound::heard(rows, rest) & sure, hubs, free);
+    let first = split(p, hearers, hubs, inn, sets::with(out, b), sure, best);
+    inside(p, hearers, hubs, sets::with(inn, b), out, sure, first)
+}
+
+// The same where inn is new: what it forces joins it, and is the part's least if it defeats the plan.
+pub(crate) fn inside(
+    p: Plan,
+    hearers: u32,
+    hubs: u32,
+    inn: u32,
+    out: u32,
+    known: u32,
+    best: u32,
+) -> u32
+    requires { ⌜ Part p hearers inn out known ⌝ }
+    ensures { λ r. ⌜ Least p inn out best r ⌝ }
+{
+    let all = bound::forced(p, inn);
+    if all & out != 0 {
+        return best;
+    }
+    let own = key(all);
+    if best <= own {
+        return best;
+    }
+    if defeats(p, hearers, all) {
+        return own;
+    }
+    split(p, hearers, hubs, all, out, known | all, best)
+}

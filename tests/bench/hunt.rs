@@ -1,0 +1,100 @@
+// Plans that are bad for the search: hill climbing from given plans, a bounded number of steps each. A step
+// changes a few links, or the bound, and stays where the search then takes longer. Its times only steer;
+// tests/bench/run counts the instructions of what is found.
+//   rustc -O --edition 2021 -o target/bench/hunt tests/bench/hunt.rs
+//   target/bench/hunt SEED STEPS FOLDER PLAN..     the worst three go to FOLDER as 1.hex, 2.hex, 3.hex
+#[allow(dead_code)]
+#[path = "baseline.rs"]
+mod baseline;
+
+use baseline::{direct, read, search, Plan};
+use std::fs;
+use std::hint::black_box;
+use std::path::Path;
+use std::time::{Duration, Instant};
+
+struct Rng(u64);
+
+impl Rng {
+    // splitmix64
+    fn below(&mut self, limit: usize) -> usize {
+        self.0 = self.0.wrapping_add(0x9e37_79b9_7f4a_7c15);
+        let mut mixed = self.0;
+        mixed = (mixed ^ (mixed >> 30)).wrapping_mul(0xbf58_476d_1ce4_e5b9);
+        mixed = (mixed ^ (mixed >> 27)).wrapping_mul(0x94d0_49bb_1331_11eb);
+        ((mixed ^ (mixed >> 31)) % limit as u64) as usize
+    }
+}
+
+// The least time of a few searches.
+fn cost(p: &Plan) -> Duration {
+    let once = || {
+        let begin = Instant::now();
+        black_box(search(black_box(p), direct(&p.rows, p.source)));
+        begin.elapsed()
+    };
+    (0..3).map(|_| once()).min().expect("some searches")
+}
+
+// One to four links turned round, or seldom the bound moved by one.
+fn changed(rng: &mut Rng, p: &Plan) -> Plan {
+    let mut next = *p;
+    if rng.below(12) == 0 {
+        let f = if rng.below(2) == 0 {
+            p.f + 1
+        } else {
+            p.f.saturating_sub(1)
+        };
+        next.f = f.min(p.n - 1);
+        return next;
+    }
+    for _ in 0..=rng.below(4) {
+        let (to, from) = (rng.below(p.n), rng.below(p.n));
+        if to != from {
+            next.rows[to] ^= 1 << from;
+        }
+    }
+    next
+}
+
+fn climbed(rng: &mut Rng, start: Plan, steps: usize) -> (Duration, Plan) {
+    let mut best = (cost(&start), start);
+    for _ in 0..steps {
+        let next = changed(rng, &best.1);
+        let time = cost(&next);
+        if time > best.0 {
+            best = (time, next);
+        }
+    }
+    best
+}
+
+fn frames(p: &Plan) -> String {
+    let mut text = format!("01{:02x}{:02x}{:02x}\n", p.n, p.source, p.f);
+    for from in 0..p.n {
+        for to in (0..p.n).filter(|&to| (p.rows[to] >> from) & 1 == 1) {
+            text += &format!("02{from:02x}{to:02x}\n");
+        }
+    }
+    text
+}
+
+fn main() {
+    let words: Vec<String> = std::env::args().skip(1).collect();
+    let [seed, steps, folder, plans @ ..] = words.as_slice() else {
+        eprintln!("usage: hunt SEED STEPS FOLDER PLAN..");
+        std::process::exit(2);
+    };
+    let mut rng = Rng(seed.parse().expect("a seed"));
+    let steps = steps.parse().expect("a number of steps");
+    let mut found: Vec<(Duration, Plan)> = plans
+        .iter()
+        .map(|file| climbed(&mut rng, read(&fs::read(file).expect("a plan")), steps))
+        .collect();
+    found.sort_by_key(|(time, _)| std::cmp::Reverse(*time));
+    for (number, (time, plan)) in (1..=3).zip(&found) {
+        println!("{number}: {:.2} ms", time.as_secs_f64() * 1000.0);
+        let file = Path::new(folder).join(format!("{number}.hex"));
+        fs::write(file, frames(plan)).expect("a folder");
+    }
+}
