@@ -23,8 +23,8 @@ const SOLVERS: [Solver; 3] = [
 ];
 
 /// The least of so many calls counts, for the proved program and for a solver.
-const CALLS: usize = 9;
-const SOLVER_CALLS: usize = 3;
+const CALLS: usize = 40;
+const SOLVER_CALLS: usize = 9;
 
 /// What the proved program is to reach on every plan, and in the geometric mean.
 const EACH: f64 = 2.5;
