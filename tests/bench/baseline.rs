@@ -3,6 +3,10 @@
 // compares instruction counts. It reads an accepted plan file on standard input and refuses nothing.
 // hunt.rs looks for plans that are bad for it.
 use std::io::{Read, Write};
+use std::sync::atomic::{AtomicU64, Ordering::Relaxed};
+
+// How many parts were split, for hunt.rs.
+pub static PARTS: AtomicU64 = AtomicU64::new(0);
 
 #[derive(Clone, Copy)]
 pub struct Plan {
@@ -142,6 +146,7 @@ fn hopeless(p: &Plan, inn: u32, known: u32, rest: u32, best: u32) -> bool {
 }
 
 fn split(p: &Plan, hearers: u32, hubs: u32, inn: u32, out: u32, known: u32, best: u32) -> u32 {
+    PARTS.fetch_add(1, Relaxed);
     let sure = settled(p, out, known);
     let rest = left_out(p.n, inn, sure);
     if hopeless(p, inn, sure, rest, best) {

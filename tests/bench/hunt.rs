@@ -1,17 +1,16 @@
 // Plans that are bad for the search: hill climbing from given plans, a bounded number of steps each. A step
-// changes a few links, or the bound, and stays where the search then takes longer. Its times only steer;
-// tests/bench/run counts the instructions of what is found.
+// changes a few links, or the bound, and stays where the search then splits no fewer parts. tests/bench/run
+// counts the instructions of what is found.
 //   rustc -O --edition 2021 -o target/bench/hunt tests/bench/hunt.rs
 //   target/bench/hunt SEED STEPS FOLDER PLAN..     the worst three go to FOLDER as 1.hex, 2.hex, 3.hex
 #[allow(dead_code)]
 #[path = "baseline.rs"]
 mod baseline;
 
-use baseline::{direct, read, search, Plan};
+use baseline::{direct, read, search, Plan, PARTS};
 use std::fs;
-use std::hint::black_box;
 use std::path::Path;
-use std::time::{Duration, Instant};
+use std::sync::atomic::Ordering::Relaxed;
 
 struct Rng(u64);
 
@@ -26,14 +25,11 @@ impl Rng {
     }
 }
 
-// The least time of a few searches.
-fn cost(p: &Plan) -> Duration {
-    let once = || {
-        let begin = Instant::now();
-        black_box(search(black_box(p), direct(&p.rows, p.source)));
-        begin.elapsed()
-    };
-    (0..3).map(|_| once()).min().expect("some searches")
+// How many parts the search splits.
+fn cost(p: &Plan) -> u64 {
+    PARTS.store(0, Relaxed);
+    search(p, direct(&p.rows, p.source));
+    PARTS.load(Relaxed)
 }
 
 // One to four links turned round, or seldom the bound moved by one.
@@ -57,13 +53,13 @@ fn changed(rng: &mut Rng, p: &Plan) -> Plan {
     next
 }
 
-fn climbed(rng: &mut Rng, start: Plan, steps: usize) -> (Duration, Plan) {
+fn climbed(rng: &mut Rng, start: Plan, steps: usize) -> (u64, Plan) {
     let mut best = (cost(&start), start);
     for _ in 0..steps {
         let next = changed(rng, &best.1);
-        let time = cost(&next);
-        if time > best.0 {
-            best = (time, next);
+        let parts = cost(&next);
+        if parts >= best.0 {
+            best = (parts, next);
         }
     }
     best
@@ -87,13 +83,13 @@ fn main() {
     };
     let mut rng = Rng(seed.parse().expect("a seed"));
     let steps = steps.parse().expect("a number of steps");
-    let mut found: Vec<(Duration, Plan)> = plans
+    let mut found: Vec<(u64, Plan)> = plans
         .iter()
         .map(|file| climbed(&mut rng, read(&fs::read(file).expect("a plan")), steps))
         .collect();
-    found.sort_by_key(|(time, _)| std::cmp::Reverse(*time));
-    for (number, (time, plan)) in (1..=3).zip(&found) {
-        println!("{number}: {:.2} ms", time.as_secs_f64() * 1000.0);
+    found.sort_by_key(|(parts, _)| std::cmp::Reverse(*parts));
+    for (number, (parts, plan)) in (1..=3).zip(&found) {
+        println!("{number}: {parts} parts");
         let file = Path::new(folder).join(format!("{number}.hex"));
         fs::write(file, frames(plan)).expect("a folder");
     }
