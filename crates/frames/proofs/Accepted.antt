@@ -20,11 +20,11 @@ use Rattle.plan.specs.declared.Plan.{Plan}
 use Rattle.plan.specs.Plan.{heardBy, hears, rowSound, linksSound, causeOf}
 use Rattle.plan.proofs.Laws.{Sound, sound, tests}
 use Rattle.partition.specs.Answer.{faultCauseOf}
+use Rattle.lines.specs.declared.Frame.{Frame}
+use Rattle.lines.specs.declared.Frame.the-variants.{Foreign, Unknown, Head, Link, FaultSet, Start, Message}
+use Rattle.lines.specs.Frames.{frameOf}
 use Rattle.frames.specs.declared.Progress.{Progress}
-use Rattle.frames.specs.declared.frame.Frame.{Frame}
-use Rattle.frames.specs.declared.frame.Frame.the-variants.{Foreign, Unknown, Head, Link, FaultSet, Start, Message}
 use Rattle.frames.specs.Lines.{Line, ended, cut, lastLine, linesFrom}
-use Rattle.frames.specs.Frames.{frameOf}
 use Rattle.frames.specs.Reading.{nothingRead, noWords, headCause, linkCause, faultSetCause, startCause, messageCause, causeIn, linked, after, wordsAfter, Reading, refusal, told, reading, whole, planReading, runReading}
 
 -- a plan that the check finds sound, with its 20 rows

@@ -1,6 +1,5 @@
--- The laws that the readers' proofs cite, in the order in which they are read: of digits, of an accepted file, of what a frame does, of the pass over a
--- file's bytes, and of the file as a whole. Accepted and FileLaws are for callers too.
-mod DigitLaws
+-- The laws that the readers' proofs cite, in the order in which they are read: of an accepted file, of what a frame does, of the pass over a file's
+-- bytes, and of the file as a whole. Accepted and FileLaws are for callers too.
 pub mod Accepted
 mod TellLaws
 mod LineLaws

@@ -11,11 +11,11 @@ use lib.Seq.{drop-cons, take-suc, take-suc-set, getD-drop}
 use borrow.Author.Tests.{eq-eqb, ne-eqb, le-leb}
 use Rattle.sets.specs.Tests.{pick}
 use Rattle.sets.proofs.Bools.{and-i, pick-yes, pick-no}
-use Rattle.frames.specs.declared.frame.Frame.{Frame}
+use Rattle.lines.specs.declared.Frame.{Frame}
+use Rattle.lines.specs.Frames.{frameOf}
 use Rattle.frames.specs.declared.Progress.{Progress}
 use Rattle.frames.specs.declared.FileRead.{FileRead}
 use Rattle.frames.specs.Lines.{ended, lastLine, linesFrom}
-use Rattle.frames.specs.Frames.{frameOf}
 use Rattle.frames.specs.Reading.{nothingRead, noWords, causeIn, after, wordsAfter, Reading, refusal, told, reading, fileRead}
 
 -- ---- a copy, one word a turn

@@ -12,9 +12,9 @@ use Rattle.sets.specs.Sets.{mem}
 use Rattle.sets.proofs.Bools.{and-l, and-r, and-i, and-yes, and-no-l, and-no-r, not-i, not-yes, pick-yes, pick-no}
 use Rattle.terminal.specs.Answer.{inRange}
 use Rattle.plan.specs.Plan.{hears}
+use Rattle.lines.specs.declared.Frame.{Frame}
+use Rattle.lines.specs.declared.Frame.the-variants.{Foreign, Unknown, Head, Link, FaultSet, Start, Message}
 use Rattle.frames.specs.declared.Progress.{Progress}
-use Rattle.frames.specs.declared.frame.Frame.{Frame}
-use Rattle.frames.specs.declared.frame.Frame.the-variants.{Foreign, Unknown, Head, Link, FaultSet, Start, Message}
 use Rattle.frames.specs.declared.told.Told.{Told}
 use Rattle.frames.specs.Reading.{linkCause, isWord, causeIn, linked, after, wordsAfter}
 use Rattle.frames.proofs.Accepted.{head-accepted, link-accepted, start-accepted}

@@ -1,5 +1,3 @@
 -- What the contracts of the readers cite, in the order in which it is read.
-pub mod Digits
 pub mod Lines
-pub mod Frames
 pub mod Reading

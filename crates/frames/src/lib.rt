@@ -1,5 +1,4 @@
 // Hexadecimal lines: the readers of plan files and of run files.
-mod frame;
 mod told;
 
 ghost use mathlib.Core.Path.{_≡_};
@@ -59,7 +58,7 @@ fn read_lines(kinds: u8, text: &[u8], words: &mut [u16]) -> FileRead
     let mut i = 0;
     while i < text.len() {
         if text[i] == 10 {
-            let told = told::tell(p, words, frame::frame_of(kinds, &text[from..i]));
+            let told = told::tell(p, words, lines::frame_of(kinds, &text[from..i]));
             if told.cause != 0 {
                 return refusal(told.cause, line);
             }

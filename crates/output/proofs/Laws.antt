@@ -13,8 +13,8 @@ use Rattle.sets.proofs.Bools.{pick-yes, pick-case}
 use Rattle.terminal.specs.declared.State.{State}
 use Rattle.terminal.specs.declared.State.the-variants.{Waiting, Taken}
 use Rattle.partition.specs.Answer.{Answer, answerOf}
+use Rattle.lines.specs.Digits.{hexByte}
 use Rattle.frames.specs.declared.Progress.{Progress}
-use Rattle.frames.specs.Digits.{hexByte}
 use Rattle.frames.specs.Reading.{planReading, runReading}
 use Rattle.output.specs.declared.Written.{Written}
 use Rattle.writer.specs.Written.{planText}

@@ -10,7 +10,7 @@ use lib.Seq.{take-suc-set, sets-eq, paste, paste-suc}
 use borrow.Author.Tests.{lt-ltb, le-ltb, le-leb, lt-leb}
 use Rattle.sets.proofs.Bools.{pick-yes, pick-no}
 use Rattle.output.specs.declared.text.Text.{Text}
-use Rattle.frames.specs.Digits.{hexDigit}
+use Rattle.lines.specs.Digits.{hexDigit}
 use Rattle.output.specs.Texts.{Holds, writtenOf, putInto}
 
 -- ---- a digit

@@ -1,7 +1,7 @@
 -- Output frames (document 01, "Hexadecimal lines"): small digits, two a byte, larger numbers high byte first, each line ended by byte 10. Assumes nothing.
 use Prim.Native.Nat.{ℕ, _/_, _%_}
 use mathlib.Core.List.{List, [], _∷_, _++_}
-use Rattle.frames.specs.Digits.{hexByte}
+use Rattle.lines.specs.Digits.{hexByte}
 
 unfoldable pub hexPair : ℕ → List ℕ
 hexPair v = hexByte (v / 256) ++ hexByte (v % 256)

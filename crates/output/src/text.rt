@@ -4,7 +4,7 @@ ghost use mathlib.Core.List.{List, [], _∷_, _++_};
 ghost use Prim.Native.Nat.{ℕ, _+_, _<_, _≤_};
 ghost use lib.ListN.{length};
 ghost use lib.Seq.{paste};
-ghost use Rattle.frames.specs.Digits.{hexDigit, hexByte};
+ghost use Rattle.lines.specs.Digits.{hexDigit, hexByte};
 ghost use Rattle.output.specs.Lines.{hexPair, hexTriple};
 ghost use Rattle.output.specs.Texts.{Holds, writtenOf, putInto};
 use super::Written;

@@ -10,10 +10,9 @@ use borrow.Author.Tests.{le-leb, lt-leb, lt-ltb, le-ltb}
 use Rattle.sets.specs.Tests.{_and_, _or_}
 use Rattle.sets.proofs.Bools.{clash, and-i, and-no-r, or-l, or-r, pick-yes, pick-no}
 use Rattle.sets.proofs.Laws.{below-or-not}
-use Rattle.frames.specs.declared.frame.Frame.the-variants.{Head, Link}
-use Rattle.frames.specs.Digits.{isFigure, isLetter, isDigit, digitOf, byteAt, allDigits, wellFormed}
-use Rattle.frames.specs.Frames.{headOf, linkOf, kindOf, frameOf}
-use Rattle.frames.specs.Digits.{hexDigit, hexByte}
+use Rattle.lines.specs.declared.Frame.the-variants.{Head, Link}
+use Rattle.lines.specs.Digits.{isFigure, isLetter, isDigit, digitOf, byteAt, allDigits, wellFormed, hexDigit, hexByte}
+use Rattle.lines.specs.Frames.{headOf, linkOf, kindOf, frameOf}
 
 -- ---- one digit
 

@@ -11,13 +11,12 @@ use Rattle.sets.specs.Tests.{pick}
 use Rattle.sets.proofs.Bools.{and-l, and-r, pick-yes, pick-no, pick-case}
 use Rattle.plan.specs.declared.Plan.{Plan}
 use Rattle.plan.specs.Plan.{hears}
-use Rattle.frames.specs.declared.frame.Frame.{Frame}
+use Rattle.lines.specs.declared.Frame.{Frame}
+use Rattle.lines.specs.Digits.{allDigits, hexByte}
+use Rattle.lines.specs.Frames.{frameOf}
 use Rattle.frames.specs.declared.Progress.{Progress}
-use Rattle.frames.specs.Digits.{allDigits}
 use Rattle.frames.specs.Lines.{Line, ended, linesFrom}
-use Rattle.frames.specs.Frames.{frameOf}
 use Rattle.frames.specs.Reading.{causeIn, after, wordsAfter, told}
-use Rattle.frames.specs.Digits.{hexByte}
 use Rattle.writer.specs.Written.{headLine, linkLine, linkLines}
 use Rattle.writer.proofs.Digits.{digit-no-end, headDigits, linkDigits, head-digits, link-digits}
 

@@ -19,8 +19,8 @@ use Rattle.terminal.specs.Answer.{inRange}
 use Rattle.plan.specs.declared.Plan.{Plan}
 use Rattle.plan.specs.Plan.{heardBy, hears, causeOf}
 use Rattle.plan.proofs.Laws.{Sound, sound, tests}
+use Rattle.lines.specs.declared.Frame.the-variants.{Head, Link}
 use Rattle.frames.specs.declared.Progress.{Progress}
-use Rattle.frames.specs.declared.frame.Frame.the-variants.{Head, Link}
 use Rattle.frames.specs.Lines.{lastLine, linesFrom}
 use Rattle.frames.specs.Reading.{nothingRead, noWords, headCause, linkCause, causeIn, linked, after, wordsAfter, Reading, told, reading, planReading}
 use Rattle.writer.specs.Written.{headLine, linkLine, linkLines, planText}

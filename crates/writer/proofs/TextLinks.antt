@@ -18,11 +18,11 @@ use Rattle.sets.proofs.Laws.{equal-or-not, below-or-not, mem-zero, mem-above, m
 use Rattle.plan.specs.declared.Plan.{Plan}
 use Rattle.plan.specs.Plan.{heardBy, hears}
 use Rattle.plan.proofs.Laws.{sound}
+use Rattle.lines.specs.declared.Frame.{Frame}
+use Rattle.lines.specs.declared.Frame.the-variants.{Foreign, Unknown, Head, Link, FaultSet, Start, Message}
+use Rattle.lines.specs.Frames.{frameOf}
 use Rattle.frames.specs.declared.Progress.{Progress}
-use Rattle.frames.specs.declared.frame.Frame.{Frame}
-use Rattle.frames.specs.declared.frame.Frame.the-variants.{Foreign, Unknown, Head, Link, FaultSet, Start, Message}
 use Rattle.frames.specs.Lines.{Line, ended, cut, linesFrom}
-use Rattle.frames.specs.Frames.{frameOf}
 use Rattle.frames.specs.Reading.{nothingRead, noWords, causeIn, linked, after, wordsAfter, Reading, refusal, told, reading, planReading}
 use Rattle.frames.proofs.Accepted.{Whole, head-accepted, link-accepted, frame-stage, frame-whole}
 

@@ -16,7 +16,7 @@ use Rattle.sets.proofs.Bools.{pick-yes, pick-no}
 use Rattle.plan.specs.declared.Plan.{Plan}
 use Rattle.plan.specs.Plan.{hears, causeOf}
 use Rattle.writer.specs.declared.Written.{Written}
-use Rattle.frames.specs.Digits.{hexDigit, hexByte}
+use Rattle.lines.specs.Digits.{hexDigit, hexByte}
 use Rattle.writer.specs.Written.{headLine, linkLine, linkLines, planText, writeCause, writtenOf, putInto}
 use Rattle.writer.proofs.Lines.{head-length, link-length}
 

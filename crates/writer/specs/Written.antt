@@ -8,7 +8,7 @@ use lib.Seq.{sets}
 use Rattle.sets.specs.Tests.{pick}
 use Rattle.plan.specs.declared.Plan.{Plan}
 use Rattle.plan.specs.Plan.{hears, causeOf}
-use Rattle.frames.specs.Digits.{hexByte}
+use Rattle.lines.specs.Digits.{hexByte}
 use Rattle.writer.specs.declared.Written.{Written}
 
 -- 01: n, source, f

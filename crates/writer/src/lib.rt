@@ -4,7 +4,7 @@ ghost use Prim.Native.Nat.{_+_, _/_, _%_, _<_, _≤_};
 ghost use lib.ListN.{length};
 ghost use lib.Seq.{sets};
 ghost use Rattle.plan.specs.Plan.{hears, causeOf};
-ghost use Rattle.frames.specs.Digits.{hexDigit, hexByte};
+ghost use Rattle.lines.specs.Digits.{hexDigit, hexByte};
 ghost use Rattle.writer.specs.Written.{headLine, linkLine, linkLines, writtenOf, putInto};
 use plan::Plan;
 use plan::Soundness;

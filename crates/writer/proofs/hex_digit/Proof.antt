@@ -2,7 +2,7 @@
 use mathlib.Core.Path.{sym}
 use borrow.Author.Tests.{lt-ltb, le-ltb}
 use Rattle.sets.proofs.Bools.{pick-yes, pick-no}
-use Rattle.frames.specs.Digits.{hexDigit}
+use Rattle.lines.specs.Digits.{hexDigit}
 use borrow.Author.Needs.{needs}
 use Rattle.writer.proofs.hex_digit.Statement.{statement}
 use Rattle.writer.proofs.hex_digit.Tie as tie

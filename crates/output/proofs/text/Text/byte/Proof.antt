@@ -2,7 +2,7 @@
 use mathlib.Core.List.{append-assoc}
 use native.Mathlib.Omega.{arith}
 use borrow.Author.Needs.{needs}
-use Rattle.frames.specs.Digits.{hexByte}
+use Rattle.lines.specs.Digits.{hexByte}
 use Rattle.output.proofs.text.Text.byte.Statement.{statement}
 use Rattle.output.proofs.text.Text.byte.Tie as tie
 
