@@ -11,7 +11,7 @@ mod timed;
 
 use plan::Plan;
 use std::time::Duration;
-use timed::{ask, installed, Answered};
+use timed::{ask, installed, Answered, LIMIT};
 
 /// A solver: its name, and how it is asked for the least witness.
 type Solver = (&'static str, fn(&Plan) -> Answered);
@@ -89,6 +89,10 @@ fn row(verdict: &str, file: &str, solvers: &[Solver]) -> f64 {
     for (solver, least_witness) in solvers {
         let answer = best(SOLVER_CALLS, || least_witness(&plan));
         print!(" {}", shown(answer.time));
+        assert!(
+            answer.witness.is_some() || answer.time >= LIMIT,
+            "{solver} gives no answer on {file}"
+        );
         if let Some(witness) = answer.witness {
             assert_eq!(
                 Some(witness),

@@ -14,6 +14,8 @@ fn encoded(plan: &Plan) -> String {
         for set in ["f", "l", "r"] {
             let _ = writeln!(text, "(declare-const {set}{b} Bool)");
         }
+    }
+    for b in 0..plan.n {
         let _ = writeln!(text, "(assert ((_ at-most 1) f{b} l{b} r{b}))");
         let _ = writeln!(text, "(assert (or f{b} l{b} r{b}))");
         if plan.hears_source(b) {
