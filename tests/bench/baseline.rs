@@ -23,7 +23,7 @@ pub struct Best {
     pub set: u32,
 }
 
-fn over(rows: &[u32; 20], f: u32, a: u32) -> u32 {
+pub fn over(rows: &[u32; 20], f: u32, a: u32) -> u32 {
     let mut found = 0;
     for b in 0..20 {
         found |= ((f < (rows[b] & a).count_ones()) as u32) << b;
@@ -31,45 +31,23 @@ fn over(rows: &[u32; 20], f: u32, a: u32) -> u32 {
     found
 }
 
-pub fn direct(rows: &[u32; 20], source: usize) -> u32 {
-    let mut found = 0;
-    for b in 0..20 {
-        found |= ((rows[b] >> source) & 1) << b;
-    }
-    found
-}
-
-fn grown(p: &Plan, hearers: u32, faulty: u32, l: u32) -> u32 {
-    l | ((hearers | over(&p.rows, p.f as u32, l)) & !faulty)
-}
-
-fn reach(p: &Plan, hearers: u32, faulty: u32) -> u32 {
-    let mut l = (1u32 << p.source) | (hearers & !faulty);
-    let mut k = 2;
-    while k < p.n {
-        let next = grown(p, hearers, faulty, l);
+fn spread(p: &Plan, s: u32, wall: u32) -> u32 {
+    let mut l = s;
+    loop {
+        let next = l | (over(&p.rows, p.f as u32, l) & !wall);
         if next == l {
             return l;
         }
         l = next;
-        k += 1;
     }
-    l
+}
+
+fn reach(p: &Plan, hearers: u32, faulty: u32) -> u32 {
+    spread(p, 1 << p.source | (hearers & !faulty), faulty)
 }
 
 fn left_out(n: usize, faulty: u32, l: u32) -> u32 {
     ((1u32 << n) - 1) & !(faulty | l)
-}
-
-fn forced(p: &Plan, inn: u32) -> u32 {
-    let mut s = inn;
-    loop {
-        let next = s | over(&p.rows, p.f as u32, s);
-        if next == s {
-            return s;
-        }
-        s = next;
-    }
 }
 
 fn settled(p: &Plan, out: u32, known: u32) -> u32 {
@@ -84,15 +62,6 @@ fn settled(p: &Plan, out: u32, known: u32) -> u32 {
     }
 }
 
-fn all_hear(rows: &[u32; 20], rest: u32, inn: u32, known: u32, need: u32) -> bool {
-    for b in 0..20 {
-        if (rest >> b) & 1 == 1 && (known & (rows[b] | inn)).count_ones() < need {
-            return false;
-        }
-    }
-    true
-}
-
 fn heard(rows: &[u32; 20], s: u32) -> u32 {
     let mut found = 0;
     for b in 0..20 {
@@ -101,19 +70,6 @@ fn heard(rows: &[u32; 20], s: u32) -> u32 {
         }
     }
     found
-}
-
-fn hubs(rows: &[u32; 20]) -> u32 {
-    let (mut ones, mut twos, mut fours, mut eights) = (0, 0, 0, 0);
-    for &one in rows {
-        let two = ones & one;
-        let four = twos & two;
-        eights |= fours & four;
-        fours ^= four;
-        twos ^= two;
-        ones ^= one;
-    }
-    eights
 }
 
 fn key(s: u32) -> u32 {
@@ -129,23 +85,44 @@ fn highest(s: u32) -> usize {
     31 - s.leading_zeros() as usize
 }
 
-fn chosen(heard: u32, hubs: u32, free: u32) -> usize {
-    let near = heard & free;
-    if hubs & near != 0 {
-        return highest(hubs & near);
+fn narrowed(s: u32, of: u32) -> u32 {
+    if of & s != 0 {
+        return of & s;
     }
-    if near != 0 {
-        return highest(near);
+    s
+}
+
+fn widest(rows: &[u32; 20], s: u32) -> u32 {
+    let (mut ones, mut twos, mut fours, mut eights, mut sixteens) = (0, 0, 0, 0, 0);
+    for &one in rows {
+        let two = ones & one;
+        let four = twos & two;
+        let eight = fours & four;
+        sixteens |= eights & eight;
+        eights ^= eight;
+        fours ^= four;
+        twos ^= two;
+        ones ^= one;
     }
-    highest(free)
+    let many = narrowed(narrowed(s, sixteens), eights);
+    narrowed(narrowed(narrowed(many, fours), twos), ones)
+}
+
+fn chosen(rows: &[u32; 20], heard: u32, free: u32) -> usize {
+    highest(widest(rows, narrowed(free, heard)))
 }
 
 fn hopeless(p: &Plan, inn: u32, known: u32, rest: u32, best: u32) -> bool {
     let more = (inn < best & 0xfffff) as u32;
-    all_hear(&p.rows, rest, inn, known, p.f as u32 + (best >> 20) + more)
+    let need = p.f as u32 + (best >> 20) + more;
+    let own = inn.count_ones();
+    if need <= own {
+        return true;
+    }
+    rest & !over(&p.rows, need - own - 1, known & !inn) == 0
 }
 
-fn split(p: &Plan, hearers: u32, hubs: u32, inn: u32, out: u32, known: u32, best: u32) -> u32 {
+fn split(p: &Plan, hearers: u32, inn: u32, out: u32, known: u32, best: u32) -> u32 {
     PARTS.fetch_add(1, Relaxed);
     let sure = settled(p, out, known);
     let rest = left_out(p.n, inn, sure);
@@ -156,13 +133,13 @@ fn split(p: &Plan, hearers: u32, hubs: u32, inn: u32, out: u32, known: u32, best
     if free == 0 {
         return best;
     }
-    let b = chosen(heard(&p.rows, rest) & sure, hubs, free);
-    let first = split(p, hearers, hubs, inn, out | 1 << b, sure, best);
-    inside(p, hearers, hubs, inn | 1 << b, out, sure, first)
+    let b = chosen(&p.rows, heard(&p.rows, rest) & sure, free);
+    let first = split(p, hearers, inn, out | 1 << b, sure, best);
+    inside(p, hearers, inn | 1 << b, out, sure, first)
 }
 
-fn inside(p: &Plan, hearers: u32, hubs: u32, inn: u32, out: u32, known: u32, best: u32) -> u32 {
-    let all = forced(p, inn);
+fn inside(p: &Plan, hearers: u32, inn: u32, out: u32, known: u32, best: u32) -> u32 {
+    let all = spread(p, inn, 0);
     if all & out != 0 {
         return best;
     }
@@ -173,20 +150,12 @@ fn inside(p: &Plan, hearers: u32, hubs: u32, inn: u32, out: u32, known: u32, bes
     if defeats(p, hearers, all) {
         return own;
     }
-    split(p, hearers, hubs, all, out, known | all, best)
+    split(p, hearers, all, out, known | all, best)
 }
 
 pub fn search(p: &Plan, hearers: u32) -> Best {
     let source = 1 << p.source;
-    let best = inside(
-        p,
-        hearers,
-        hubs(&p.rows),
-        0,
-        source,
-        source | hearers,
-        21 << 20,
-    );
+    let best = inside(p, hearers, 0, source, source | hearers, 21 << 20);
     Best {
         members: (best >> 20) as usize,
         set: best & 0xfffff,
@@ -235,7 +204,7 @@ fn main() {
         .read_to_end(&mut text)
         .expect("standard input");
     let p = read(&text);
-    let hearers = direct(&p.rows, p.source);
+    let hearers = over(&p.rows, 0, 1 << p.source);
     let best = search(&p, hearers);
     let mut line = format!("8100{:018x}\n", 0);
     if best.members <= 20 {

@@ -7,7 +7,7 @@
 #[path = "baseline.rs"]
 mod baseline;
 
-use baseline::{direct, read, search, Plan, PARTS};
+use baseline::{over, read, search, Plan, PARTS};
 use std::fs;
 use std::path::Path;
 use std::sync::atomic::Ordering::Relaxed;
@@ -28,7 +28,7 @@ impl Rng {
 // How many parts the search splits.
 fn cost(p: &Plan) -> u64 {
     PARTS.store(0, Relaxed);
-    search(p, direct(&p.rows, p.source));
+    search(p, over(&p.rows, 0, 1 << p.source));
     PARTS.load(Relaxed)
 }
 

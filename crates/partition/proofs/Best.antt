@@ -24,33 +24,20 @@ use Rattle.propagation.proofs.Growth.{joins-source, reached-closed, reached-sou
 use Rattle.propagation.proofs.Witness.{Ahead, IsBest, best-below, defeats-fault}
 use Rattle.partition.specs.declared.search.Best.{Best}
 use Rattle.partition.specs.Search.{direct, key, StandsFor, Between, Part, Least}
-use Rattle.partition.proofs.Rows.{direct-mem, direct-below}
+use Rattle.partition.proofs.Rows.{direct-mem, direct-below, one-below, one-only, one-mem}
 use Rattle.partition.proofs.Members.{key-low, key-members, key-set, size-twenty}
 
 module _ (p : Plan) (e : causeOf p ≡ 0) (one : ℕ) (q : one ≡ singleton 32 (p .source)) where
-  one-is : one ≡ mask (p .n) (λ j. eqb j (p .source))
-  one-is = q ∙ (let s = sound p e in singleton-narrow 32 (p .n) (p .source) (s .source-below) (omega arith))
-
-  one-below : one < 2 ^ p .n
-  one-below = subst (λ (x : ℕ). x < 2 ^ p .n) (sym one-is) (mask-lt (p .n) (λ j. eqb j (p .source)))
-
-  one-only : (i : ℕ) → mem i one ≡ true → i ≡ p .source
-  one-only i m =
-      eqb-true i (p .source)
-      (sym (ap (mem i) one-is ∙ mem-mask (p .n) i (λ j. eqb j (p .source)) (mem-below (p .n) i one one-below m)) ∙ m)
-
   -- the whole search: no fault set has the source, and the source and its hearers are settled
   pub whole : (hearers : ℕ) → hearers ≡ direct (p .rows) (p .source) → Part p hearers 0 one (bitOr one hearers)
   whole hearers d = record {
     plan = e;
     hearers-are = d;
     inn-below = pow-pos (p .n);
-    out-below = one-below;
-    known-below = or-lt (p .n) one hearers one-below (direct-below p (sound p e) hearers d);
-    source-out =
-        ap (mem (p .source)) one-is ∙ mem-mask (p .n) (p .source) (λ j. eqb j (p .source)) (sound p e .source-below)
-        ∙ eq-eqb (p .source) (p .source) refl;
-    settled = λ s t w i m. ⊎-elim (λ v. inr (at-source s i (one-only i v))) (hearing s i) (or-e _ _ (sym (mem-or i one hearers) ∙ m));
+    out-below = one-below p (sound p e) one q;
+    known-below = or-lt (p .n) one hearers (one-below p (sound p e) one q) (direct-below p (sound p e) hearers d);
+    source-out = one-mem p (sound p e) one q;
+    settled = λ s t w i m. ⊎-elim (λ v. inr (at-source s i (one-only p (sound p e) one q i v))) (hearing s i) (or-e _ _ (sym (mem-or i one hearers) ∙ m));
   }
     where
       at-source : (s i : ℕ) → i ≡ p .source → mem i (reached p s) ≡ true
@@ -65,7 +52,7 @@ module _ (p : Plan) (e : causeOf p ≡ 0) (one : ℕ) (q : one ≡ singleton 32 
   between : (s : ℕ) → defeats p s ≡ true → Between 0 one s
   between s d = record {
     has = λ i m. clash m (mem-zero i);
-    lacks = λ i m. subst (λ (x : ℕ). mem x s ≡ false) (sym (one-only i m)) (fault-source p s (defeats-fault p s d));
+    lacks = λ i m. subst (λ (x : ℕ). mem x s ≡ false) (sym (one-only p (sound p e) one q i m)) (fault-source p s (defeats-fault p s d));
   }
 
   below : (s : ℕ) → defeats p s ≡ true → s < 2 ^ p .n

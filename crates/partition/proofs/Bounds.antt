@@ -1,80 +1,93 @@
 -- What holds of every fault set that has inn and lacks out. Assumes nothing.
 use Prim.Native.Nat.{ℕ, _+_, _-_, _*_, _/_, _^_, _≤_, _<_}
-use mathlib.Core.Path.{_≡_, sym, ap, _∙_}
+use mathlib.Core.Path.{_≡_, sym, ap, _∙_, subst}
 use mathlib.Core.Logic.{_⊎_, inl, inr, ⊎-elim}
 use mathlib.Core.Bool.{Bool, true, false, not}
-use mathlib.Core.List.{List}
-use native.Mathlib.Nat.{lt-of-lt-of-le}
+use native.Mathlib.Nat.{lt-of-lt-of-le, lt-of-le-of-lt}
 use native.Mathlib.Omega.{arith}
-use lib.Bits.{bitAnd, bitOr, or-lt}
+use lib.Bits.{bitAnd, bitOr, and-le-l, or-lt}
 use lib.Count.{ones}
-use lib.Dec.{ltb}
-use lib.ListN.{getD}
+use lib.Dec.{eqb, ltb}
 use lib.Pow.{pow-mono}
 use mir.Val.{boolByte}
 use borrow.Author.Tests.{ltb-true, ltb-false}
-use Rattle.sets.specs.Tests.{_and_, _or_, _implies_}
+use Rattle.sets.specs.Tests.{_and_, _implies_}
 use Rattle.sets.specs.Sets.{mem, all, count, many, size}
-use Rattle.sets.proofs.Bools.{clash, decide, and-l, and-r, and-i, and-no-l, or-e, or-l, or-r, not-i, not-e, no-by, implies-i}
-use Rattle.sets.proofs.Laws.{mem-below, mem-above, all-i, count-cong, count-width, some-member}
-use Rattle.sets.proofs.Masks.{mem-and, mem-or, ones-and}
+use Rattle.sets.proofs.Bools.{clash, decide, and-l, and-r, and-i, and-no-r, or-e, or-l, or-r, not-i, not-e, not-yes, no-by, implies-i, implies-e}
+use Rattle.sets.proofs.Laws.{mem-zero, mem-below, mask-lt, all-i, all-at, some-member}
+use Rattle.sets.proofs.Masks.{mem-and, mem-or, mem-not, ones-count}
+use Rattle.sets.proofs.Operations.{test-inside}
 use Rattle.plan.specs.declared.Plan.{Plan}
-use Rattle.plan.specs.Plan.{heardBy, hears}
+use Rattle.plan.specs.Plan.{hears}
 use Rattle.plan.proofs.Laws.{Sound}
 use Rattle.propagation.specs.FaultSet.{hearsMany, isFaultSet}
 use Rattle.propagation.specs.Closure.{reached, cutOff}
 use Rattle.propagation.proofs.Faults.{fault-below, fault-bound, hears-many-mono}
 use Rattle.propagation.proofs.Growth.{joins-many, reached-closed}
 use Rattle.propagation.proofs.Witness.{cut-below, cut-good, cut-unreached, defeats-fault, defeats-cuts}
-use Rattle.partition.specs.Search.{outside, over, key, heardOf, AllHear, Inside, Apart, Settled, Hopeless, Forced, Grown}
-use Rattle.partition.proofs.Rows.{over-mem, over-below, over-why, over-low}
-use Rattle.partition.proofs.Members.{outside-i, count-split, grows, inside-le, key-later, size-twenty}
+use Rattle.partition.specs.Search.{outside, over, key, Inside, Apart, Settled, Hopeless, Closed, Spread, Grown}
+use Rattle.partition.proofs.Rows.{over-mem, over-below, over-why, over-low, word-of}
+use Rattle.partition.proofs.Members.{outside-i, count-split, count-join, grows, inside-le, key-later, size-twenty}
+
+-- ---- a set with whoever joins it
+
+-- the loop's set so far
+pub record Spreading (p : Plan) (s wall l : ℕ) : Type 0 where
+  pub below : l < 2 ^ p .n
+  pub has : Inside s l
+  pub least : (t : ℕ) → Inside s t → Closed p wall t → Inside l t
+
+pub spreading-start : (p : Plan) (s wall : ℕ) → s < 2 ^ p .n → Spreading p s wall s
+spreading-start p s wall h = record { below = h; has = λ i m. m; least = λ t i c. i }
+
+module _ (p : Plan) (sound : Sound p) (s wall l o : ℕ) (w : wall < 2 ^ 32) (h : Spreading p s wall l) (e : o ≡ over (p .rows) (p .f) l) where
+  outer : (b : ℕ) → b < p .n → mem b (4294967295 - wall) ≡ not (mem b wall)
+  outer b k = mem-not 32 b wall w (let t = sound .twenty in omega arith)
+
+  joining : (t : ℕ) → Inside s t → Closed p wall t → Inside (bitAnd o (4294967295 - wall)) t
+  joining t i c b m =
+      let both = sym (mem-and b o (4294967295 - wall)) ∙ m in
+      let k = mem-below (p .n) b o (over-below p sound l o e) (and-l _ _ both) in
+      c b k (not-e _ (sym (outer b k) ∙ and-r _ _ both))
+      (hears-many-mono p b l t (λ a x. h .least t i c a) (sym (over-mem p sound l o b e k) ∙ and-l _ _ both))
+
+  pub spreading-next : Spreading p s wall (bitOr l (bitAnd o (4294967295 - wall)))
+  spreading-next = record {
+    below =
+        or-lt (p .n) l (bitAnd o (4294967295 - wall)) (h .below)
+        (lt-of-le-of-lt (and-le-l o (4294967295 - wall)) (over-below p sound l o e));
+    has = λ i m. mem-or i l (bitAnd o (4294967295 - wall)) ∙ or-l _ _ (h .has i m);
+    least = λ t i c b m. ⊎-elim (h .least t i c b) (joining t i c b) (or-e _ _ (sym (mem-or b l (bitAnd o (4294967295 - wall))) ∙ m));
+  }
+
+  pub spreading-less : (bitOr l (bitAnd o (4294967295 - wall)) ≡ l → ⊥)
+      → p .n - count (p .n) (λ i. mem i (bitOr l (bitAnd o (4294967295 - wall)))) < p .n - count (p .n) (λ i. mem i l)
+  spreading-less z =
+      grows (p .n) l (bitOr l (bitAnd o (4294967295 - wall))) (h .below) (spreading-next .below)
+      (λ i m. mem-or i l (bitAnd o (4294967295 - wall)) ∙ or-l _ _ m) z
+
+  pub spreading-ends : bitOr l (bitAnd o (4294967295 - wall)) ≡ l → Spread p s wall l
+  spreading-ends q = record {
+    below = h .below;
+    has = h .has;
+    closed = λ b k g y.
+        sym (ap (mem b) q) ∙ mem-or b l (bitAnd o (4294967295 - wall))
+        ∙ or-r _ _ (mem-and b o (4294967295 - wall) ∙ and-i _ _ (over-mem p sound l o b e k ∙ y) (outer b k ∙ not-i g));
+    least = h .least;
+  }
 
 -- ---- inn with all that it forces
 
--- the loop's set so far
-pub record Forcing (p : Plan) (inn s : ℕ) : Type 0 where
-  pub below : s < 2 ^ p .n
-  pub has : Inside inn s
-  pub least : (t : ℕ) → isFaultSet p t ≡ true → Inside inn t → Inside s t
+module _ {p : Plan} {inn r : ℕ} (h : Spread p inn 0 r) where
+  pub forced-bounded : all (p .n) (λ b. not (mem b r) implies not (hearsMany p b r)) ≡ true
+  forced-bounded =
+      all-i (p .n) (λ b. not (mem b r) implies not (hearsMany p b r))
+      (λ b k. implies-i _ _ (λ z. not-i (no-by (λ y. clash (h .closed b k (mem-zero b) y) (not-e (mem b r) z)))))
 
-pub forcing-start : (p : Plan) (inn : ℕ) → inn < 2 ^ p .n → Forcing p inn inn
-forcing-start p inn h = record { below = h; has = λ i m. m; least = λ t f i. i }
-
-module _ (p : Plan) (sound : Sound p) (inn s o : ℕ) (h : Forcing p inn s) (e : o ≡ over (p .rows) (p .f) s) where
   -- whoever hears more than f members of a fault set is one
-  hearing : (t : ℕ) → isFaultSet p t ≡ true → Inside inn t → Inside o t
-  hearing t f i b m =
-      let k = mem-below (p .n) b o (over-below p sound s o e) m in
-      ⊎-elim (λ z. z)
-      (λ z. clash (hears-many-mono p b s t (λ a l. h .least t f i a) (sym (over-mem p sound s o b e k) ∙ m)) (fault-bound p t f b k z))
-      (decide (mem b t))
-
-  pub forcing-next : Forcing p inn (bitOr s o)
-  forcing-next = record {
-    below = or-lt (p .n) s o (h .below) (over-below p sound s o e);
-    has = λ i m. mem-or i s o ∙ or-l _ _ (h .has i m);
-    least = λ t f i b m. ⊎-elim (h .least t f i b) (hearing t f i b) (or-e _ _ (sym (mem-or b s o) ∙ m));
-  }
-
-  pub forcing-less : (bitOr s o ≡ s → ⊥) → p .n - count (p .n) (λ i. mem i (bitOr s o)) < p .n - count (p .n) (λ i. mem i s)
-  forcing-less z = grows (p .n) s (bitOr s o) (h .below) (forcing-next .below) (λ i m. mem-or i s o ∙ or-l _ _ m) z
-
-  -- where nothing joins, everyone else hears at most f
-  pub forcing-ends : bitOr s o ≡ s → Forced p inn s
-  forcing-ends q = record {
-    below = h .below;
-    has = h .has;
-    bounded =
-        all-i (p .n) (λ b. not (mem b s) implies not (hearsMany p b s))
-        (λ b k.
-        implies-i _ _
-        (λ z.
-        not-i
-        (no-by
-        (λ y. clash (sym (ap (mem b) q) ∙ mem-or b s o ∙ or-r _ _ (over-mem p sound s o b e k ∙ y)) (not-e (mem b s) z)))));
-    least = h .least;
-  }
+  pub forced-least : (t : ℕ) → isFaultSet p t ≡ true → Inside inn t → Inside r t
+  forced-least t f i =
+      h .least t i (λ b k g y. ⊎-elim (λ z. z) (λ z. clash y (fault-bound p t f b k z)) (decide (mem b t)))
 
 -- ---- faulty or reached
 
@@ -144,50 +157,79 @@ module _ (p : Plan) (sound : Sound p) (out known s o q : ℕ) (h : Grown p out k
       grows (p .n) s (bitOr (bitOr s o) q) (h .below) (grown-next .below)
       (λ i m. mem-or i (bitOr s o) q ∙ or-l _ _ (mem-or i s o ∙ or-l _ _ m)) z
 
--- ---- how many of known a terminal hears
+-- ---- no hope
 
-pub heard-ones : (rows : List ℕ) (inn known b : ℕ) → known < 2 ^ 32 → ones (bitAnd known (bitOr (getD rows b 0) inn)) ≡ heardOf rows inn known b
-unfolding heardOf
-heard-ones rows inn known b h =
-    ones-and 32 known (bitOr (getD rows b 0) inn) h
-    ∙ count-cong 32 (λ i. mem i known and mem i (bitOr (getD rows b 0) inn)) (λ i. mem i known and (mem i (getD rows b 0) or mem i inn))
-    (λ i k. ap (λ (t : Bool). mem i known and t) (mem-or i (getD rows b 0) inn))
+-- those of known that are not in inn
+abbrev away : ℕ → ℕ → ℕ
+away known inn = bitAnd known (4294967295 - inn)
 
--- whoever is cut off hears at most f that are reached: the others of known that it hears are in the fault set, with inn
-few-heard : (p : Plan) → Sound p → (s inn known b : ℕ) → known < 2 ^ p .n → Inside inn s → Settled p s known → hearsMany p b (reached p s) ≡ false
-    → heardOf (p .rows) inn known b ≤ size (p .n) s + p .f
-unfolding heardOf size hears heardBy
-few-heard p sound s inn known b h i u r =
-    let w : count 32 heard ≡ count (p .n) heard =
-    count-width (p .n) 32 heard (let t = sound .twenty in omega arith) (λ i l. and-no-l _ _ (mem-above (p .n) i known h l)) in
-    let y : ears p b (reached p s) ≤ p .f = ears-few p b (reached p s) r in
-    let z : count (p .n) heard ≤ count (p .n) (λ a. mem a s) + ears p b (reached p s) =
-    count-split (p .n) heard (λ a. mem a s) (λ a. hears p b a and mem a (reached p s))
-    (λ a l m. ⊎-elim (λ v. ⊎-elim inl (λ x. inr (and-i _ _ v x)) (u a (and-l _ _ m))) (λ v. inl (i a v)) (or-e _ _ (and-r _ _ m))) in
-    omega arith
-  where
-    heard : ℕ → Bool
-    heard a = mem a known and (mem a (heardBy p b) or mem a inn)
+-- how many members a set before best may have, and f
+abbrev pub need : Plan → ℕ → ℕ → ℕ
+need p inn best = p .f + best / 1048576 + boolByte (ltb inn (bitAnd best 1048575))
 
--- where everyone of the rest hears too many, no set that defeats the plan comes before best
-pub hopeless-is : (p : Plan) → Sound p → (inn known rest best : ℕ) → inn < 2 ^ p .n → known < 2 ^ p .n → rest ≡ outside (p .n) inn known
-    → AllHear (p .rows) rest inn known (p .f + best / 1048576 + boolByte (ltb inn (bitAnd best 1048575))) → Hopeless p inn known best
-hopeless-is p sound inn known rest best hi hk e all s d i u = go (some-member (p .n) (cutOff p s) (cut-below p s) (defeats-cuts p s d))
-  where
-    low : {x : ℕ} → x < 2 ^ p .n → x < 2 ^ 20
-    low h = lt-of-lt-of-le h (pow-mono (sound .twenty))
+module _ (p : Plan) (sound : Sound p) (inn known : ℕ) (hi : inn < 2 ^ p .n) (hk : known < 2 ^ p .n) where
+  -- whoever is cut off hears at most f that are reached: the others of known that it hears are in the fault set, beside inn
+  few-heard : (s b : ℕ) → Inside inn s → Settled p s known → hearsMany p b (reached p s) ≡ false
+      → ones inn + ears p b (away known inn) ≤ size (p .n) s + p .f
+  unfolding size
+  few-heard s b i u r =
+      let w : ones inn ≡ count (p .n) (λ a. mem a inn) = ones-count (p .n) inn hi in
+      let y : ears p b (reached p s) ≤ p .f = ears-few p b (reached p s) r in
+      let z : ears p b (away known inn) ≤ count (p .n) new + ears p b (reached p s) =
+      count-split (p .n) (λ a. hears p b a and mem a (away known inn)) new (λ a. hears p b a and mem a (reached p s)) which in
+      let x : count (p .n) (λ a. mem a inn) + count (p .n) new ≤ count (p .n) (λ a. mem a s) =
+      count-join (p .n) (λ a. mem a s) (λ a. mem a inn) new (λ a l. i a) (λ a l m. and-l _ _ m)
+      (λ a l m. and-no-r _ _ (not-yes m)) in
+      omega arith
+    where
+      new : ℕ → Bool
+      new a = mem a s and not (mem a inn)
 
-    go : (b : ℕ) × (b < p .n) × (mem b (cutOff p s) ≡ true) → best ≤ key s
-    go (b, k, m) =
-        let below = fault-below p s (defeats-fault p s d) in
-        let good = cut-good p s b k m in
-        let unreached = cut-unreached p s b k m in
-        let t = sound .twenty in
-        let far : b < 20 = omega arith in
-        let few : heardOf (p .rows) inn known b ≤ size (p .n) s + p .f =
-        few-heard p sound s inn known b hk i u
-        (no-by (λ y. clash (reached-closed p s (sound .source-below) b k (joins-many p s (reached p s) b good y)) unreached)) in
-        let many = all b far
-        (outside-i (p .n) inn known rest b e k (no-by (λ y. clash (i b y) good))
-        (no-by (λ y. ⊎-elim (λ v. clash v good) (λ v. clash v unreached) (u b y)))) in
-        key-later best inn s (inside-le inn s (low hi) (low below) i) (omega (arith, size-twenty (p .n) s t below))
+      which : (a : ℕ) → a < p .n → hears p b a and mem a (away known inn) ≡ true
+          → (new a ≡ true) ⊎ (hears p b a and mem a (reached p s) ≡ true)
+      which a l m =
+          let both = sym (mem-and a known (4294967295 - inn)) ∙ and-r _ _ m in
+          ⊎-elim (λ v. inl (and-i _ _ v (sym (mem-not 32 a inn (word-of p sound hi) (let t = sound .twenty in omega arith)) ∙ and-r _ _ both)))
+          (λ v. inr (and-i _ _ (and-l _ _ m) v)) (u a (and-l _ _ both))
+
+  module _ (rest best : ℕ) (e : rest ≡ outside (p .n) inn known) where
+    -- where everyone of the rest hears too many, no set that defeats the plan comes before best
+    hopeless-is : ((b : ℕ) → b < p .n → mem b rest ≡ true → need p inn best ≤ ones inn + ears p b (away known inn)) → Hopeless p inn known best
+    hopeless-is enough s d i u = go (some-member (p .n) (cutOff p s) (cut-below p s) (defeats-cuts p s d))
+      where
+        low : {x : ℕ} → x < 2 ^ p .n → x < 2 ^ 20
+        low h = lt-of-lt-of-le h (pow-mono (sound .twenty))
+
+        go : (b : ℕ) × (b < p .n) × (mem b (cutOff p s) ≡ true) → best ≤ key s
+        go (b, k, m) =
+            let below = fault-below p s (defeats-fault p s d) in
+            let good = cut-good p s b k m in
+            let unreached = cut-unreached p s b k m in
+            let few = few-heard s b i u
+            (no-by (λ y. clash (reached-closed p s (sound .source-below) b k (joins-many p s (reached p s) b good y)) unreached)) in
+            let many = enough b k
+            (outside-i (p .n) inn known rest b e k (no-by (λ y. clash (i b y) good))
+            (no-by (λ y. ⊎-elim (λ v. clash v good) (λ v. clash v unreached) (u b y)))) in
+            key-later best inn s (inside-le inn s (low hi) (low below) i) (omega (arith, size-twenty (p .n) s (sound .twenty) below))
+
+    pub hopeless-own : need p inn best ≤ ones inn → Hopeless p inn known best
+    hopeless-own l = hopeless-is (λ b k m. omega arith)
+
+    pub hopeless-heard : (o : ℕ) → ones inn < need p inn best → o ≡ over (p .rows) (need p inn best - ones inn - 1) (away known inn)
+        → eqb (bitAnd rest (4294967295 - o)) 0 ≡ true → Hopeless p inn known best
+    unfolding many
+    hopeless-heard o l q z =
+        hopeless-is
+        (λ b k m.
+        let c : need p inn best - ones inn - 1 < ears p b (away known inn) =
+        ltb-true (need p inn best - ones inn - 1) (ears p b (away known inn))
+        (sym (over-why p sound (need p inn best - ones inn - 1) (away known inn) o b q k) ∙ implies-e _ _ (all-at (p .n) (λ i. mem i rest implies mem i o) within b k) m) in
+        omega arith)
+      where
+        within : all (p .n) (λ i. mem i rest implies mem i o) ≡ true
+        within =
+            sym
+            (test-inside 32 (p .n) rest o (let t = sound .twenty in omega arith)
+            (subst (λ (x : ℕ). x < 2 ^ p .n) (sym e) (mask-lt (p .n) (λ i. not (mem i inn) and not (mem i known))))
+            (word-of p sound (over-low p sound (need p inn best - ones inn - 1) (away known inn) o q)))
+            ∙ z

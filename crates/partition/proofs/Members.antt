@@ -17,7 +17,7 @@ use Rattle.sets.proofs.Bools.{clash, and-r, and-i, or-l, or-r, or-e, not-i, sam
 use Rattle.sets.proofs.Laws.{mask-lt, mem-mask, set-ext, mem-above, mem-below, count-le, count-width, subset-fewer}
 use Rattle.sets.proofs.Masks.{mem-and, mem-shift}
 use Rattle.sets.proofs.Operations.{singleton-narrow, or-with}
-use Rattle.partition.specs.Search.{outside, key, Inside}
+use Rattle.partition.specs.Search.{outside, key, Inside, SomeOf}
 
 -- ---- a set of n terminals with one more
 
@@ -55,6 +55,13 @@ outside-below n a b x i e m =
 
 -- ---- the highest terminal
 
+-- some of some, and some of those in two sets
+pub some-of-some : (s r t : ℕ) → SomeOf s r → SomeOf r t → SomeOf s t
+some-of-some s r t a b = record { some = b .some; inside = λ i h. a .inside i (b .inside i h) }
+
+pub some-both : (of s : ℕ) → (bitAnd of s ≡ 0 → ⊥) → SomeOf s (bitAnd of s)
+some-both of s h = record { some = h; inside = λ i m. and-r _ _ (sym (mem-and i of s) ∙ m) }
+
 pub highest-mem : (s : ℕ) → (s ≡ 0 → ⊥) → s < 2 ^ 32 → (leadingZeros 32 s ≤ 31) × (mem (31 - leadingZeros 32 s) s ≡ true)
 highest-mem s z h = go (leading-top 32 s (pos-of-ne-zero z) h)
   where
@@ -83,6 +90,27 @@ count-split (suc n) P Q R f =
     let t : count n (λ j. P (suc j)) ≤ count n (λ j. Q (suc j)) + count n (λ j. R (suc j)) =
     count-split n (λ j. P (suc j)) (λ j. Q (suc j)) (λ j. R (suc j)) (λ i k. f (suc i) (suc-le-suc k)) in
     let u : bit (P 0) ≤ bit (Q 0) + bit (R 0) = bit-split (P 0) (Q 0) (R 0) (f 0 (zero-lt-suc n)) in
+    omega arith
+
+bit-join : (a b c : Bool) → (b ≡ true → a ≡ true) → (c ≡ true → a ≡ true) → (b ≡ true → c ≡ false) → bit b + bit c ≤ bit a
+bit-join true true true f g h = clash refl (h refl)
+bit-join true true false f g h = omega arith
+bit-join true false true f g h = omega arith
+bit-join true false false f g h = omega arith
+bit-join false true c f g h = clash (f refl) refl
+bit-join false false true f g h = clash (g refl) refl
+bit-join false false false f g h = omega arith
+
+-- those that have Q or R, never both, have P
+pub count-join : (n : ℕ) (P Q R : ℕ → Bool) → ((i : ℕ) → i < n → Q i ≡ true → P i ≡ true) → ((i : ℕ) → i < n → R i ≡ true → P i ≡ true)
+    → ((i : ℕ) → i < n → Q i ≡ true → R i ≡ false) → count n Q + count n R ≤ count n P
+unfolding count
+count-join zero P Q R f g h = zero-le
+count-join (suc n) P Q R f g h =
+    let t : count n (λ j. Q (suc j)) + count n (λ j. R (suc j)) ≤ count n (λ j. P (suc j)) =
+    count-join n (λ j. P (suc j)) (λ j. Q (suc j)) (λ j. R (suc j)) (λ i k. f (suc i) (suc-le-suc k)) (λ i k. g (suc i) (suc-le-suc k))
+    (λ i k. h (suc i) (suc-le-suc k)) in
+    let u : bit (Q 0) + bit (R 0) ≤ bit (P 0) = bit-join (P 0) (Q 0) (R 0) (f 0 (zero-lt-suc n)) (g 0 (zero-lt-suc n)) (h 0 (zero-lt-suc n)) in
     omega arith
 
 -- a loop that only adds members ends

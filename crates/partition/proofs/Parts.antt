@@ -20,8 +20,9 @@ use Rattle.propagation.specs.Closure.{reached, rest, cutOff}
 use Rattle.propagation.specs.Verdict.{defeats}
 use Rattle.propagation.proofs.Faults.{fault-below}
 use Rattle.propagation.proofs.Witness.{defeats-fault}
-use Rattle.partition.specs.Search.{outside, key, Inside, Between, Settled, Hopeless, Forced, Grown, Part, Least}
+use Rattle.partition.specs.Search.{outside, key, Inside, Between, Settled, Hopeless, Spread, Grown, Part, Least}
 use Rattle.partition.proofs.Members.{outside-mem, outside-i, outside-below, with-below, with-keeps, with-one, with-why, key-mono}
+use Rattle.partition.proofs.Bounds.{forced-bounded, forced-least}
 use Rattle.partition.proofs.Tests.{fault-test}
 
 -- what a fault set leaves out decides whether it defeats the plan
@@ -72,7 +73,7 @@ module _ {p : Plan} {hearers inn out known : ℕ} (part : Part p hearers inn out
 
   -- ---- the sets with inn: all is inn with what it forces
 
-  module _ {all : ℕ} (forced : Forced p inn all) where
+  module _ {all : ℕ} (forced : Spread p inn 0 all) where
     pub all-low : all < 2 ^ 20
     all-low = low all (forced .below)
 
@@ -81,7 +82,7 @@ module _ {p : Plan} {hearers inn out known : ℕ} (part : Part p hearers inn out
         sym
         (fault-test p all true (forced .below)
         (no-by (λ y. clash (and-i _ _ y (part .source-out)) (sym (mem-and (p .source) all out) ∙ ap (mem (p .source)) z ∙ mem-zero (p .source))))
-        (sym (forced .bounded)))
+        (sym (forced-bounded forced)))
 
     pub all-part : Part p hearers all out (bitOr known all)
     all-part =
@@ -93,7 +94,7 @@ module _ {p : Plan} {hearers inn out known : ℕ} (part : Part p hearers inn out
     all-fewer = left-fewer (p .n) inn out all out (forced .has) (λ x m. m)
 
     has-all : (s : ℕ) → defeats p s ≡ true → Between inn out s → Inside all s
-    has-all s d b = forced .least s (defeats-fault p s d) (b .has)
+    has-all s d b = forced-least forced s (defeats-fault p s d) (b .has)
 
     later : (s : ℕ) → defeats p s ≡ true → Between inn out s → key all ≤ key s
     later s d b = key-mono all s all-low (low s (fault-below p s (defeats-fault p s d))) (has-all s d b)

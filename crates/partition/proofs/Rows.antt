@@ -1,5 +1,5 @@
 -- The words that the search computes from a sound plan's rows are the theory's sets. Assumes nothing.
-use Prim.Native.Nat.{ℕ, suc, _+_, _-_, _*_, _%_, _^_, _≤_, _<_}
+use Prim.Native.Nat.{ℕ, _+_, _-_, _*_, _%_, _^_, _≤_, _<_}
 use mathlib.Core.Path.{_≡_, refl, sym, ap, ap₂, _∙_, subst}
 use mathlib.Core.Logic.{_⊎_, inl, inr, ⊎-elim}
 use mathlib.Core.Bool.{Bool, true, false, not}
@@ -11,19 +11,20 @@ use lib.Dec.{ltb, eqb}
 use lib.ListN.{getD}
 use lib.Pow.{pow-mono, pow-lt, pow-pos, ones-lt}
 use mir.Val.{boolByte}
+use borrow.Author.Tests.{eqb-true, eq-eqb, lt-ltb}
 use Rattle.sets.specs.Tests.{_and_, _or_, _implies_}
 use Rattle.sets.specs.Sets.{bit, mem, all, count, mask, many, singleton}
-use Rattle.sets.proofs.Bools.{clash, decide, and-l, and-r, and-no-l, and-swap, or-l, or-e, no-by, same-test}
-use Rattle.sets.proofs.Laws.{below-or-not, mem-zero, mem-above, set-ext, mask-lt, mem-mask, mem-mask-above, mask-of, mask-cong, all-cong, count-none, count-width, few, many-none}
+use Rattle.sets.proofs.Bools.{clash, decide, and-l, and-r, and-i, and-no-l, or-l, or-r, or-e, not-i, not-e, no-by, same-test}
+use Rattle.sets.proofs.Laws.{below-or-not, mem-zero, mem-above, set-ext, mask-lt, mem-mask, mem-mask-above, mask-of, mask-cong, all-cong, count-none, count-more, count-width, few, many-none, mem-below}
 use Rattle.sets.proofs.Masks.{mem-and, mem-or, mem-not, mask-or}
 use Rattle.sets.proofs.Operations.{test-inside, singleton-narrow}
 use Rattle.plan.specs.declared.Plan.{Plan}
 use Rattle.plan.specs.Plan.{heardBy, hears}
 use Rattle.plan.proofs.Laws.{Sound}
 use Rattle.propagation.specs.FaultSet.{hearsMany}
-use Rattle.propagation.specs.Closure.{joins, grow, reachedAfter, reached}
-use Rattle.propagation.proofs.Growth.{after-below, first-only, reached-early}
-use Rattle.partition.specs.Search.{over, direct}
+use Rattle.propagation.specs.Closure.{joins, reached}
+use Rattle.propagation.proofs.Growth.{joins-good, joins-why, joins-source, joins-many, reached-closed, reached-source, reached-below, reached-least}
+use Rattle.partition.specs.Search.{over, direct, Inside, Closed, Spread}
 
 -- a loop that builds a mask, one bit a turn
 pub next-bit : (i : ℕ) (P : ℕ → Bool) (found d : ℕ) → i < 32 → found ≡ mask i P → d ≡ bit (P i)
@@ -52,9 +53,25 @@ rows-mask p s P z =
     (λ l. ap P (s .rows-above b l k) ∙ z ∙ sym (mem-mask-above (p .n) b (λ b. P (heardBy p b)) l))
     (below-or-not b (p .n)))
 
-pub direct-is : (p : Plan) → Sound p → direct (p .rows) (p .source) ≡ mask (p .n) (λ b. hears p b (p .source))
-unfolding direct hears heardBy
-direct-is p s = rows-mask p s (mem (p .source)) (mem-zero (p .source))
+-- ---- the source alone
+
+module _ (p : Plan) (s : Sound p) (one : ℕ) (q : one ≡ singleton 32 (p .source)) where
+  one-is : one ≡ mask (p .n) (λ j. eqb j (p .source))
+  one-is = q ∙ singleton-narrow 32 (p .n) (p .source) (s .source-below) (let t = s .twenty in omega arith)
+
+  pub one-below : one < 2 ^ p .n
+  one-below = subst (λ (x : ℕ). x < 2 ^ p .n) (sym one-is) (mask-lt (p .n) (λ j. eqb j (p .source)))
+
+  pub one-only : (i : ℕ) → mem i one ≡ true → i ≡ p .source
+  one-only i m =
+      eqb-true i (p .source)
+      (sym (ap (mem i) one-is ∙ mem-mask (p .n) i (λ j. eqb j (p .source)) (mem-below (p .n) i one one-below m)) ∙ m)
+
+  pub one-mem : mem (p .source) one ≡ true
+  one-mem =
+      ap (mem (p .source)) one-is ∙ mem-mask (p .n) (p .source) (λ j. eqb j (p .source)) (s .source-below) ∙ eq-eqb (p .source) (p .source) refl
+
+-- ---- rows
 
 -- how many of a row's terminals are in a, over all 32 bits and over n
 pub over-many : (p : Plan) → Sound p → (g a : ℕ) → over (p .rows) g a ≡ mask (p .n) (λ b. many (p .n) g (λ i. hears p b i and mem i a))
@@ -70,6 +87,35 @@ over-many p s g a =
         ap (ltb g)
         (count-width (p .n) 32 (λ i. mem i (heardBy p b) and mem i a) (let t = s .twenty in omega arith)
         (λ i l. and-no-l _ _ (mem-above (p .n) i (heardBy p b) (s .row-below b k) l)))
+
+-- whoever hears more than none of the source alone hears the source
+pub direct-is : (p : Plan) → Sound p → direct (p .rows) (p .source) ≡ mask (p .n) (λ b. hears p b (p .source))
+unfolding direct many
+direct-is p s =
+    over-many p s 0 (singleton 32 (p .source))
+    ∙ mask-cong (p .n) (λ b. many (p .n) 0 (λ i. hears p b i and mem i (singleton 32 (p .source)))) (λ b. hears p b (p .source))
+    (λ b k. same-test _ _ (only b) (there b))
+  where
+    ears : ℕ → ℕ → Bool
+    ears b i = hears p b i and mem i (singleton 32 (p .source))
+
+    only : (b : ℕ) → many (p .n) 0 (ears b) ≡ true → hears p b (p .source) ≡ true
+    only b m =
+        ⊎-elim (λ y. y)
+        (λ y.
+        clash m
+        (many-none (p .n) 0 (ears b)
+        (λ a l.
+        no-by
+        (λ t. clash (subst (λ (x : ℕ). hears p b x ≡ true) (one-only p s (singleton 32 (p .source)) refl a (and-r _ _ t)) (and-l _ _ t)) y))))
+        (decide (hears p b (p .source)))
+
+    there : (b : ℕ) → hears p b (p .source) ≡ true → many (p .n) 0 (ears b) ≡ true
+    there b h =
+        let c : count (p .n) (λ i. false) < count (p .n) (ears b) =
+        count-more (p .n) (λ i. false) (ears b) (λ i l m. clash m refl) (p .source) (s .source-below) refl
+        (and-i _ _ h (one-mem p s (singleton 32 (p .source)) refl)) in
+        lt-ltb 0 (count (p .n) (ears b)) (omega arith)
 
 pub over-is : (p : Plan) → Sound p → (a : ℕ) → over (p .rows) (p .f) a ≡ mask (p .n) (λ b. hearsMany p b a)
 unfolding hearsMany
@@ -96,7 +142,11 @@ over-low p s g a o e =
 pub over-below : (p : Plan) → Sound p → (a o : ℕ) → o ≡ over (p .rows) (p .f) a → o < 2 ^ p .n
 over-below p s a o e = over-low p s (p .f) a o e
 
-word-of : (p : Plan) → Sound p → {x : ℕ} → x < 2 ^ p .n → x < 2 ^ 32
+pub direct-by : (rows : List ℕ) (source one d : ℕ) → one ≡ singleton 32 source → d ≡ over rows 0 one → d ≡ direct rows source
+unfolding direct
+direct-by rows source one d e q = q ∙ ap (over rows 0) e
+
+pub word-of : (p : Plan) → Sound p → {x : ℕ} → x < 2 ^ p .n → x < 2 ^ 32
 word-of p s h = let t : p .n ≤ 32 = let u = s .twenty in omega arith in lt-of-lt-of-le h (pow-mono t)
 
 -- over(s) lies inside s exactly if everyone outside s hears at most f of it
@@ -113,23 +163,6 @@ bounded-test p sound s o h e =
     turned true false = refl
     turned false true = refl
     turned false false = refl
-
--- one turn of the growth, as one expression of words
-pub grown-is : (p : Plan) → Sound p → (hearers faulty l o : ℕ) → hearers ≡ direct (p .rows) (p .source) → faulty < 2 ^ p .n → l < 2 ^ p .n
-    → o ≡ over (p .rows) (p .f) l → bitOr l (bitAnd (bitOr hearers o) (4294967295 - faulty)) ≡ grow p faulty l
-unfolding grow joins
-grown-is p s hearers faulty l o d hf hl e =
-    mask-of (p .n) (bitOr l (bitAnd (bitOr hearers o) (4294967295 - faulty))) (λ b. mem b l or (not (mem b faulty) and (hears p b (p .source) or hearsMany p b l)))
-    (or-lt (p .n) l (bitAnd (bitOr hearers o) (4294967295 - faulty)) hl
-    (lt-of-le-of-lt (and-le-l (bitOr hearers o) (4294967295 - faulty))
-    (or-lt (p .n) hearers o (direct-below p s hearers d) (over-below p s l o e))))
-    (λ b k.
-    mem-or b l (bitAnd (bitOr hearers o) (4294967295 - faulty))
-    ∙ ap (λ (t : Bool). mem b l or t)
-    (mem-and b (bitOr hearers o) (4294967295 - faulty) ∙ and-swap (mem b (bitOr hearers o)) (mem b (4294967295 - faulty))
-    ∙ ap₂ _and_ (mem-not 32 b faulty (word-of p s hf) (let t = s .twenty in omega arith))
-    (mem-or b hearers o
-    ∙ ap₂ _or_ (direct-mem p s hearers b d k) (over-mem p s l o b e k))))
 
 pub one-shift : (n : ℕ) → n ≤ 20 → (1 * 2 ^ n) % 4294967296 ≡ 2 ^ n
 one-shift n t = ap (λ (x : ℕ). x % 4294967296) (one-mul (2 ^ n)) ∙ mod-eq-of-lt (pow-lt {j = 32} (omega arith))
@@ -151,51 +184,50 @@ left-is n a b t ha hb =
     none-of true y = refl
     none-of false y = refl
 
--- whoever hears nobody of a set hears not many of it
-hears-none : (p : Plan) (b s : ℕ) → ((a : ℕ) → a < p .n → hears p b a and mem a s ≡ false) → hearsMany p b s ≡ false
-unfolding hearsMany
-hears-none p b s f = many-none (p .n) (p .f) (λ a. hears p b a and mem a s) f
+-- ---- what a notice reaches: the source and its hearers outside the fault set, with whoever joins them
 
--- ---- the turns of the growth, as the loop counts them: k - 1 turns are done
+module _ (p : Plan) (s : Sound p) (hearers faulty one : ℕ) (d : hearers ≡ direct (p .rows) (p .source)) (f : faulty < 2 ^ p .n)
+    (q : one ≡ singleton 32 (p .source)) where
+  abbrev first : ℕ
+  first = bitOr one (bitAnd hearers (4294967295 - faulty))
 
-pub first-turn : (p : Plan) → Sound p → (faulty : ℕ) → singleton 32 (p .source) ≡ reachedAfter p faulty 0
-unfolding reachedAfter
-first-turn p s faulty = singleton-narrow 32 (p .n) (p .source) (s .source-below) (let t = s .twenty in omega arith)
+  pub first-below : first < 2 ^ p .n
+  first-below =
+      or-lt (p .n) one (bitAnd hearers (4294967295 - faulty)) (one-below p s one q)
+      (lt-of-le-of-lt (and-le-l hearers (4294967295 - faulty)) (direct-below p s hearers d))
 
--- whoever hears more than f of the source alone hears the source, so the first turn adds those that hear it
-pub second-turn : (p : Plan) → Sound p → (hearers faulty s : ℕ) → hearers ≡ direct (p .rows) (p .source) → faulty < 2 ^ p .n → s ≡ singleton 32 (p .source)
-    → bitOr s (bitAnd hearers (4294967295 - faulty)) ≡ reachedAfter p faulty 1
-unfolding reachedAfter grow joins
-second-turn p s hearers faulty one d hf e =
-    mask-of (p .n) (bitOr one (bitAnd hearers (4294967295 - faulty)))
-    (λ b. mem b (reachedAfter p faulty 0) or (not (mem b faulty) and (hears p b (p .source) or hearsMany p b (reachedAfter p faulty 0))))
-    (or-lt (p .n) one (bitAnd hearers (4294967295 - faulty)) (subst (λ (x : ℕ). x < 2 ^ p .n) (sym (e ∙ first-turn p s faulty)) (after-below p faulty 0))
-    (lt-of-le-of-lt (and-le-l hearers (4294967295 - faulty)) (direct-below p s hearers d)))
-    (λ b k.
-    mem-or b one (bitAnd hearers (4294967295 - faulty))
-    ∙ ap₂ _or_ (ap (mem b) (e ∙ first-turn p s faulty))
-    (mem-and b hearers (4294967295 - faulty) ∙ and-swap (mem b hearers) (mem b (4294967295 - faulty))
-    ∙ ap₂ _and_ (mem-not 32 b faulty (word-of p s hf) (let t = s .twenty in omega arith))
-    (direct-mem p s hearers b d k ∙ same-test _ _ (λ h. or-l _ _ h) (λ h. ⊎-elim (λ y. y) (only b k) (or-e _ _ h)))))
-  where
-    only : (b : ℕ) → b < p .n → hearsMany p b (reachedAfter p faulty 0) ≡ true → hears p b (p .source) ≡ true
-    only b k h =
-        ⊎-elim (λ y. y)
-        (λ y.
-        clash h
-        (hears-none p b (reachedAfter p faulty 0)
-        (λ a l. no-by (λ m. clash (subst (λ (x : ℕ). hears p b x ≡ true) (first-only p faulty a l (and-r _ _ m)) (and-l _ _ m)) y))))
-        (decide (hears p b (p .source)))
+  good : (b : ℕ) → b < p .n → mem b (4294967295 - faulty) ≡ not (mem b faulty)
+  good b k = mem-not 32 b faulty (word-of p s f) (let t = s .twenty in omega arith)
 
-pub next-turn : (p : Plan) (faulty k l next : ℕ) → 1 ≤ k → l ≡ reachedAfter p faulty (k - 1) → next ≡ grow p faulty l
-    → next ≡ reachedAfter p faulty (k + 1 - 1)
-unfolding reachedAfter
-next-turn p faulty k l next h e q =
-    let t : suc (k - 1) ≡ k + 1 - 1 = omega arith in
-    q ∙ ap (grow p faulty) e ∙ ap (reachedAfter p faulty) t
+  closed : Closed p faulty (reached p faulty)
+  closed b k g h = reached-closed p faulty (s .source-below) b k (joins-many p faulty (reached p faulty) b g h)
 
-pub last-turn : (p : Plan) (faulty k l next : ℕ) → 1 ≤ k → k ≤ p .n → l ≡ reachedAfter p faulty (k - 1) → next ≡ grow p faulty l → next ≡ l
-    → l ≡ reached p faulty
-unfolding reachedAfter
-last-turn p faulty k l next h j e q f =
-    e ∙ sym (reached-early p faulty (k - 1) (omega arith) (ap (grow p faulty) (sym e) ∙ sym q ∙ f ∙ e))
+  starts : Inside first (reached p faulty)
+  starts b m =
+      ⊎-elim (λ y. subst (λ (x : ℕ). mem x (reached p faulty) ≡ true) (sym (one-only p s one q b y)) (reached-source p faulty (s .source-below)))
+      (λ y.
+      let both = sym (mem-and b hearers (4294967295 - faulty)) ∙ y in
+      let k = mem-below (p .n) b hearers (direct-below p s hearers d) (and-l _ _ both) in
+      reached-closed p faulty (s .source-below) b k
+      (joins-source p faulty (reached p faulty) b (not-e _ (sym (good b k) ∙ and-r _ _ both)) (sym (direct-mem p s hearers b d k) ∙ and-l _ _ both)))
+      (or-e _ _ (sym (mem-or b one (bitAnd hearers (4294967295 - faulty))) ∙ m))
+
+  pub spread-reached : (r : ℕ) → Spread p first faulty r → r ≡ reached p faulty
+  spread-reached r h =
+      set-ext (p .n) r (reached p faulty) (h .below) (reached-below p faulty)
+      (λ b k. same-test _ _ (h .least (reached p faulty) starts closed b) (reached-least p faulty r source joined b))
+    where
+      source : mem (p .source) r ≡ true
+      source = h .has (p .source) (mem-or (p .source) one (bitAnd hearers (4294967295 - faulty)) ∙ or-l _ _ (one-mem p s one q))
+
+      joined : (b : ℕ) → b < p .n → joins p faulty r b ≡ true → mem b r ≡ true
+      joined b k j =
+          let g = joins-good p faulty r b j in
+          ⊎-elim
+          (λ y.
+          h .has b
+          (mem-or b one (bitAnd hearers (4294967295 - faulty))
+          ∙ or-r _ _
+          (mem-and b hearers (4294967295 - faulty)
+          ∙ and-i _ _ (direct-mem p s hearers b d k ∙ y) (good b k ∙ not-i g))))
+          (h .closed b k g) (joins-why p faulty r b j)

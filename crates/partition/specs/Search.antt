@@ -6,8 +6,8 @@ use mathlib.Core.List.{List}
 use mathlib.Core.Path.{_≡_}
 use lib.Dec.{ltb}
 use lib.ListN.{getD}
-use Rattle.sets.specs.Tests.{_and_, _or_, _implies_}
-use Rattle.sets.specs.Sets.{mem, all, count, mask, size}
+use Rattle.sets.specs.Tests.{_and_}
+use Rattle.sets.specs.Sets.{mem, count, mask, size, singleton}
 use Rattle.plan.specs.declared.Plan.{Plan}
 use Rattle.plan.specs.Plan.{causeOf}
 use Rattle.propagation.specs.FaultSet.{hearsMany, isFaultSet}
@@ -21,7 +21,7 @@ over rows f a = mask 20 (λ b. ltb f (count 32 (λ i. mem i (getD rows b 0) and 
 
 -- the terminals that hear the source
 unfoldable pub direct : List ℕ → ℕ → ℕ
-direct rows source = mask 20 (λ b. mem source (getD rows b 0))
+direct rows source = over rows 0 (singleton 32 source)
 
 -- the terminals of n outside two sets
 abbrev pub outside : ℕ → ℕ → ℕ → ℕ
@@ -45,6 +45,11 @@ Inside a b = (i : ℕ) → mem i a ≡ true → mem i b ≡ true
 abbrev pub Apart : ℕ → ℕ → Type 0
 Apart a b = (i : ℕ) → mem i a ≡ true → mem i b ≡ false
 
+-- r has some of the members of s, and no other
+pub record SomeOf (s r : ℕ) : Type 0 where
+  pub some : r ≡ 0 → ⊥
+  pub inside : Inside r s
+
 -- a part of the search: the sets that have all of inn and none of out
 pub record Between (inn out s : ℕ) : Type 0 where
   pub has : Inside inn s
@@ -54,23 +59,20 @@ pub record Between (inn out s : ℕ) : Type 0 where
 abbrev pub Settled : Plan → ℕ → ℕ → Type 0
 Settled p s known = (i : ℕ) → mem i known ≡ true → (mem i s ≡ true) ⊎ (mem i (reached p s) ≡ true)
 
--- how many of known terminal b hears, where those of inn count as heard; everyone of rest hears at least need
-unfoldable pub heardOf : List ℕ → ℕ → ℕ → ℕ → ℕ
-heardOf rows inn known b = count 32 (λ i. mem i known and (mem i (getD rows b 0) or mem i inn))
-
-abbrev pub AllHear : List ℕ → ℕ → ℕ → ℕ → ℕ → Type 0
-AllHear rows rest inn known need = (b : ℕ) → b < 20 → mem b rest ≡ true → need ≤ heardOf rows inn known b
-
 -- no set that has inn, and for which known is settled, comes before best
 abbrev pub Hopeless : Plan → ℕ → ℕ → ℕ → Type 0
 Hopeless p inn known best = (s : ℕ) → defeats p s ≡ true → Inside inn s → Settled p s known → best ≤ key s
 
--- r is inn with all that it forces: every fault set that has inn has r, and whoever is outside r hears at most f of it
-pub record Forced (p : Plan) (inn r : ℕ) : Type 0 where
+-- whoever is outside the wall and hears more than f of s is in s
+abbrev pub Closed : Plan → ℕ → ℕ → Type 0
+Closed p wall s = (b : ℕ) → b < p .n → mem b wall ≡ false → hearsMany p b s ≡ true → mem b s ≡ true
+
+-- r is the least closed set that has s. Without a wall it is s with all that it forces: every fault set is closed
+pub record Spread (p : Plan) (s wall r : ℕ) : Type 0 where
   pub below : r < 2 ^ p .n
-  pub has : Inside inn r
-  pub bounded : all (p .n) (λ b. not (mem b r) implies not (hearsMany p b r)) ≡ true
-  pub least : (s : ℕ) → isFaultSet p s ≡ true → Inside inn s → Inside r s
+  pub has : Inside s r
+  pub closed : Closed p wall r
+  pub least : (t : ℕ) → Inside s t → Closed p wall t → Inside r t
 
 -- r is settled wherever known is, for the fault sets with none of out
 pub record Grown (p : Plan) (out known r : ℕ) : Type 0 where

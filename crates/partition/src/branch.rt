@@ -7,7 +7,7 @@ ghost use Rattle.sets.specs.Sets.{mem};
 ghost use Rattle.plan.specs.Plan.{causeOf};
 ghost use Rattle.propagation.specs.FaultSet.{isFaultSet};
 ghost use Rattle.propagation.specs.Verdict.{defeats};
-ghost use Rattle.partition.specs.Search.{outside, direct, key, Hopeless, Part, Least};
+ghost use Rattle.partition.specs.Search.{SomeOf, outside, direct, key, Hopeless, Part, Least};
 use super::bound;
 use super::search;
 use plan::Plan;
@@ -37,36 +37,72 @@ fn highest(s: u32) -> usize
     31 - u32::leading_zeros(s) as usize
 }
 
+// Those of s that are in `of`, or all of s where none is.
+fn narrowed(s: u32, of: u32) -> u32
+    requires { ⌜ (s ≡ 0 → ⊥) ⌝ }
+    ensures { λ r. ⌜ SomeOf s r ⌝ }
+{
+    if of & s != 0 {
+        return of & s;
+    }
+    s
+}
+
+// Those of s that the most terminals hear. Every word has one binary digit of each terminal's count.
+fn widest(rows: [u32; 20], s: u32) -> u32
+    requires { ⌜ (s ≡ 0 → ⊥) ⌝ }
+    ensures { λ r. ⌜ SomeOf s r ⌝ }
+{
+    let mut ones: u32 = 0;
+    let mut twos: u32 = 0;
+    let mut fours: u32 = 0;
+    let mut eights: u32 = 0;
+    let mut sixteens: u32 = 0;
+    let mut b: usize = 0;
+    while b < 20 {
+        let one = rows[b];
+        let two = ones & one;
+        let four = twos & two;
+        let eight = fours & four;
+        sixteens = sixteens | (eights & eight);
+        eights = eights ^ eight;
+        fours = fours ^ four;
+        twos = twos ^ two;
+        ones = ones ^ one;
+        b += 1;
+    }
+    let many = narrowed(narrowed(s, sixteens), eights);
+    narrowed(narrowed(narrowed(many, fours), twos), ones)
+}
+
 // One of the free terminals. Any choice is right: one that the rest hears, and of these one that many
 // hear, makes the two parts small.
-fn chosen(heard: u32, hubs: u32, free: u32) -> usize
+fn chosen(rows: [u32; 20], heard: u32, free: u32) -> usize
     requires { ⌜ (free ≡ 0 → ⊥) ⌝ }
     ensures { λ r. ⌜ mem r free ≡ true ⌝ }
 {
-    let near = heard & free;
-    if hubs & near != 0 {
-        return highest(hubs & near);
-    }
-    if near != 0 {
-        return highest(near);
-    }
-    highest(free)
+    highest(widest(rows, narrowed(free, heard)))
 }
 
 // No set of the part comes before best. Whoever is cut off is one of the rest, and hears at most f
-// who are reached: all others of known that it hears are in the set, and so are those of inn.
+// who are reached: all others of known that it hears are in the set, beside those of inn.
 fn hopeless(p: Plan, inn: u32, known: u32, rest: u32, best: u32) -> bool
     requires { ⌜ (causeOf p ≡ 0) × (inn < 2 ^ p .n) × (known < 2 ^ p .n) × (rest ≡ outside (p .n) inn known) ⌝ }
     ensures { λ r. ⌜ (r ≡ true → Hopeless p inn known best) ⌝ }
 {
     let rows = p.rows;
     let more = (inn < best & 1048575) as u32;
-    bound::all_hear(rows, rest, inn, known, p.f as u32 + (best >> 20) + more)
+    let need = p.f as u32 + (best >> 20) + more;
+    let own = u32::count_ones(inn);
+    if need <= own {
+        return true;
+    }
+    rest & !search::over(rows, need - own - 1, known & !inn) == 0
 }
 
 // The lesser of best and the part's least key, where inn itself does not defeat the plan: first the
 // sets without one of the free terminals, then those with it.
-fn split(p: Plan, hearers: u32, hubs: u32, inn: u32, out: u32, known: u32, best: u32) -> u32
+fn split(p: Plan, hearers: u32, inn: u32, out: u32, known: u32, best: u32) -> u32
     requires { ⌜ Part p hearers inn out known × (defeats p inn ≡ false) ⌝ }
     ensures { λ r. ⌜ Least p inn out best r ⌝ }
 {
@@ -80,25 +116,17 @@ fn split(p: Plan, hearers: u32, hubs: u32, inn: u32, out: u32, known: u32, best:
         return best;
     }
     let rows = p.rows;
-    let b = chosen(bound::heard(rows, rest) & sure, hubs, free);
-    let first = split(p, hearers, hubs, inn, sets::with(out, b), sure, best);
-    inside(p, hearers, hubs, sets::with(inn, b), out, sure, first)
+    let b = chosen(rows, bound::heard(rows, rest) & sure, free);
+    let first = split(p, hearers, inn, sets::with(out, b), sure, best);
+    inside(p, hearers, sets::with(inn, b), out, sure, first)
 }
 
 // The same where inn is new: what it forces joins it, and is the part's least if it defeats the plan.
-pub(crate) fn inside(
-    p: Plan,
-    hearers: u32,
-    hubs: u32,
-    inn: u32,
-    out: u32,
-    known: u32,
-    best: u32,
-) -> u32
+pub(crate) fn inside(p: Plan, hearers: u32, inn: u32, out: u32, known: u32, best: u32) -> u32
     requires { ⌜ Part p hearers inn out known ⌝ }
     ensures { λ r. ⌜ Least p inn out best r ⌝ }
 {
-    let all = bound::forced(p, inn);
+    let all = search::spread(p, inn, 0);
     if all & out != 0 {
         return best;
     }
@@ -109,5 +137,5 @@ pub(crate) fn inside(
     if defeats(p, hearers, all) {
         return own;
     }
-    split(p, hearers, hubs, all, out, known | all, best)
+    split(p, hearers, all, out, known | all, best)
 }

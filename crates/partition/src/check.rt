@@ -41,7 +41,7 @@ fn cut_off(p: Plan, l: u32, r: u32) -> bool
     ensures { λ x. ⌜ x ≡ all (p .n) (λ b. mem b r implies (not (hears p b (p .source)) and not (hearsMany p b l))) ⌝ }
 {
     let rows = p.rows;
-    let hearers = search::direct(rows, p.source);
+    let hearers = search::over(rows, 0, sets::singleton(p.source));
     (hearers | search::over(rows, p.f as u32, l)) & r == 0
 }
 

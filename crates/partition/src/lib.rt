@@ -49,7 +49,7 @@ fn judge(p: Plan) -> Judgement
     ensures { λ r. ⌜ told r ≡ judged (verdict p) ⌝ }
 {
     let rows = p.rows;
-    let hearers = search::direct(rows, p.source);
+    let hearers = search::over(rows, 0, sets::singleton(p.source));
     let best = search::search(p, hearers);
     if 20 < best.members {
         return Judgement::Pass;

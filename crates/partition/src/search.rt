@@ -6,10 +6,9 @@ ghost use Rattle.sets.specs.Tests.{_and_, _implies_};
 ghost use Rattle.sets.specs.Sets.{mem, all, mask};
 ghost use Rattle.plan.specs.Plan.{causeOf};
 ghost use Rattle.propagation.specs.FaultSet.{hearsMany};
-ghost use Rattle.propagation.specs.Closure.{grow, reached};
+ghost use Rattle.propagation.specs.Closure.{reached};
 ghost use Rattle.propagation.specs.Verdict.{bestBelow};
-ghost use Rattle.partition.specs.Search.{over, direct, StandsFor};
-use super::bound;
+ghost use Rattle.partition.specs.Search.{over, direct, Spread, StandsFor};
 use super::branch;
 use plan::Plan;
 
@@ -33,20 +32,6 @@ pub(crate) fn over(rows: [u32; 20], f: u32, a: u32) -> u32
     found
 }
 
-// The terminals that hear the source.
-pub(crate) fn direct(rows: [u32; 20], source: usize) -> u32
-    requires { ⌜ source < 32 ⌝ }
-    ensures { λ r. ⌜ r ≡ direct rows source ⌝ }
-{
-    let mut found: u32 = 0;
-    let mut b: usize = 0;
-    while b < 20 {
-        found = found | (((rows[b] >> source) & 1) << b);
-        b += 1;
-    }
-    found
-}
-
 // Everyone outside s hears at most f of its members.
 pub(crate) fn bounded(p: Plan, s: u32) -> bool
     requires { ⌜ (causeOf p ≡ 0) × (s < 2 ^ p .n) ⌝ }
@@ -56,32 +41,30 @@ pub(crate) fn bounded(p: Plan, s: u32) -> bool
     over(rows, p.f as u32, s) & !s == 0
 }
 
-// One turn: whoever is outside the fault set and hears the source, or more than f that are reached.
-fn grown(p: Plan, hearers: u32, faulty: u32, l: u32) -> u32
-    requires { ⌜ (causeOf p ≡ 0) × (hearers ≡ direct (p .rows) (p .source)) × (faulty < 2 ^ p .n) × (l < 2 ^ p .n) ⌝ }
-    ensures { λ r. ⌜ r ≡ grow p faulty l ⌝ }
+// S with whoever joins it turn by turn: outside the wall, and hearing more than f that are in. It stops
+// where a turn adds nobody.
+pub(crate) fn spread(p: Plan, s: u32, wall: u32) -> u32
+    requires { ⌜ (causeOf p ≡ 0) × (s < 2 ^ p .n) ⌝ }
+    ensures { λ r. ⌜ Spread p s wall r ⌝ }
 {
     let rows = p.rows;
-    l | ((hearers | over(rows, p.f as u32, l)) & !faulty)
-}
-
-// What a notice reaches in spite of the fault set. The first turn reaches whoever hears the
-// source; the growth stops where a turn adds nothing.
-pub(crate) fn reach(p: Plan, hearers: u32, faulty: u32) -> u32
-    requires { ⌜ (causeOf p ≡ 0) × (hearers ≡ direct (p .rows) (p .source)) × (faulty < 2 ^ p .n) ⌝ }
-    ensures { λ r. ⌜ r ≡ reached p faulty ⌝ }
-{
-    let mut l = sets::singleton(p.source) | (hearers & !faulty);
-    let mut k = 2;
-    while k < p.n {
-        let next = grown(p, hearers, faulty, l);
+    let mut l = s;
+    loop {
+        let next = l | (over(rows, p.f as u32, l) & !wall);
         if next == l {
             return l;
         }
         l = next;
-        k += 1;
     }
-    l
+}
+
+// What a notice reaches in spite of the fault set, from the source and those that hear it.
+pub(crate) fn reach(p: Plan, hearers: u32, faulty: u32) -> u32
+    requires { ⌜ (causeOf p ≡ 0) × (hearers ≡ direct (p .rows) (p .source)) × (faulty < 2 ^ p .n) ⌝ }
+    ensures { λ r. ⌜ r ≡ reached p faulty ⌝ }
+{
+    let source = sets::singleton(p.source);
+    spread(p, source | (hearers & !faulty), faulty)
 }
 
 // The terminals outside both sets.
@@ -98,17 +81,8 @@ pub(crate) fn search(p: Plan, hearers: u32) -> Best
     requires { ⌜ (causeOf p ≡ 0) × (hearers ≡ direct (p .rows) (p .source)) ⌝ }
     ensures { λ r. ⌜ StandsFor (p .n) r (bestBelow p (2 ^ p .n)) ⌝ }
 {
-    let rows = p.rows;
     let source = sets::singleton(p.source);
-    let best = branch::inside(
-        p,
-        hearers,
-        bound::hubs(rows),
-        0,
-        source,
-        source | hearers,
-        22020096,
-    );
+    let best = branch::inside(p, hearers, 0, source, source | hearers, 22020096);
     Best {
         members: (best >> 20) as usize,
         set: best & 1048575,

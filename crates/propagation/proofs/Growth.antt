@@ -3,7 +3,6 @@ use Prim.Native.Nat.{ℕ, zero, suc, _+_, _-_, _^_, _≤_, _<_}
 use mathlib.Core.Path.{_≡_, refl, sym, ap, _∙_, subst}
 use mathlib.Core.Logic.{_⊎_, inl, inr, ⊎-elim}
 use mathlib.Core.Bool.{Bool, true, false, not}
-use native.Mathlib.Nat.{zero-add, suc-add}
 use native.Mathlib.Omega.{arith}
 use lib.Dec.{eqb}
 use borrow.Author.Tests.{eqb-true, eq-eqb}
@@ -151,13 +150,3 @@ module _ (p : Plan) (faulty : ℕ) where
   -- n - 1 turns reach all that any number of turns reaches
   pub reached-all : p .source < p .n → (k b : ℕ) → mem b (reachedAfter p faulty k) ≡ true → mem b (reached p faulty) ≡ true
   reached-all l k b h = after-least (reached p faulty) (reached-source l) (reached-closed l) k b h
-
-  -- a turn that adds nothing ends the growth
-  still : (k d : ℕ) → reachedAfter p faulty (suc k) ≡ reachedAfter p faulty k → reachedAfter p faulty (d + k) ≡ reachedAfter p faulty k
-  unfolding reachedAfter
-  still k zero e = ap (reachedAfter p faulty) (zero-add k)
-  still k (suc d) e = ap (reachedAfter p faulty) (suc-add d k) ∙ ap (grow p faulty) (still k d e) ∙ e
-
-  pub reached-early : (k : ℕ) → k ≤ p .n - 1 → reachedAfter p faulty (suc k) ≡ reachedAfter p faulty k → reached p faulty ≡ reachedAfter p faulty k
-  unfolding reached
-  reached-early k l e = let q : p .n - 1 ≡ (p .n - 1 - k) + k = omega arith in ap (reachedAfter p faulty) q ∙ still k (p .n - 1 - k) e

@@ -15,7 +15,6 @@ use Rattle.partition.proofs.branch.+inside+split.Lts-inside as inside-l
 use Rattle.partition.proofs.branch.split.Reads as split
 use Rattle.partition.proofs.branch.split.Kinds as split-kinds
 use Rattle.partition.proofs.branch.+inside+split.Lts-split as split-lts
-use Rattle.partition.proofs.bound.forced.Reads as forced-reads
 use Rattle.partition.proofs.bound.heard.Reads as heard-reads
 use Rattle.partition.proofs.bound.settled.Reads as settled-reads
 use Rattle.partition.proofs.branch.chosen.Reads as chosen-reads
@@ -23,15 +22,16 @@ use Rattle.partition.proofs.branch.defeats.Reads as defeats-reads
 use Rattle.partition.proofs.branch.hopeless.Reads as hopeless-reads
 use Rattle.partition.proofs.branch.key.Reads as key-reads
 use Rattle.partition.proofs.search.left_out.Reads as left-out-reads
+use Rattle.partition.proofs.search.spread.Reads as spread-reads
 use Rattle.sets.proofs.with.Reads as with-reads
 use Rattle.partition.proofs.branch.+inside+split.{statement}
 use Rattle.partition.proofs.branch.+inside+split.Tie.{close}
 
 abbrev μ-inside : Measures 0 inside-kinds.ps ℕ
-μ-inside κs a = 2 * left (a .0 .n) (a .1 .1 .1 .0) (a .1 .1 .1 .1 .0) + 1
+μ-inside κs a = 2 * left (a .0 .n) (a .1 .1 .0) (a .1 .1 .1 .0) + 1
 
 abbrev μ-split : Measures 0 split-kinds.ps ℕ
-μ-split κs a = 2 * left (a .0 .n) (a .1 .1 .1 .0) (a .1 .1 .1 .1 .0)
+μ-split κs a = 2 * left (a .0 .n) (a .1 .1 .0) (a .1 .1 .1 .0)
 
 abbrev inside-at : ℕ → In 0 inside-kinds.ps
 inside-at t = and 0 inside-kinds.ps (is 0 inside-kinds.ps μ-inside t) inside.Pre
@@ -47,8 +47,8 @@ split-below t = and 0 split-kinds.ps (falls 0 split-kinds.ps _<_ μ-split t) spl
 
 abbrev inside-calls : ℕ → inside-lts.Claims
 inside-calls t = (
-  forced-reads.Asked,
-  forced-reads.Learnt,
+  spread-reads.Asked,
+  spread-reads.Learnt,
   key-reads.Asked,
   key-reads.Learnt,
   defeats-reads.Asked,
@@ -77,42 +77,42 @@ split-calls t = (
   inside.Post,
 )
 
-inside-forced-requires : (t : ℕ) → inside-lts.Need-forced-requires (inside-calls t) (inside-at t) inside.Post
-inside-forced-requires t c κs = (c .pre .1 .plan, c .pre .1 .inn-below)
+inside-spread-requires : (t : ℕ) → inside-lts.Need-spread-requires (inside-calls t) (inside-at t) inside.Post
+inside-spread-requires t c κs = (c .pre .1 .plan, c .pre .1 .inn-below)
 
 inside-returns : (t : ℕ) → inside-lts.Need-returns (inside-calls t) (inside-at t) inside.Post
-inside-returns t c = meets (c .before .before .pre .1) (c .before .forced .ensures) _ (c .if1 .taken)
+inside-returns t c = meets (c .before .before .pre .1) (c .before .spread .ensures) _ (c .if1 .taken)
 
 inside-key-requires : (t : ℕ) → inside-lts.Need-key-requires (inside-calls t) (inside-at t) inside.Post
-inside-key-requires t c κs = all-low (c .before .before .pre .1) (c .before .forced .ensures)
+inside-key-requires t c κs = all-low (c .before .before .pre .1) (c .before .spread .ensures)
 
 inside-returns-2 : (t : ℕ) → inside-lts.Need-returns-2 (inside-calls t) (inside-at t) inside.Post
 inside-returns-2 t c =
     let part = c .before .before .before .before .pre .1 in
-    no-better part (c .before .before .before .forced .ensures) _ _ (c .before .key .ensures) (c .if2 .taken)
+    no-better part (c .before .before .before .spread .ensures) _ _ (c .before .key .ensures) (c .if2 .taken)
 
 inside-defeats-requires : (t : ℕ) → inside-lts.Need-defeats-requires (inside-calls t) (inside-at t) inside.Post
 inside-defeats-requires t c κs =
     let part = c .before .before .before .before .pre .1 in
-    (part .plan, part .hearers-are, all-fault part (c .before .before .before .forced .ensures) (c .before .before .if1 .left))
+    (part .plan, part .hearers-are, all-fault part (c .before .before .before .spread .ensures) (c .before .before .if1 .left))
 
 inside-returns-3 : (t : ℕ) → inside-lts.Need-returns-3 (inside-calls t) (inside-at t) inside.Post
 inside-returns-3 t c =
     let part = c .before .before .before .before .before .before .pre .1 in
-    let all = c .before .before .before .before .before .forced .ensures in
+    let all = c .before .before .before .before .before .spread .ensures in
     takes part all _ _ (c .before .before .before .key .ensures) (c .before .before .if2 .left) (sym (c .before .defeats .ensures) ∙ c .if3 .taken)
 
 inside-split-requires : (t : ℕ) → inside-lts.Need-split-requires (inside-calls t) (inside-at t) inside.Post
 inside-split-requires t c κs =
     let part = c .before .before .before .before .before .before .pre .1 in
-    let all = c .before .before .before .before .before .forced .ensures in
+    let all = c .before .before .before .before .before .spread .ensures in
     let l = all-fewer part all in
     (omega arith, (all-part part all, sym (c .before .defeats .ensures) ∙ c .if3 .left))
 
 inside-returns-4 : (t : ℕ) → inside-lts.Need-returns-4 (inside-calls t) (inside-at t) inside.Post
 inside-returns-4 t c =
     let part = c .before .before .before .before .before .before .before .pre .1 in
-    widens part (c .before .before .before .before .before .before .forced .ensures) (c .split .ensures)
+    widens part (c .before .before .before .before .before .before .spread .ensures) (c .split .ensures)
 
 split-settled-requires : (t : ℕ) → split-lts.Need-settled-requires (split-calls t) (split-at t) split.Post
 split-settled-requires t c κs = (c .pre .1 .0 .plan, c .pre .1 .0 .known-below)
@@ -180,7 +180,7 @@ pub +inside+split-spec : {M : Type 1} → statement M
     close μ-inside μ-split
     (λ t.
     inside-lts.spec (inside-calls t) (inside-at t) inside.Post
-    (inside-forced-requires t)
+    (inside-spread-requires t)
     (inside-returns t)
     (inside-key-requires t)
     (inside-returns-2 t)

@@ -1,22 +1,29 @@
 -- One expression of words is the definition's test of every terminal. Assumes nothing.
 use Rattle.plan.proofs.Laws.{sound}
+use Rattle.partition.proofs.Rows.{direct-by}
 use Rattle.partition.proofs.Tests.{cut-test}
 use native.Mathlib.Omega.{arith}
 use borrow.Author.Needs.{needs}
 use Rattle.partition.proofs.check.cut_off.Statement.{statement}
 use Rattle.partition.proofs.check.cut_off.Tie as tie
 
-direct-requires : tie.Need-direct-requires
-direct-requires c κs = let s = sound (c .before .args .p) (c .before .pre) in omega arith
-
-cast-over : tie.Need-cast-over
-cast-over c = let s = sound (c .before .before .before .args .p) (c .before .before .before .pre) in omega arith
+singleton-requires : tie.Need-singleton-requires
+singleton-requires c κs = search needs
 
 over-requires : tie.Need-over-requires
 over-requires c κs = search needs
 
+cast-over : tie.Need-cast-over
+cast-over c = let s = sound _ (c .before .before .before .before .pre) in omega arith
+
+over-requires-2 : tie.Need-over-requires-2
+over-requires-2 c κs = search needs
+
 returns : tie.Need-returns
-returns c = cut-test (c .before .before .before .before .args .p) (sound (c .before .before .before .before .args .p) (c .before .before .before .before .pre)) (c .before .before .direct .result) (c .over .result) (c .before .before .before .before .args .l) (c .before .before .before .before .args .r) (c .before .before .direct .ensures) (c .over .ensures)
+returns c =
+    let given = c .before .before .before .before .before .pre in
+    let one = c .before .before .before .singleton .ensures in
+    cut-test _ (sound _ given) _ _ _ _ (direct-by _ _ _ _ one (c .before .before .over .ensures)) (c .over2 .ensures)
 
 pub cut-off-spec : {M : Type 1} → statement M
-cut-off-spec = tie.close (tie.spec direct-requires cast-over over-requires returns)
+cut-off-spec = tie.close (tie.spec singleton-requires over-requires cast-over over-requires-2 returns)

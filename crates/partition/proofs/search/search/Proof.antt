@@ -9,21 +9,18 @@ use Rattle.partition.proofs.search.search.Tie as tie
 singleton-requires : tie.Need-singleton-requires
 singleton-requires c κs = search needs
 
-hubs-requires : tie.Need-hubs-requires
-hubs-requires c κs = search needs
-
 inside-requires : tie.Need-inside-requires
 inside-requires c κs =
-    let s = c .before .before .before in
-    whole _ (s .pre .0) _ (c .before .singleton .ensures) _ (s .pre .1)
+    let s = c .before in
+    whole _ (s .pre .0) _ (c .singleton .ensures) _ (s .pre .1)
 
-cast-t8 : tie.Need-cast-t8
-cast-t8 c = search needs
+cast-t6 : tie.Need-cast-t6
+cast-t6 c = search needs
 
 returns : tie.Need-returns
 returns c =
-    let s = c .before .before .before .before in
-    stands _ (s .pre .0) _ (c .before .before .singleton .ensures) _ (c .inside .ensures) _ refl (and-mask (c .inside .result) 20)
+    let s = c .before .before in
+    stands _ (s .pre .0) _ (c .before .singleton .ensures) _ (c .inside .ensures) _ refl (and-mask (c .inside .result) 20)
 
 pub search-spec : {M : Type 1} → statement M
-search-spec = tie.close (tie.spec singleton-requires hubs-requires inside-requires cast-t8 returns)
+search-spec = tie.close (tie.spec singleton-requires inside-requires cast-t6 returns)
