@@ -112,26 +112,39 @@ fn tested<'a>(programs: &[&'a str; 3]) -> [Tested<'a>; 3] {
     ]
 }
 
-/// Compares the programs; prints one line in all, and true if nothing differed.
+/// Compares the programs, each beside the others; prints one line in all, and true if nothing
+/// differed.
 pub fn compare(programs: &[&str; 3], seed: u64, count: u64) -> bool {
-    let (mut cases, mut mismatches) = (0, 0);
-    for tested in tested(programs) {
-        let mut here = 0;
-        for index in 0..count {
-            cases += 1;
-            let input = case(tested.kind, seed, index);
-            if let Some(reason) = difference(&tested, &input) {
-                report(tested.name, seed, index, &input, &reason);
-                here += 1;
-            }
-            if here == ENOUGH_MISMATCHES {
-                break;
-            }
-        }
-        mismatches += here;
-    }
+    let tested = tested(programs);
+    let counts: Vec<(u64, u64)> = thread::scope(|scope| {
+        let started = tested
+            .iter()
+            .map(|tested| scope.spawn(move || compare_one(tested, seed, count)));
+        let started: Vec<_> = started.collect();
+        let ended = started.into_iter().map(|one| one.join());
+        ended.map(|one| one.expect("no panic")).collect()
+    });
+    let cases: u64 = counts.iter().map(|(cases, _)| cases).sum();
+    let mismatches: u64 = counts.iter().map(|(_, mismatches)| mismatches).sum();
     println!("{cases} cases, {mismatches} mismatches (seed {seed})");
     mismatches == 0
+}
+
+/// How many cases one program got, and how many differed.
+fn compare_one(tested: &Tested, seed: u64, count: u64) -> (u64, u64) {
+    let (mut cases, mut mismatches) = (0, 0);
+    for index in 0..count {
+        cases += 1;
+        let input = case(tested.kind, seed, index);
+        if let Some(reason) = difference(tested, &input) {
+            report(tested.name, seed, index, &input, &reason);
+            mismatches += 1;
+        }
+        if mismatches == ENOUGH_MISMATCHES {
+            break;
+        }
+    }
+    (cases, mismatches)
 }
 
 fn difference(tested: &Tested, input: &[u8]) -> Option<String> {
