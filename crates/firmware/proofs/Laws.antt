@@ -2,7 +2,6 @@
 use Prim.Native.Nat.{ℕ}
 use mathlib.Core.Path.{_≡_, refl, sym, ap, _∙_}
 use mathlib.Core.List.{List}
-use lib.Dec.{eqb}
 use lib.ListN.{length}
 use borrow.Author.Tests.{eq-eqb, ne-eqb}
 use Rattle.sets.specs.Tests.{_and_, pick}
@@ -12,7 +11,6 @@ use Rattle.terminal.specs.declared.State.the-variants.{Waiting, Taken}
 use Rattle.terminal.specs.declared.Record.{Record}
 use Rattle.terminal.specs.Answer.{causeOf, recordAfter}
 use Rattle.firmware.specs.declared.BoardRecord.{BoardRecord}
-use Rattle.firmware.specs.declared.BoardAnswer.{BoardAnswer}
 use Rattle.firmware.specs.Board.{stateOf, recordOf, boardWith, boardOf, boardAnswer}
 
 -- what a board keeps of a record stands for that record, so that the answer of one step is what the next is given

@@ -1,14 +1,13 @@
 -- From a file's bytes to the output's bytes, for every file. Assumes nothing.
-use Prim.Native.Nat.{ℕ, _+_}
-use mathlib.Core.Bool.{Bool}
-use mathlib.Core.List.{List, [], _∷_, _++_}
+use Prim.Native.Nat.{ℕ}
+use mathlib.Core.List.{List}
 use mathlib.Core.Path.{_≡_}
 use lib.Dec.{eqb, leb}
 use lib.ListN.{length, take}
 use lib.Seq.{sets}
 use Rattle.sets.specs.Tests.{pick}
 use Rattle.partition.specs.Answer as partition
-use Rattle.frames.specs.Reading.{Reading, planReading}
+use Rattle.frames.specs.Reading.{planReading}
 use Rattle.writer.specs.Written.{planText}
 use Rattle.output.specs.declared.Written.{Written}
 use Rattle.output.specs.declared.text.Text.{Text}

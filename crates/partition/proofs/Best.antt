@@ -1,19 +1,16 @@
 -- The least key, read as the best set of the definition. Assumes nothing.
 use Prim.Native.Nat.{ℕ, _/_, _%_, _≤_, _<_, _^_}
-use mathlib.Core.Path.{_≡_, refl, sym, ap, _∙_, subst}
+use mathlib.Core.Path.{_≡_, sym, ap, _∙_, subst}
 use mathlib.Core.Logic.{_⊎_, inl, inr, ⊎-elim}
 use mathlib.Core.Bool.{true, false}
 use native.Mathlib.Nat.{lt-of-lt-of-le}
 use native.Mathlib.Omega.{arith}
 use lib.Bits.{bitOr, or-lt}
-use lib.Dec.{eqb}
 use lib.Pow.{pow-mono, pow-pos}
-use borrow.Author.Tests.{eqb-true, eq-eqb}
-use Rattle.sets.specs.Sets.{mem, mask, size, singleton}
+use Rattle.sets.specs.Sets.{mem, size, singleton}
 use Rattle.sets.proofs.Bools.{clash, decide, or-e}
-use Rattle.sets.proofs.Laws.{mask-lt, mem-mask, mem-below, mem-zero}
+use Rattle.sets.proofs.Laws.{mem-below, mem-zero}
 use Rattle.sets.proofs.Masks.{mem-or}
-use Rattle.sets.proofs.Operations.{singleton-narrow}
 use Rattle.plan.specs.declared.Plan.{Plan}
 use Rattle.plan.specs.Plan.{causeOf}
 use Rattle.plan.proofs.Laws.{sound}

@@ -1,14 +1,13 @@
 -- The words that the search computes from a sound plan's rows are the theory's sets. Assumes nothing.
 use Prim.Native.Nat.{ℕ, _+_, _-_, _*_, _%_, _^_, _≤_, _<_}
 use mathlib.Core.Path.{_≡_, refl, sym, ap, ap₂, _∙_, subst}
-use mathlib.Core.Logic.{_⊎_, inl, inr, ⊎-elim}
+use mathlib.Core.Logic.{_⊎_, ⊎-elim}
 use mathlib.Core.Bool.{Bool, true, false, not}
 use mathlib.Core.List.{List}
 use native.Mathlib.Nat.{lt-of-lt-of-le, lt-of-le-of-lt, one-mul, mod-eq-of-lt, sub-zero}
 use native.Mathlib.Omega.{arith}
 use lib.Bits.{bitAnd, bitOr, and-le-l, or-lt}
 use lib.Dec.{ltb, eqb}
-use lib.ListN.{getD}
 use lib.Pow.{pow-mono, pow-lt, pow-pos, ones-lt}
 use mir.Val.{boolByte}
 use borrow.Author.Tests.{eqb-true, eq-eqb, lt-ltb}

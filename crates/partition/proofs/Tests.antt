@@ -1,5 +1,5 @@
 -- The witness check's tests of words are the definition's tests. Assumes nothing.
-use Prim.Native.Nat.{ℕ, _+_, _^_, _≤_, _<_}
+use Prim.Native.Nat.{ℕ, _+_, _^_, _<_}
 use mathlib.Core.Path.{_≡_, refl, sym, ap, ap₂, _∙_, subst}
 use mathlib.Core.Bool.{Bool, true, false, not}
 use lib.Bits.{bitAnd, bitOr, and-le-l, or-lt}

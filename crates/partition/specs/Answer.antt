@@ -1,6 +1,6 @@
 -- What the verdict and the witness check answer for every plan record: document 01's number and values for each case. Assumes nothing.
 use Prim.Native.Nat.{ℕ}
-use mathlib.Core.Bool.{Bool, true, false, not}
+use mathlib.Core.Bool.{not}
 use lib.Dec.{eqb}
 use Rattle.sets.specs.Tests.{_and_, pick}
 use Rattle.sets.specs.Sets.{mem, within}
@@ -8,7 +8,6 @@ use Rattle.plan.specs.declared.Plan.{Plan}
 use Rattle.plan.specs.Plan.{causeOf}
 use Rattle.propagation.specs.FaultSet.{isFaultSet}
 use Rattle.propagation.specs.Verdict as theory
-use Rattle.partition.specs.declared.Witness.{Witness}
 use Rattle.partition.specs.declared.Judgement.{Judgement}
 use Rattle.partition.specs.declared.Judgement.the-variants as judgement
 use Rattle.partition.specs.declared.WitnessCheck.{WitnessCheck}

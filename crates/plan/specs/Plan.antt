@@ -3,7 +3,7 @@ use Prim.Native.Nat.{ℕ}
 use mathlib.Core.Bool.{Bool}
 use lib.Dec.{eqb, ltb}
 use lib.ListN.{getD}
-use Rattle.sets.specs.Tests.{_and_, pick}
+use Rattle.sets.specs.Tests.{pick}
 use Rattle.sets.specs.Sets.{mem, all}
 use Rattle.terminal.specs.Answer.{inRange, hearsSoundly}
 use Rattle.plan.specs.declared.Plan.{Plan}

@@ -1,11 +1,10 @@
 -- Demand 3 holds of every plan that the check finds sound. Assumes nothing.
 use Prim.Native.Nat.{ℕ, _-_, _≤_, _<_}
-use mathlib.Core.Path.{_≡_, refl, sym, ap, _∙_, subst}
-use mathlib.Core.Logic.{_⊎_, inl, inr, ⊎-elim}
-use mathlib.Core.Bool.{Bool, true, false}
+use mathlib.Core.Path.{_≡_}
+use mathlib.Core.Bool.{true, false}
 use native.Mathlib.Omega.{arith}
 use Rattle.sets.specs.Sets.{mem}
-use Rattle.sets.proofs.Bools.{clash, decide, no-by}
+use Rattle.sets.proofs.Bools.{no-by}
 use Rattle.sets.proofs.Laws.{some-member}
 use Rattle.terminal.specs.declared.State.the-variants.{Waiting}
 use Rattle.plan.specs.declared.Plan.{Plan}
@@ -16,7 +15,7 @@ use Rattle.propagation.specs.Closure.{reached}
 use Rattle.propagation.specs.Verdict.{verdict, accepts}
 use Rattle.propagation.specs.Run.{Script, silence, site}
 use Rattle.propagation.specs.Demand3.{Good, LeavesWaiting, Demand3}
-use Rattle.propagation.proofs.Witness.{Accepted, accepts-e, reached-of-none, verdict-pass, witness-accepted}
+use Rattle.propagation.proofs.Witness.{accepts-e, reached-of-none, verdict-pass, witness-accepted}
 use Rattle.propagation.proofs.Safety
 use Rattle.propagation.proofs.Liveness.{reached-never-waits}
 use Rattle.propagation.proofs.Silence.{waits}

@@ -1,7 +1,6 @@
 -- Document 01's drawings, computed. Assumes nothing.
 use mathlib.Core.Path.{_≡_, refl}
 use mathlib.Core.List.{map}
-use lib.Dec.{eqb}
 use Rattle.sets.specs.Tests.{_and_, _or_, _implies_, pick}
 use Rattle.sets.specs.Sets.{mem, count, all, mask, many, within, size}
 use Rattle.terminal.specs.Rule.{firstWord, noted, hasNoted, certified, lesser, least, candidate, choice, taking, stepFrom, step}
@@ -11,7 +10,7 @@ use Rattle.propagation.specs.FaultSet.{hearsMany, isFaultSet}
 use Rattle.propagation.specs.Closure.{joins, grow, reachedAfter, reached, rest, cutOff}
 use Rattle.propagation.specs.Verdict.{defeats, better, bestBelow, verdictOf, verdict}
 use Rattle.propagation.specs.Run.{table, startRecord, saysIn, heardFrom, recordIn, played, sites, site}
-use Rattle.propagation.specs.Drawings.{linked, rowsFrom, drawing, set, ofVerdict, ofState, answer, linksF, linksH, chain, rows, Row, Answer}
+use Rattle.propagation.specs.Drawings.{linked, rowsFrom, drawing, set, ofVerdict, ofState, answer, linksF, linksH, chain, rows, Row}
 
 -- the definitions answer every row as the document does
 pub drawings : map (λ (r : Row). answer (r .asked)) rows ≡ map (λ (r : Row). r .told) rows

@@ -2,12 +2,12 @@
 use Prim.Native.Nat.{ℕ, zero, suc, _+_, _-_, _^_, _≤_, _<_}
 use mathlib.Core.Path.{_≡_, refl, sym, ap, _∙_, subst}
 use mathlib.Core.Logic.{_⊎_, inl, inr, ⊎-elim}
-use mathlib.Core.Bool.{Bool, true, false, not}
+use mathlib.Core.Bool.{true, false}
 use native.Mathlib.Omega.{arith}
 use lib.Dec.{eqb}
 use borrow.Author.Tests.{eqb-true, eq-eqb}
 use Rattle.sets.specs.Tests.{_and_, _or_}
-use Rattle.sets.specs.Sets.{mem, mask, count}
+use Rattle.sets.specs.Sets.{mem, count}
 use Rattle.sets.proofs.Bools.{clash, and-l, and-r, and-i, or-l, or-r, or-e, not-i, not-e}
 use Rattle.sets.proofs.Laws.{mask-lt, mem-mask, mem-below, mem-zero, count-le, count-more, subset-fewer}
 use Rattle.plan.specs.declared.Plan.{Plan}

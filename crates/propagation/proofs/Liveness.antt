@@ -1,18 +1,17 @@
 -- Demand 3, passes: turn k of the closure matches round k of the run, whatever the fault set says. Assumes nothing.
 use Prim.Native.Nat.{ℕ, zero, suc, _+_, _-_, _≤_, _<_}
-use mathlib.Core.Path.{_≡_, refl, sym, ap, _∙_, subst}
-use mathlib.Core.Logic.{_⊎_, inl, inr, ⊎-elim}
-use mathlib.Core.Bool.{Bool, true, false}
+use mathlib.Core.Path.{_≡_, sym, ap, _∙_, subst}
+use mathlib.Core.Logic.{_⊎_, ⊎-elim}
+use mathlib.Core.Bool.{true, false}
 use native.Mathlib.Nat.{eq-or-lt-of-le, le-of-suc-le-suc, zero-add, suc-add}
 use native.Mathlib.Omega.{arith}
 use Rattle.sets.specs.Tests.{_and_}
 use Rattle.sets.specs.Sets.{mem, many}
 use Rattle.sets.proofs.Bools.{clash, and-i}
 use Rattle.sets.proofs.Laws.{mem-below}
-use Rattle.terminal.specs.declared.State.{State}
 use Rattle.terminal.specs.declared.State.the-variants.{Waiting, Taken}
 use Rattle.terminal.specs.declared.Record.{Record}
-use Rattle.terminal.specs.Rule.{sourceStart, hasNoted, step}
+use Rattle.terminal.specs.Rule.{hasNoted, step}
 use Rattle.terminal.proofs.Laws.{Room, taken-stays, takes, waits-source, waits-votes, note-stays, spoken-noted}
 use Rattle.plan.specs.declared.Plan.{Plan}
 use Rattle.plan.specs.Plan.{heardBy, hears}
@@ -23,7 +22,7 @@ use Rattle.propagation.specs.Run.{Script}
 use Rattle.propagation.proofs.Faults.{fault-source, hears-many-of}
 use Rattle.propagation.proofs.Growth.{joins-why, after-below, after-why, after-good, first-only}
 use Rattle.propagation.proofs.Rounds.{at, word, source-at-start, at-next, word-good, says-then-at}
-use Rattle.propagation.proofs.Safety.{Safe, safe, state-cases, not-both}
+use Rattle.propagation.proofs.Safety.{safe, state-cases, not-both}
 
 pub room-for : (m n : ℕ) (x : Record) → n ≤ m → Room m x → Room n x
 unfolding Room

@@ -1,10 +1,9 @@
 -- Demand 3, safe: whatever the fault set and its words, no good terminal ever takes another layout than the source's. Assumes nothing.
 use Prim.Native.Nat.{ℕ, zero, suc, _+_, _≤_, _<_}
-use mathlib.Core.Path.{_≡_, refl, sym, ap, _∙_, subst}
+use mathlib.Core.Path.{_≡_, refl, sym, _∙_, subst}
 use mathlib.Core.Logic.{_⊎_, inl, inr, ⊎-elim}
-use mathlib.Core.Bool.{Bool, true, false}
+use mathlib.Core.Bool.{true, false}
 use native.Mathlib.Omega.{arith}
-use lib.ListN.{replicate}
 use Rattle.sets.specs.Tests.{_and_}
 use Rattle.sets.specs.Sets.{mem, many}
 use Rattle.sets.proofs.Bools.{clash, decide, and-l, and-r}
@@ -18,7 +17,7 @@ use Rattle.terminal.proofs.Laws.{Room, Reason, start-room, source-start-room, s
 use Rattle.plan.specs.declared.Plan.{Plan}
 use Rattle.plan.specs.Plan.{heardBy, hears}
 use Rattle.plan.proofs.Laws.{Sound}
-use Rattle.propagation.specs.FaultSet.{hearsMany, isFaultSet}
+use Rattle.propagation.specs.FaultSet.{isFaultSet}
 use Rattle.propagation.specs.Run.{Script}
 use Rattle.propagation.proofs.Faults.{fault-source, fault-bound, hears-many}
 use Rattle.propagation.proofs.Rounds.{at, word, source-at-start, other-at-start, at-next, word-good, says-why}

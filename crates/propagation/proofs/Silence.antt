@@ -1,24 +1,20 @@
 -- Demand 3, silent: what the witness check accepts is kept waiting for ever by silence alone. Assumes nothing.
 use Prim.Native.Nat.{ℕ, zero, suc, _<_}
-use mathlib.Core.Path.{_≡_, refl, sym, ap, _∙_, subst}
-use mathlib.Core.Logic.{_⊎_, inl, inr, ⊎-elim}
-use mathlib.Core.Bool.{Bool, true, false}
+use mathlib.Core.Path.{_≡_, refl, sym, _∙_, subst}
+use mathlib.Core.Logic.{_⊎_, ⊎-elim}
+use mathlib.Core.Bool.{true, false}
 use Rattle.sets.specs.Tests.{_and_}
-use Rattle.sets.specs.Sets.{mem, many}
+use Rattle.sets.specs.Sets.{mem}
 use Rattle.sets.proofs.Bools.{clash, decide, and-l, and-r}
-use Rattle.sets.proofs.Laws.{equal-or-not}
-use Rattle.terminal.specs.declared.State.{State}
-use Rattle.terminal.specs.declared.State.the-variants.{Waiting, Taken}
+use Rattle.terminal.specs.declared.State.the-variants.{Waiting}
 use Rattle.terminal.specs.declared.Record.{Record}
-use Rattle.terminal.specs.Rule.{start, hasNoted, step}
+use Rattle.terminal.specs.Rule.{hasNoted, step}
 use Rattle.terminal.proofs.Notes.{has-layout}
 use Rattle.terminal.proofs.Laws.{Reason, start-empty, takes, note-said}
 use Rattle.plan.specs.declared.Plan.{Plan}
 use Rattle.plan.specs.Plan.{heardBy, hears}
 use Rattle.plan.proofs.Laws.{Sound}
-use Rattle.propagation.specs.FaultSet.{hearsMany}
-use Rattle.propagation.specs.Verdict.{accepts}
-use Rattle.propagation.specs.Run.{Script, silence}
+use Rattle.propagation.specs.Run.{silence}
 use Rattle.propagation.proofs.Faults.{hears-many}
 use Rattle.propagation.proofs.Witness.{Accepted}
 use Rattle.propagation.proofs.Rounds.{at, word, other-at-start, at-next, word-good, word-faulty, says-why}

@@ -3,17 +3,16 @@ use Prim.Native.Nat.{ℕ, zero, suc, _+_, _^_, _≤_, _<_}
 use mathlib.Core.Path.{_≡_, refl, sym, ap, _∙_, subst}
 use mathlib.Core.Logic.{_⊎_, inl, inr, ⊎-elim}
 use mathlib.Core.Bool.{Bool, true, false, not}
-use native.Mathlib.Nat.{eq-or-lt-of-le, le-of-suc-le-suc, not-suc-le-zero, lt-of-lt-of-le, le-refl}
+use native.Mathlib.Nat.{eq-or-lt-of-le, le-of-suc-le-suc, not-suc-le-zero, le-refl}
 use native.Mathlib.Omega.{arith}
 use lib.Dec.{eqb, ltb}
-use borrow.Author.Tests.{eqb-true, eqb-false, eq-eqb, ne-eqb, ltb-true, ltb-false, lt-ltb}
-use Rattle.sets.specs.Tests.{_and_, _implies_, pick}
-use Rattle.sets.specs.Sets.{bit, mem, all, mask, size, within}
-use Rattle.sets.proofs.Bools.{clash, decide, and-l, and-r, and-i, and-no-l, not-i, not-e, not-no, no-by, implies-i, implies-e, pick-case}
-use Rattle.sets.proofs.Laws.{below-or-not, mask-lt, mem-mask, mem-below, mem-zero, all-at, all-i, some-member}
+use borrow.Author.Tests.{eqb-true, eqb-false, ne-eqb, ltb-true, ltb-false, lt-ltb}
+use Rattle.sets.specs.Tests.{_and_, _implies_}
+use Rattle.sets.specs.Sets.{bit, mem, size, within}
+use Rattle.sets.proofs.Bools.{clash, decide, and-l, and-r, and-i, not-i, not-e, no-by, implies-i, implies-e, pick-case}
+use Rattle.sets.proofs.Laws.{mask-lt, mem-mask, mem-zero, all-at, all-i, some-member}
 use Rattle.plan.specs.declared.Plan.{Plan}
-use Rattle.plan.specs.Plan.{hears, causeOf}
-use Rattle.plan.proofs.Laws.{Sound}
+use Rattle.plan.specs.Plan.{hears}
 use Rattle.propagation.specs.FaultSet.{hearsMany, isFaultSet}
 use Rattle.propagation.specs.Closure.{joins, reached, rest, cutOff}
 use Rattle.propagation.specs.Verdict.{defeats, Found, none, found, better, bestBelow, Verdict, verdictOf, verdict, isPartition, accepts}

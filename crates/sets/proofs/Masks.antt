@@ -1,5 +1,5 @@
 -- What shifts and masks do to membership, one law an operator, over the width. Assumes nothing.
-use Prim.Native.Nat.{ℕ, zero, suc, _+_, _-_, _*_, _/_, _%_, _^_, _≤_, _<_, min, max}
+use Prim.Native.Nat.{ℕ, zero, suc, _+_, _-_, _*_, _/_, _%_, _^_, _<_, min, max}
 use mathlib.Core.Path.{_≡_, refl, sym, ap, ap₂, _∙_, subst}
 use mathlib.Core.Bool.{Bool, true, false, not}
 use native.Mathlib.Nat.{le-of-suc-le-suc, not-suc-le-zero, lt-of-le-of-lt, div-one, one-mul, zero-mul, mod-eq-of-lt}

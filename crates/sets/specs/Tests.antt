@@ -1,7 +1,6 @@
 -- Tests joined, and a choice by a test. They are the library's `&&`, `||` and `cond`, but shut until named, so that a law finds its arguments in a fact
 -- that is an equation of Bool. Assumes nothing.
-use Prim.Native.Nat.{ℕ}
-use mathlib.Core.Bool.{Bool, true, false, not}
+use mathlib.Core.Bool.{Bool, true, false}
 
 infixr 35 _and_
 infixr 30 _or_

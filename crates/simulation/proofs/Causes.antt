@@ -1,13 +1,13 @@
 -- The number of the run's first cause, by the tests that decide it. Assumes nothing.
 use Prim.Native.Nat.{ℕ, _+_, _*_, _≤_}
 use mathlib.Core.Path.{_≡_, refl, sym, ap, _∙_}
-use mathlib.Core.Bool.{Bool, true, false, not}
+use mathlib.Core.Bool.{true, false}
 use mathlib.Core.List.{[], _∷_}
 use native.Mathlib.Omega.{arith}
 use types.Run.{OneOf, miss}
 use denote.Enum.Declared.{tagOf}
-use lib.Dec.{eqb, leb}
-use borrow.Author.Tests.{eqb-true, eqb-false, leb-true, eq-eqb, ne-eqb}
+use lib.Dec.{eqb}
+use borrow.Author.Tests.{eqb-true, eqb-false, leb-true, eq-eqb}
 use Rattle.sets.specs.Tests.{_and_, pick}
 use Rattle.sets.proofs.Bools.{clash, and-l, and-r, not-e, pick-yes, pick-no, pick-case}
 use Rattle.plan.specs.declared.Plan.{Plan}

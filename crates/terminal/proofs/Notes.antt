@@ -1,5 +1,5 @@
 -- What is noted after a round, and which value is chosen. Assumes nothing.
-use Prim.Native.Nat.{ℕ, zero, suc, _+_, _≤_, _<_, min, zero-le}
+use Prim.Native.Nat.{ℕ, zero, suc, _≤_, _<_, min}
 use mathlib.Core.Path.{_≡_, refl, sym, ap, _∙_, subst}
 use mathlib.Core.Logic.{_⊎_, inl, inr, ⊎-elim}
 use mathlib.Core.Bool.{Bool, true, false, not}
@@ -8,10 +8,10 @@ use native.Mathlib.Nat.{le-of-suc-le-suc, not-suc-le-zero, zero-lt-suc}
 use native.Mathlib.Omega.{arith}
 use lib.Dec.{eqb}
 use lib.ListN.{length, getD, replicate}
-use borrow.Author.Tests.{eq-eqb, ne-eqb, eqb-true, eqb-false}
-use Rattle.sets.specs.Tests.{_and_, pick}
-use Rattle.sets.specs.Sets.{mem, all, many}
-use Rattle.sets.proofs.Bools.{clash, decide, and-l, and-r, and-i, and-no-l, and-no-r, not-i, not-e, pick-yes, pick-no, pick-case}
+use borrow.Author.Tests.{eq-eqb, ne-eqb, eqb-true}
+use Rattle.sets.specs.Tests.{_and_}
+use Rattle.sets.specs.Sets.{mem, all}
+use Rattle.sets.proofs.Bools.{clash, decide, and-l, and-r, and-i, and-no-l, and-no-r, not-i, not-e, pick-yes, pick-case}
 use Rattle.sets.proofs.Laws.{all-at, all-not, many-none}
 use Rattle.terminal.specs.Rule.{firstWord, noted, hasNoted, certified, lesser, least, candidate, choice}
 

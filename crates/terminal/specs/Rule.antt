@@ -1,7 +1,7 @@
 -- One terminal's round (document 01, "One terminal's round"), for any number of rounds: the bound of 40 belongs to the code's refusals.
 -- The rule is given n, the source, f and the set that the terminal hears; what was said is a function of the sender, 0 for silence. Assumes nothing.
 use Prim.Native.Nat.{ℕ, zero, suc, _+_, min}
-use mathlib.Core.Bool.{Bool, true, false, not}
+use mathlib.Core.Bool.{Bool, not}
 use mathlib.Core.List.{List, [], _∷_}
 use lib.Dec.{eqb}
 use lib.ListN.{getD, replicate}

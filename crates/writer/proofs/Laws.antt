@@ -11,7 +11,6 @@ use borrow.Author.Tests.{eq-eqb}
 use Rattle.sets.proofs.Bools.{pick-yes, pick-no}
 use Rattle.plan.specs.declared.Plan.{Plan}
 use Rattle.plan.specs.Plan.{causeOf}
-use Rattle.writer.specs.declared.Written.{Written}
 use Rattle.writer.specs.Written.{headLine, linkLines, planText, writeCause, writtenOf, putInto}
 use Rattle.writer.proofs.Lines.{head-length, links-length}
 

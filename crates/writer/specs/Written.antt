@@ -1,6 +1,5 @@
 -- A plan as hexadecimal lines: head, then links by sender, then by hearer (document 01, "Hexadecimal lines"). Assumes nothing.
 use Prim.Native.Nat.{ℕ, zero, suc, _/_, _%_}
-use mathlib.Core.Bool.{Bool}
 use mathlib.Core.List.{List, [], _∷_, _++_}
 use lib.Dec.{eqb, leb}
 use lib.ListN.{length}

@@ -1,5 +1,5 @@
 -- The step's promise, on what the board's record stands for. Assumes nothing.
-use mathlib.Core.Path.{sym, _∙_}
+use mathlib.Core.Path.{_∙_}
 use Rattle.firmware.proofs.Laws.{answer-stepped, answer-refused}
 use borrow.Author.Needs.{needs}
 use Rattle.firmware.proofs.hulmayek_step.Statement.{statement}

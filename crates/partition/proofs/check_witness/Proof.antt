@@ -1,10 +1,7 @@
 -- The plan's soundness decides, then the check. Assumes nothing.
-use Prim.Native.Nat.{ℕ}
 use mathlib.Core.Path.{sym, ap, _∙_}
-use borrow.Author.Tests.{eq-eqb, ne-eqb}
 use Rattle.sets.proofs.Bools.{pick-yes, pick-no}
-use Rattle.plan.specs.Plan.{numberOf, causeOf}
-use Rattle.partition.specs.Answer.{Reply, replyOf}
+use Rattle.plan.specs.Plan.{numberOf}
 use Rattle.partition.proofs.Laws.{reply-checked, reply-refused}
 use native.Mathlib.Omega.{arith}
 use borrow.Author.Needs.{needs}

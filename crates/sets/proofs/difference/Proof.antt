@@ -1,4 +1,3 @@
-use lib.Bits.{bitAnd}
 use Rattle.sets.proofs.Operations.{and-difference}
 use Rattle.sets.proofs.difference.Statement.{statement}
 use Rattle.sets.proofs.difference.Tie as tie

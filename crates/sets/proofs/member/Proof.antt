@@ -1,5 +1,4 @@
-use mathlib.Core.Path.{sym, _∙_}
-use native.Mathlib.Nat.{le-trans}
+use mathlib.Core.Path.{sym}
 use Rattle.sets.proofs.Laws.{mem-above}
 use Rattle.sets.proofs.Operations.{test-member}
 use borrow.Author.Needs.{needs}

@@ -1,5 +1,4 @@
 use mathlib.Core.Path.{ap, _∙_}
-use Prim.Native.Nat.{ℕ}
 use lib.Bits.{bitOr}
 use Rattle.sets.proofs.Operations.{or-with}
 use borrow.Author.Needs.{needs}

@@ -1,5 +1,5 @@
 -- Each return has the tests that decide the number. Assumes nothing.
-use mathlib.Core.Path.{_≡_, refl, sym, ap, _∙_}
+use mathlib.Core.Path.{sym, ap, _∙_}
 use borrow.Author.Tests.{leb-true}
 use Rattle.sets.proofs.Bools.{and-r}
 use Rattle.plan.proofs.Laws.{sound}

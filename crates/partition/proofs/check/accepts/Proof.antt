@@ -1,10 +1,9 @@
 -- The definition's tests in its own order. Assumes nothing.
 use Prim.Native.Nat.{_^_}
 use mathlib.Core.Path.{sym, _∙_}
-use mathlib.Core.Bool.{not}
 use borrow.Author.Tests.{ltb-true, eq-eqb, ne-eqb}
 use Rattle.sets.specs.Sets.{within}
-use Rattle.sets.proofs.Bools.{and-l, and-i, and-no-l, and-no-r, not-i, not-yes, and-yes}
+use Rattle.sets.proofs.Bools.{and-l, and-no-l, and-no-r, not-i, not-yes, and-yes}
 use Rattle.plan.proofs.Laws.{sound}
 use Rattle.propagation.specs.Verdict.{isPartition, accepts}
 use native.Mathlib.Omega.{arith}

@@ -1,7 +1,5 @@
 -- The set lies below 2 ^ n, so what is left of the definition is the source and the bound. Assumes nothing.
 use mathlib.Core.Path.{sym, _∙_}
-use mathlib.Core.Bool.{not}
-use Rattle.sets.specs.Sets.{mem}
 use Rattle.sets.proofs.Bools.{clash, no-by}
 use Rattle.propagation.proofs.Faults.{fault-source}
 use Rattle.partition.proofs.Tests.{fault-test}

@@ -5,16 +5,14 @@ use borrow.Author.Needs.{needs}
 use mathlib.Core.Path.{refl}
 -- The loop's invariant: the mask so far is that of the rows passed. Assumes nothing.
 use Prim.Native.Nat.{ℕ, _≤_, _-_}
-use mathlib.Core.Path.{_≡_, sym, ap, subst, _∙_}
-use mathlib.Core.Bool.{Bool}
-use mathlib.Core.List.{List}
-use lib.Bits.{bitAnd, bitOr}
+use mathlib.Core.Path.{_≡_, ap, _∙_}
+use lib.Bits.{bitAnd}
 use lib.Count.{ones}
 use lib.Dec.{ltb}
 use lib.ListN.{getD}
 use Rattle.sets.specs.Tests.{_and_}
 use Rattle.sets.specs.Sets.{bit, mem, mask, count}
-use Rattle.sets.proofs.Masks.{ones-and, mask-or}
+use Rattle.sets.proofs.Masks.{ones-and}
 use Rattle.partition.specs.Search.{over}
 use native.Mathlib.Omega.{arith}
 use Rattle.partition.proofs.search.over.Statement.{statement}

@@ -1,6 +1,6 @@
 -- The loop's invariant: the places passed hold what is heard. Assumes nothing.
 use Prim.Native.Nat.{ℕ, _≤_, _<_, _-_}
-use mathlib.Core.Path.{_≡_, refl, sym, ap, subst, _∙_}
+use mathlib.Core.Path.{_≡_, refl, _∙_}
 use lib.ListN.{length, getD, length-set}
 use Rattle.simulation.specs.Turns.{heardIn}
 use Rattle.simulation.proofs.Lists.{list-is, filled-more}

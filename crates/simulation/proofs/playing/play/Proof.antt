@@ -1,11 +1,5 @@
 use Rattle.simulation.proofs.Lists.{made-is}
 -- The record, and what it makes the terminal say, are the definition's. Assumes nothing.
-use Prim.Native.Nat.{ℕ, _+_}
-use mathlib.Core.Path.{_≡_, sym, ap, subst, _∙_}
-use Rattle.terminal.specs.declared.Record.{Record}
-use Rattle.propagation.specs.Run.{saysIn}
-use Rattle.simulation.specs.declared.Made.{Made}
-use Rattle.simulation.specs.Turns.{recordOf, nextTurn, madeOf}
 use borrow.Author.Needs.{needs}
 use Rattle.simulation.proofs.playing.play.Statement.{statement}
 use Rattle.simulation.proofs.playing.play.Tie as tie

@@ -1,6 +1,6 @@
 -- The definition's choices by the tests that led there; the last is what the step promises. Assumes nothing.
-use Prim.Native.Nat.{ℕ, _≤_}
-use mathlib.Core.Path.{_≡_, sym, ap, subst, _∙_}
+use Prim.Native.Nat.{ℕ}
+use mathlib.Core.Path.{_≡_, sym, ap, _∙_}
 use mathlib.Core.List.{List}
 use borrow.Author.Tests.{eq-eqb, ne-eqb}
 use lib.ListN.{take, length}
@@ -8,7 +8,7 @@ use lib.Seq.{length-take-le}
 use Rattle.sets.proofs.Bools.{pick-yes, pick-no}
 use Rattle.terminal.specs.Answer.{recordAfter}
 use Rattle.plan.specs.Plan.{heardBy}
-use Rattle.simulation.specs.Turns.{heardIn, listOf, recordOf}
+use Rattle.simulation.specs.Turns.{recordOf}
 use Rattle.simulation.proofs.Lists.{list-length}
 use native.Mathlib.Omega.{arith}
 use borrow.Author.Needs.{needs}

@@ -1,6 +1,5 @@
 use native.Mathlib.Omega.{arith}
 -- The definition's cases. Assumes nothing.
-use Prim.Native.Nat.{ℕ, _+_}
 use mathlib.Core.Path.{sym, ap, _∙_}
 use borrow.Author.Tests.{eq-eqb, ne-eqb}
 use Rattle.sets.proofs.Bools.{pick-yes, pick-no}

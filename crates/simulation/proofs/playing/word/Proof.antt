@@ -1,5 +1,5 @@
 -- The place is that of the script; past the list's end there is silence. Assumes nothing.
-use mathlib.Core.Path.{_≡_, refl, sym}
+use mathlib.Core.Path.{refl, sym}
 use lib.ListN.{List·getD-eq-default}
 use Rattle.simulation.specs.Turns.{scriptOf}
 use Rattle.simulation.proofs.Places.{square-le, rounds-le, row-le}
