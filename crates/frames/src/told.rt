@@ -5,7 +5,7 @@ ghost use lib.Dec.{eqb};
 ghost use lib.ListN.{length, set};
 ghost use Rattle.sets.specs.Tests.{pick};
 ghost use Rattle.partition.specs.Answer.{faultNumberOf};
-ghost use Rattle.lines.specs.declared.Frame.the-variants.{Head, Link, FaultSet, Start, Message};
+ghost use Rattle.lines.specs.declared.Frame.the-variants.{Head, Link, FaultSet, Start};
 ghost use Rattle.frames.specs.Reading.{placeOf, headCause, linkCause, faultSetCause, startCause, isWord, messageCause, causeIn, linked, after, wordsAfter};
 use super::Progress;
 use lines::Frame;

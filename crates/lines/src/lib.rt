@@ -1,7 +1,7 @@
 // One line's frame. A line is taken by its digits: byte i is digits 2i and 2i + 1.
 ghost use mathlib.Core.Path.{_≡_};
-ghost use Prim.Native.Nat.{_+_, _*_, _<_, _≤_};
-ghost use lib.ListN.{length, getD};
+ghost use Prim.Native.Nat.{_+_, _*_, _<_};
+ghost use lib.ListN.{length};
 ghost use Rattle.lines.specs.Digits.{isDigit, digitOf, byteAt, wellFormed, allDigits};
 ghost use Rattle.lines.specs.Frames.{pairAt, tripleAt, headOf, linkOf, faultSetOf, startOf, messageOf, kindOf, frameOf};
 

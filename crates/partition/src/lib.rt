@@ -6,7 +6,6 @@ mod search;
 
 ghost use mathlib.Core.Path.{_≡_};
 ghost use mathlib.Core.Bool.{true};
-ghost use Prim.Native.Nat.{ℕ};
 ghost use Rattle.plan.specs.Plan.{causeOf};
 ghost use Rattle.propagation.specs.Verdict.{verdict, accepts};
 ghost use Rattle.partition.specs.Answer.{told, judged, answerOf, replied, replyOf, faultNumberOf, faultCauseOf};

@@ -1,10 +1,8 @@
 // The plan of a site: who hears whom, who issues the notice, and how many liars a terminal may hear.
 ghost use mathlib.Core.Path.{_≡_};
-ghost use mathlib.Core.List.{List};
-ghost use Prim.Native.Nat.{ℕ};
 ghost use lib.ListN.{getD};
 ghost use Rattle.sets.specs.Sets.{all};
-ghost use Rattle.plan.specs.Plan.{numberOf, rowSound, linksSound, causeOf};
+ghost use Rattle.plan.specs.Plan.{numberOf, rowSound, causeOf};
 
 // rows[b] is the set of terminals that b hears.
 pub struct Plan {

@@ -1,5 +1,4 @@
 // The calls on values: the step, the two checks of sets, the run.
-ghost use Prim.Native.Nat.{_≤_};
 use super::said;
 use super::say;
 use partition::FaultSetCheck;

@@ -1,6 +1,5 @@
 // The calls that have a text: a file in, or a plan out. A lent list holds a mark at each place before
 // the call, so that a place that was not to be touched shows.
-ghost use Prim.Native.Nat.{_≤_};
 use super::said;
 use super::say;
 use frames::FileRead;

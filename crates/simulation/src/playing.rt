@@ -1,7 +1,6 @@
 // One turn: a terminal's record, by value, and the turn that follows.
 ghost use mathlib.Core.Path.{_≡_};
-ghost use Prim.Native.Nat.{ℕ, _+_, _<_, _≤_};
-ghost use lib.ListN.{length, getD, replicate};
+ghost use Prim.Native.Nat.{_+_, _<_, _≤_};
 ghost use Rattle.propagation.specs.Run.{startRecord, saysIn};
 ghost use Rattle.simulation.specs.Turns.{scriptOf, heardIn, listOf, recordOf, nextTurn, madeOf};
 use super::Made;

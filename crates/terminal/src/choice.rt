@@ -5,7 +5,7 @@ ghost use Prim.Native.Nat.{_<_, _≤_};
 ghost use lib.Dec.{eqb};
 ghost use Rattle.sets.specs.Tests.{_and_};
 ghost use Rattle.sets.specs.Sets.{bit, mem, count};
-ghost use Rattle.terminal.specs.Rule.{hasNoted, certified, lesser, least, candidate, choice};
+ghost use Rattle.terminal.specs.Rule.{hasNoted, lesser, least, candidate, choice};
 
 // One neighbour's vote for the value, 1 or 0.
 fn vote(hears: bool, note: u16, value: u16) -> usize

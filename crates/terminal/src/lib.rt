@@ -2,8 +2,7 @@
 mod choice;
 
 ghost use mathlib.Core.Path.{_≡_};
-ghost use mathlib.Core.Bool.{Bool};
-ghost use Prim.Native.Nat.{ℕ, _+_, _<_, _≤_};
+ghost use Prim.Native.Nat.{_+_, _<_, _≤_};
 ghost use lib.ListN.{length, getD};
 ghost use Rattle.sets.specs.Sets.{mem};
 ghost use Rattle.terminal.specs.Rule.{start, sourceStart, firstWord, noted, choice, taking, step};
