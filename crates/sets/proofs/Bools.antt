@@ -68,16 +68,6 @@ unfolding _or_
 or-no true b p q = clash refl p
 or-no false b p q = q
 
-pub or-no-l : (a b : Bool) → a or b ≡ false → a ≡ false
-unfolding _or_
-or-no-l true b h = h
-or-no-l false b h = refl
-
-pub or-no-r : (a b : Bool) → a or b ≡ false → b ≡ false
-unfolding _or_
-or-no-r true b h = clash refl h
-or-no-r false b h = h
-
 pub not-i : {a : Bool} → a ≡ false → not a ≡ true
 not-i {a = true} h = clash refl h
 not-i {a = false} h = refl

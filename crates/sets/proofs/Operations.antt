@@ -9,17 +9,13 @@ use lib.Bits.{bitAnd, bitOr, and-le-l, or-lt, and-mask}
 use lib.Pow.{pow-lt, pow-pos}
 use borrow.Author.Tests.{eq-eqb, ne-eqb, eqb-true, lt-ltb, le-ltb}
 use Rattle.sets.specs.Tests.{_and_, _or_, _implies_}
-use Rattle.sets.specs.Sets.{bit, mem, all, mask, within, singleton, with, without, union, difference}
-use Rattle.sets.proofs.Digits.{low-bit}
+use Rattle.sets.specs.Sets.{mem, all, mask, within, singleton, with}
 use Rattle.sets.proofs.Bools.{not-e, same-test}
 use Rattle.sets.proofs.Laws.{mem-zero, set-ext, mem-mask, mask-of, mask-lt, all-at, all-i, all-cong}
 use Rattle.sets.proofs.Masks.{mem-and, mem-or, mem-not, mem-power, mem-shift}
 
 pub test-member : (i s : ℕ) → eqb (bitAnd (s / 2 ^ i) 1) 1 ≡ mem i s
 test-member i s = ap (λ (d : ℕ). eqb d 1) (and-mask (s / 2 ^ i) 1) ∙ sym (mem-shift i s)
-
-pub bit-member : (i s : ℕ) → bitAnd (s / 2 ^ i) 1 ≡ bit (mem i s)
-bit-member i s = and-mask (s / 2 ^ i) 1 ∙ sym (low-bit (s / 2 ^ i)) ∙ ap bit (sym (mem-shift i s))
 
 pub test-within : (n s : ℕ) → eqb (s / 2 ^ n) 0 ≡ within n s
 unfolding within
@@ -47,31 +43,11 @@ pub zero-singleton : (w i : ℕ) → w ≤ i → 0 ≡ singleton w i
 unfolding singleton
 zero-singleton w i h = mask-of w 0 (λ j. eqb j i) (pow-pos w) (λ j k. mem-zero j ∙ sym (ne-eqb j i (λ e. omega arith)))
 
-pub or-union : (w a b : ℕ) → a < 2 ^ w → b < 2 ^ w → bitOr a b ≡ union w a b
-unfolding union
-or-union w a b p q = mask-of w (bitOr a b) (λ j. mem j a or mem j b) (or-lt w a b p q) (λ j k. mem-or j a b)
-
-pub and-difference : (w a b : ℕ) → a < 2 ^ w → b < 2 ^ w → bitAnd a (2 ^ w - 1 - b) ≡ difference w a b
-unfolding difference
-and-difference w a b p q =
-    mask-of w (bitAnd a (2 ^ w - 1 - b)) (λ j. mem j a and not (mem j b)) (lt-of-le-of-lt (and-le-l a (2 ^ w - 1 - b)) p)
-    (λ j k. mem-and j a (2 ^ w - 1 - b) ∙ ap (λ (t : Bool). mem j a and t) (mem-not w j b q k))
-
 pub or-with : (w s i : ℕ) → s < 2 ^ w → bitOr s (singleton w i) ≡ with w s i
 unfolding singleton with
 or-with w s i p =
     mask-of w (bitOr s (mask w (λ j. eqb j i))) (λ j. mem j s or eqb j i) (or-lt w s (mask w (λ j. eqb j i)) p (mask-lt w (λ j. eqb j i)))
     (λ j k. mem-or j s (mask w (λ j. eqb j i)) ∙ ap (λ (t : Bool). mem j s or t) (mem-mask w j (λ j. eqb j i) k))
-
-pub and-without : (w s i : ℕ) → s < 2 ^ w → bitAnd s (2 ^ w - 1 - singleton w i) ≡ without w s i
-unfolding singleton without
-and-without w s i p =
-    mask-of w (bitAnd s (2 ^ w - 1 - mask w (λ j. eqb j i))) (λ j. mem j s and not (eqb j i))
-    (lt-of-le-of-lt (and-le-l s (2 ^ w - 1 - mask w (λ j. eqb j i))) p)
-    (λ j k.
-    mem-and j s (2 ^ w - 1 - mask w (λ j. eqb j i))
-    ∙ ap (λ (t : Bool). mem j s and t)
-    (mem-not w j (mask w (λ j. eqb j i)) (mask-lt w (λ j. eqb j i)) k ∙ ap not (mem-mask w j (λ j. eqb j i) k)))
 
 -- a test of one word: two sets share no terminal; one lies within the other
 pub test-apart : (n a b : ℕ) → a < 2 ^ n → eqb (bitAnd a b) 0 ≡ all n (λ i. not (mem i a and mem i b))

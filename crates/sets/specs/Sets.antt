@@ -45,12 +45,3 @@ singleton w i = mask w (λ j. eqb j i)
 
 unfoldable pub with : ℕ → ℕ → ℕ → ℕ
 with w s i = mask w (λ j. mem j s or eqb j i)
-
-unfoldable pub without : ℕ → ℕ → ℕ → ℕ
-without w s i = mask w (λ j. mem j s and not (eqb j i))
-
-unfoldable pub union : ℕ → ℕ → ℕ → ℕ
-union w a b = mask w (λ j. mem j a or mem j b)
-
-unfoldable pub difference : ℕ → ℕ → ℕ → ℕ
-difference w a b = mask w (λ j. mem j a and not (mem j b))

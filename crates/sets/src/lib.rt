@@ -1,7 +1,7 @@
 // Sets of terminals as u32 masks: bit i stands for terminal i. Every function takes any arguments;
 // a terminal from 32 up is in no set.
 ghost use mathlib.Core.Path.{_≡_};
-ghost use Rattle.sets.specs.Sets.{mem, within, size, singleton, with, without, union, difference};
+ghost use Rattle.sets.specs.Sets.{mem, within, singleton, with};
 
 pub fn member(s: u32, i: usize) -> bool
     ensures { λ r. ⌜ r ≡ mem i s ⌝ }
@@ -22,12 +22,6 @@ pub fn within(s: u32, n: usize) -> bool
     true
 }
 
-pub fn size(s: u32) -> usize
-    ensures { λ r. ⌜ r ≡ size 32 s ⌝ }
-{
-    u32::count_ones(s) as usize
-}
-
 pub fn singleton(i: usize) -> u32
     ensures { λ r. ⌜ r ≡ singleton 32 i ⌝ }
 {
@@ -41,22 +35,4 @@ pub fn with(s: u32, i: usize) -> u32
     ensures { λ r. ⌜ r ≡ with 32 s i ⌝ }
 {
     s | singleton(i)
-}
-
-pub fn without(s: u32, i: usize) -> u32
-    ensures { λ r. ⌜ r ≡ without 32 s i ⌝ }
-{
-    s & !singleton(i)
-}
-
-pub fn union(a: u32, b: u32) -> u32
-    ensures { λ r. ⌜ r ≡ union 32 a b ⌝ }
-{
-    a | b
-}
-
-pub fn difference(a: u32, b: u32) -> u32
-    ensures { λ r. ⌜ r ≡ difference 32 a b ⌝ }
-{
-    a & !b
 }
