@@ -3,18 +3,20 @@
 use Prim.Native.Nat.{ℕ, zero, suc, _+_, _≤_, _<_}
 use mathlib.Core.Path.{_≡_, refl, sym, ap, _∙_, subst}
 use mathlib.Core.Logic.{_⊎_, inl, inr, ⊎-elim}
-use mathlib.Core.Bool.{Bool, true, false}
+use mathlib.Core.Bool.{Bool, true, false, not}
 use mathlib.Core.List.{List}
 use native.Mathlib.Nat.{lt-of-lt-of-le}
 use native.Mathlib.Omega.{arith}
+use lib.Dec.{eqb, ltb, leb}
 use lib.ListN.{length, getD, replicate, length-replicate}
 use Rattle.sets.specs.Tests.{_and_, pick}
 use Rattle.sets.specs.Sets.{mem, many}
-use Rattle.sets.proofs.Bools.{clash, no-by}
+use Rattle.sets.proofs.Bools.{clash, no-by, and-no-r, pick-yes, pick-no}
 use Rattle.terminal.specs.declared.State.{State}
 use Rattle.terminal.specs.declared.State.the-variants.{Waiting, Taken}
 use Rattle.terminal.specs.declared.Record.{Record}
 use Rattle.terminal.specs.Rule.{start, sourceStart, firstWord, noted, hasNoted, certified, choice, taking, stepFrom, step}
+use Rattle.terminal.specs.Answer.{inRange, hearsSoundly, stateSound, recordSound, causeOf}
 use Rattle.terminal.proofs.Notes.{noted-length, noted-at, noted-change, first-spoken, zeros, has-i, has-layout, has-value, choice-why, choice-none-source, choice-none-certified, choice-least}
 
 -- the record has a note for each of m terminals
@@ -49,6 +51,13 @@ source-start-room value = omega (arith, length-replicate {A = ℕ} 20 0)
 
 pub start-empty : (v j : ℕ) → hasNoted (replicate 20 0) v j ≡ false
 start-empty v j = no-by (λ h. has-layout (replicate 20 0) v j h (sym (has-value (replicate 20 0) v j h) ∙ zeros 20 j))
+
+-- a source that starts with 0, which is no layout, is refused by its first step
+pub source-start-zero : (n source f own heard words : ℕ) → inRange n source f ≡ true → hearsSoundly n own heard ≡ true
+    → causeOf n source f own heard (sourceStart 0) words ≡ 13
+unfolding causeOf recordSound stateSound
+source-start-zero n source f own heard words r h =
+    pick-yes _ _ _ r ∙ pick-yes _ _ _ h ∙ pick-no _ _ _ (and-no-r (ltb 0 40) _ (and-no-r (ltb own n) _ (and-no-r (leb 0 0) (not (eqb 0 0)) refl)))
 
 first-at-zero : (said : ℕ) → firstWord true 0 said ≡ said
 unfolding firstWord pick _and_
@@ -137,7 +146,7 @@ module _ (n source f heard : ℕ) (said : ℕ → ℕ) where
   from-change Waiting round notes j = noted-change n (λ j. mem j heard) said notes j
   from-change (Taken at value) round notes j = inl refl
 
-  step-change : (r : Record) (j : ℕ)
+  pub step-change : (r : Record) (j : ℕ)
       → (getD (step n source f heard said r .notes) j 0 ≡ getD (r .notes) j 0)
       ⊎ ((mem j heard ≡ true) × (getD (r .notes) j 0 ≡ 0) × (getD (step n source f heard said r .notes) j 0 ≡ said j))
   unfolding step
