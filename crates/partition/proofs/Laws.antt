@@ -170,3 +170,9 @@ module _ (p : Plan) (s : ℕ) where
       (λ b z. (eqb-true (causeOf p) 0 e, b)) (λ b z. absurd (omega arith)))
       (λ m z. absurd (omega arith)))
       (λ e z. clash (eq-eqb (causeOf p) 0 z) e)
+
+  -- and a fault set of a sound plan has no cause against it
+  pub fault-is : causeOf p ≡ 0 → isFaultSet p s ≡ true → faultCauseOf p s ≡ 0
+  unfolding faultCauseOf isFaultSet
+  fault-is c h =
+      pick-yes _ _ _ (eq-eqb _ _ c) ∙ pick-yes _ _ _ (and-i _ _ (and-l _ _ h) (and-l _ _ (and-r _ _ h))) ∙ pick-yes _ _ _ h

@@ -8,6 +8,8 @@ use Rattle.plan.specs.declared.Plan.{Plan}
 use Rattle.plan.specs.Plan.{causeOf}
 use Rattle.propagation.specs.FaultSet.{isFaultSet}
 use Rattle.propagation.specs.Verdict as theory
+pub use Rattle.propagation.specs.Answer.{Answer, refused}
+unfoldable pub use Rattle.propagation.specs.Answer.{judged, answerOf}
 use Rattle.partition.specs.declared.Judgement.{Judgement}
 use Rattle.partition.specs.declared.Judgement.the-variants as judgement
 use Rattle.partition.specs.declared.WitnessCheck.{WitnessCheck}
@@ -15,29 +17,11 @@ use Rattle.partition.specs.declared.WitnessCheck.the-variants as check
 use Rattle.partition.specs.declared.FaultSetCheck.{FaultSetCheck}
 use Rattle.partition.specs.declared.FaultSetCheck.the-variants as faults
 
--- the number of a refusal (0 where nothing is refused), 1 for a fail, and F, L, R: a pass and a refused call have only zeros there
-pub record Answer : Type 0 where
-  pub number : ℕ
-  pub failed : ℕ
-  pub f : ℕ
-  pub l : ℕ
-  pub r : ℕ
-
-abbrev pub refused : ℕ → Answer
-refused cause = record { number = cause; failed = 0; f = 0; l = 0; r = 0 }
-
 abbrev pub told : Judgement → Answer
 told judgement.Pass = record { number = 0; failed = 0; f = 0; l = 0; r = 0 }
 told (judgement.Fail w) = record { number = 0; failed = 1; f = w .f; l = w .l; r = w .r }
 told judgement.WrongRange = refused 4
 told judgement.WrongLink = refused 5
-
--- the theory's verdict on a sound plan, else the cause
-unfoldable pub judged : theory.Verdict → Answer
-judged v = record { number = 0; failed = pick (v .passed) 0 1; f = v .f; l = v .l; r = v .r }
-
-unfoldable pub answerOf : Plan → Answer
-answerOf p = pick (eqb (causeOf p) 0) (judged (theory.verdict p)) (refused (causeOf p))
 
 -- the witness check: the number of a refusal, and 1 for a yes
 pub record Reply : Type 0 where

@@ -1,22 +1,25 @@
 -- A terminal's record from round to round, read off the lists of the run by the rules; and what a good terminal says. Assumes nothing.
-use Prim.Native.Nat.{ℕ, zero, suc, _+_, _<_}
-use mathlib.Core.Path.{_≡_, refl, sym, ap, _∙_}
+use Prim.Native.Nat.{ℕ, zero, suc, _+_, _≤_, _<_}
+use mathlib.Core.Path.{_≡_, refl, sym, ap, _∙_, fun-ext}
+use mathlib.Core.Logic.{⊎-elim}
 use mathlib.Core.Bool.{true, false}
-use native.Mathlib.Nat.{le-of-suc-le-suc, not-suc-le-zero}
+use mathlib.Core.List.{List, _∷_}
+use Prim.Native.Nat.{suc-le-suc}
+use native.Mathlib.Nat.{le-of-suc-le-suc, not-suc-le-zero, zero-lt-suc}
 use native.Mathlib.Omega.{arith}
 use lib.Dec.{eqb}
 use lib.ListN.{length, getD}
 use borrow.Author.Tests.{eq-eqb, ne-eqb}
 use Rattle.sets.specs.Tests.{pick}
 use Rattle.sets.specs.Sets.{mem}
-use Rattle.sets.proofs.Bools.{pick-yes, pick-no, pick-case}
+use Rattle.sets.proofs.Bools.{decide, pick-yes, pick-no, pick-case}
 use Rattle.terminal.specs.declared.State.{State}
 use Rattle.terminal.specs.declared.State.the-variants.{Waiting, Taken}
 use Rattle.terminal.specs.declared.Record.{Record}
 use Rattle.terminal.specs.Rule.{start, sourceStart, step}
 use Rattle.plan.specs.declared.Plan.{Plan}
 use Rattle.plan.specs.Plan.{heardBy, hears}
-use Rattle.propagation.specs.Run.{Script, table, startRecord, saysIn, heardFrom, recordIn, played, sites, site}
+use Rattle.propagation.specs.Run.{Script, table, startRecord, saysIn, heardFrom, recordIn, played, sites, site, SameWords}
 
 pub table-length : (n : ℕ) (one : ℕ → Record) → length (table n one) ≡ n
 unfolding table
@@ -28,6 +31,12 @@ unfolding table
 table-at zero one b k = absurd (not-suc-le-zero k)
 table-at (suc n) one zero k = refl
 table-at (suc n) one (suc b) k = table-at n (λ b. one (suc b)) b (le-of-suc-le-suc k)
+
+pub table-same : (n : ℕ) (one other : ℕ → Record) → ((b : ℕ) → b < n → one b ≡ other b) → table n one ≡ table n other
+unfolding table
+table-same zero one other e = refl
+table-same (suc n) one other e =
+    let rest = table-same n (λ b. one (suc b)) (λ b. other (suc b)) (λ b k. e (suc b) (suc-le-suc k)) in (λ i. e 0 (zero-lt-suc n) i ∷ rest i)
 
 -- what a good terminal says is the value that it has taken, in the round after
 pub says-why : (round : ℕ) (s : State) (v : ℕ) → saysIn round s ≡ v → (v ≡ 0 → ⊥) → (at : ℕ) × (s ≡ Taken at v)
@@ -88,3 +97,33 @@ module _ (p : Plan) (faulty value : ℕ) (script : Script) where
   pub word-faulty : (r b j : ℕ) → hears p b j ≡ true → mem j faulty ≡ true → word r b j ≡ script (suc r) j b
   unfolding heardFrom
   word-faulty r b j h g = pick-yes _ _ _ h ∙ pick-yes _ _ _ g
+
+-- ---- entries of good senders and of missing links are not looked at: scripts that agree on all others give the same sites
+
+module _ (p : Plan) (faulty value : ℕ) (script other : Script) where
+  heard-same : (r round : ℕ) → SameWords p faulty r script other → 1 ≤ round → round ≤ r → (before : List Record) (b : ℕ) → b < p .n → (j : ℕ)
+      → heardFrom p faulty script round before b j ≡ heardFrom p faulty other round before b j
+  unfolding heardFrom
+  heard-same r round same first last before b k j =
+      ⊎-elim
+      (λ h.
+      pick-yes _ _ _ h
+      ∙ ⊎-elim (λ m. pick-yes _ _ _ m ∙ same round j b first last k h m ∙ sym (pick-yes _ _ _ m)) (λ m. pick-no _ _ _ m ∙ sym (pick-no _ _ _ m)) (decide (mem j faulty))
+      ∙ sym (pick-yes _ _ _ h))
+      (λ h. pick-no _ _ _ h ∙ sym (pick-no _ _ _ h))
+      (decide (hears p b j))
+
+  record-same : (r round : ℕ) → SameWords p faulty r script other → 1 ≤ round → round ≤ r → (before : List Record) (b : ℕ) → b < p .n
+      → recordIn p faulty script round before b ≡ recordIn p faulty other round before b
+  unfolding recordIn
+  record-same r round same first last before b k =
+      ap (λ (said : ℕ → ℕ). pick (mem b faulty) start (step (p .n) (p .source) (p .f) (heardBy p b) said (getD before b start)))
+      (fun-ext (heard-same r round same first last before b k))
+
+  pub sites-same : (r : ℕ) → SameWords p faulty r script other → sites p faulty value script r ≡ sites p faulty value other r
+  unfolding sites played
+  sites-same zero same = refl
+  sites-same (suc r) same =
+      table-same (p .n) (recordIn p faulty script (suc r) (sites p faulty value script r)) (recordIn p faulty other (suc r) (sites p faulty value script r))
+      (record-same (suc r) (suc r) same (omega arith) (omega arith) (sites p faulty value script r))
+      ∙ ap (played p faulty other (suc r)) (sites-same r (λ round sender hearer first last k h m. same round sender hearer first (omega arith) k h m))

@@ -9,7 +9,7 @@ use Rattle.terminal.specs.declared.State.the-variants.{Waiting, Taken}
 use Rattle.plan.specs.declared.Plan.{Plan}
 use Rattle.propagation.specs.FaultSet.{isFaultSet}
 use Rattle.propagation.specs.Verdict.{verdict, accepts}
-use Rattle.propagation.specs.Run.{Script, silence, site}
+use Rattle.propagation.specs.Run.{Script, Silent, site}
 
 -- a good terminal of the plan is one outside the fault set
 abbrev pub Good : Plan → ℕ → ℕ → Type 0
@@ -31,9 +31,11 @@ pub record Demand3 (p : Plan) : Type 0 where
       → (r b : ℕ) → p .n - 1 ≤ r → Good p faulty b → site p faulty value script r b .state ≡ Waiting → ⊥
   -- a plan fails exactly if some choice leaves a good terminal waiting
   pub fails : (value : ℕ) → 1 ≤ value → (verdict p .passed ≡ false) ↔ LeavesWaiting p value
+  -- what a fail lists is a witness: F is a fault set, R is not empty, and the check accepts the three
+  pub witness : verdict p .passed ≡ false → accepts p (verdict p .f) (verdict p .l) (verdict p .r) ≡ true
   -- the listed terminals, by silence alone, keep the named ones waiting for ever
-  pub silent : verdict p .passed ≡ false → (value : ℕ) → (r b : ℕ) → b < p .n → mem b (verdict p .r) ≡ true
-      → site p (verdict p .f) value silence r b .state ≡ Waiting
+  pub silent : verdict p .passed ≡ false → (value : ℕ) → (script : Script) → (r b : ℕ) → Silent p (verdict p .f) r script
+      → b < p .n → mem b (verdict p .r) ≡ true → site p (verdict p .f) value script r b .state ≡ Waiting
   -- and so do those of whatever partition the witness check accepts
-  pub accepted : (f l r : ℕ) → accepts p f l r ≡ true → (value : ℕ) → (k b : ℕ) → b < p .n → mem b r ≡ true
-      → site p f value silence k b .state ≡ Waiting
+  pub accepted : (f l r : ℕ) → accepts p f l r ≡ true → (value : ℕ) → (script : Script) → (k b : ℕ) → Silent p f k script
+      → b < p .n → mem b r ≡ true → site p f value script k b .state ≡ Waiting

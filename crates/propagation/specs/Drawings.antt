@@ -1,4 +1,5 @@
--- The drawings A to J of document 01, and its remarks on f, as rows of one table: a question, and the answer that the document gives. Assumes nothing.
+-- The drawings A to J of document 01, and its remark on f (n - 1 is read, n is refused), as rows of one table: a question, and the answer that the
+-- document gives. Assumes nothing.
 use Prim.Native.Nat.{ℕ, zero, suc, _+_, _^_}
 use mathlib.Core.Bool.{Bool, false}
 use mathlib.Core.List.{List, [], _∷_, _++_}
@@ -8,8 +9,7 @@ use Rattle.sets.specs.Sets.{mask}
 use Rattle.terminal.specs.declared.State.{State}
 use Rattle.terminal.specs.declared.State.the-variants.{Waiting, Taken}
 use Rattle.plan.specs.declared.Plan.{Plan}
-use Rattle.plan.specs.Plan.{causeOf}
-use Rattle.propagation.specs.Verdict.{Verdict, verdict}
+use Rattle.propagation.specs.Answer.{Answer, answerOf}
 use Rattle.propagation.specs.Run.{silence, site}
 
 -- "0>1" of the document: terminal 1 hears terminal 0
@@ -30,38 +30,36 @@ unfoldable pub drawing : ℕ → ℕ → List Link → Plan
 drawing n f links = record { n = n; source = 0; f = f; rows = rowsFrom 20 0 links }
 
 -- a set by its members
-unfoldable pub set : List ℕ → ℕ
-set [] = 0
-set (i ∷ s) = 2 ^ i + set s
+unfoldable pub setOf : List ℕ → ℕ
+setOf [] = 0
+setOf (i ∷ s) = 2 ^ i + setOf s
 
 pub data Question : Type 0 where
   judge : Plan → Question
   stateAfter : ℕ → Plan → ℕ → Question
-  check : Plan → Question
 
-pub data Answer : Type 0 where
-  pass : Answer
-  fail : ℕ → ℕ → ℕ → Answer
-  waits : Answer
-  takes : ℕ → ℕ → Answer
-  cause : ℕ → Answer
+pub data Told : Type 0 where
+  pass : Told
+  fail : ℕ → ℕ → ℕ → Told
+  refusal : ℕ → Told
+  waits : Told
+  takes : ℕ → ℕ → Told
 
-unfoldable pub ofVerdict : Verdict → Answer
-ofVerdict v = pick (v .passed) pass (fail (v .f) (v .l) (v .r))
+unfoldable pub ofAnswer : Answer → Told
+ofAnswer a = pick (eqb (a .number) 0) (pick (eqb (a .failed) 0) pass (fail (a .f) (a .l) (a .r))) (refusal (a .number))
 
-unfoldable pub ofState : State → Answer
+unfoldable pub ofState : State → Told
 ofState Waiting = waits
 ofState (Taken round value) = takes round value
 
 -- the definitions' own answers; a run has no liars and the layout 7
-unfoldable pub answer : Question → Answer
-answer (judge p) = ofVerdict (verdict p)
+unfoldable pub answer : Question → Told
+answer (judge p) = ofAnswer (answerOf p)
 answer (stateAfter rounds p b) = ofState (site p 0 7 silence rounds b .state)
-answer (check p) = cause (causeOf p)
 
 pub record Row : Type 0 where
   pub asked : Question
-  pub told : Answer
+  pub told : Told
 
 unfoldable pub linksF : List Link
 linksF = 0 ▷ 1 ∷ 0 ▷ 2 ∷ 0 ▷ 3 ∷ 1 ▷ 4 ∷ 2 ▷ 4 ∷ 3 ▷ 4 ∷ []
@@ -75,20 +73,20 @@ chain = 0 ▷ 1 ∷ 1 ▷ 2 ∷ []
 unfoldable pub rows : List Row
 rows =
     record { asked = judge (drawing 2 0 (0 ▷ 1 ∷ [])); told = pass }
-    ∷ record { asked = judge (drawing 2 0 []); told = fail (set []) (set (0 ∷ [])) (set (1 ∷ [])) }
+    ∷ record { asked = judge (drawing 2 0 []); told = fail (setOf []) (setOf (0 ∷ [])) (setOf (1 ∷ [])) }
     ∷ record { asked = judge (drawing 3 0 chain); told = pass }
     ∷ record { asked = stateAfter 1 (drawing 3 0 chain) 2; told = waits }
     ∷ record { asked = stateAfter 2 (drawing 3 0 chain) 2; told = takes 2 7 }
-    ∷ record { asked = judge (drawing 3 1 chain); told = fail (set []) (set (0 ∷ 1 ∷ [])) (set (2 ∷ [])) }
+    ∷ record { asked = judge (drawing 3 1 chain); told = fail (setOf []) (setOf (0 ∷ 1 ∷ [])) (setOf (2 ∷ [])) }
     ∷ record {
       asked = judge (drawing 4 1 (0 ▷ 1 ∷ 0 ▷ 2 ∷ 1 ▷ 3 ∷ 2 ▷ 3 ∷ []));
-      told = fail (set (1 ∷ [])) (set (0 ∷ 2 ∷ [])) (set (3 ∷ []));
+      told = fail (setOf (1 ∷ [])) (setOf (0 ∷ 2 ∷ [])) (setOf (3 ∷ []));
     }
     ∷ record { asked = judge (drawing 5 1 linksF); told = pass }
-    ∷ record { asked = judge (drawing 5 2 linksF); told = fail (set (1 ∷ [])) (set (0 ∷ 2 ∷ 3 ∷ [])) (set (4 ∷ [])) }
-    ∷ record { asked = judge (drawing 7 1 linksH); told = fail (set (1 ∷ 3 ∷ [])) (set (0 ∷ 2 ∷ 4 ∷ [])) (set (5 ∷ 6 ∷ [])) }
+    ∷ record { asked = judge (drawing 5 2 linksF); told = fail (setOf (1 ∷ [])) (setOf (0 ∷ 2 ∷ 3 ∷ [])) (setOf (4 ∷ [])) }
+    ∷ record { asked = judge (drawing 7 1 linksH); told = fail (setOf (1 ∷ 3 ∷ [])) (setOf (0 ∷ 2 ∷ 4 ∷ [])) (setOf (5 ∷ 6 ∷ [])) }
     ∷ record { asked = judge (drawing 7 1 (linksH ++ (1 ▷ 0 ∷ 2 ▷ 0 ∷ 3 ▷ 0 ∷ 4 ▷ 0 ∷ []))); told = pass }
-    ∷ record { asked = check (drawing 1 0 []); told = cause 4 }
-    ∷ record { asked = check (drawing 5 4 linksF); told = cause 0 }
-    ∷ record { asked = check (drawing 5 5 linksF); told = cause 4 }
+    ∷ record { asked = judge (drawing 1 0 []); told = refusal 4 }
+    ∷ record { asked = judge (drawing 5 4 linksF); told = fail (setOf []) (setOf (0 ∷ 1 ∷ 2 ∷ 3 ∷ [])) (setOf (4 ∷ [])) }
+    ∷ record { asked = judge (drawing 5 5 linksF); told = refusal 4 }
     ∷ []

@@ -2,6 +2,7 @@
 pub mod FaultSet
 pub mod Closure
 pub mod Verdict
+pub mod Answer
 pub mod Run
 pub mod Demand3
 pub mod Drawings

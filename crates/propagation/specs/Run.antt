@@ -1,6 +1,8 @@
 -- The run by the rules (document 01, "The run"), for any number of rounds. A script is a function of round, sender and hearer: what the terminals of
 -- the fault set say, 0 for silence. Assumes nothing.
-use Prim.Native.Nat.{ℕ, zero, suc, _+_}
+use Prim.Native.Nat.{ℕ, zero, suc, _+_, _≤_, _<_}
+use mathlib.Core.Path.{_≡_}
+use mathlib.Core.Bool.{true}
 use mathlib.Core.List.{List, [], _∷_}
 use lib.Dec.{eqb}
 use lib.ListN.{getD}
@@ -56,3 +58,16 @@ sites p faulty value script (suc r) = played p faulty script (suc r) (sites p fa
 -- terminal b's record after r rounds
 unfoldable pub site : Plan → ℕ → ℕ → Script → ℕ → ℕ → Record
 site p faulty value script r b = getD (sites p faulty value script r) b start
+
+-- ---- scripts that a run cannot tell apart
+
+-- two scripts have the same words of the fault set's members, on the links that there are, in the rounds 1 to r
+abbrev pub SameWords : Plan → ℕ → ℕ → Script → Script → Type 0
+SameWords p faulty r script other =
+    (round sender hearer : ℕ) → 1 ≤ round → round ≤ r → hearer < p .n → hears p hearer sender ≡ true → mem sender faulty ≡ true
+    → script round sender hearer ≡ other round sender hearer
+
+-- silence: all words of the fault set's members are 0, in the rounds 1 to r; what anybody else's entries hold does not matter
+abbrev pub Silent : Plan → ℕ → ℕ → Script → Type 0
+Silent p faulty r script =
+    (round sender hearer : ℕ) → 1 ≤ round → round ≤ r → hearer < p .n → mem sender faulty ≡ true → script round sender hearer ≡ 0
