@@ -1,6 +1,6 @@
 -- Demand 3 of the run's own records, from the theory. Assumes nothing.
-use Prim.Native.Nat.{ℕ, suc, _*_, _≤_, _<_}
-use mathlib.Core.Path.{_≡_, refl, sym, ap, _∙_, subst, fun-ext}
+use Prim.Native.Nat.{ℕ, zero, suc, _*_, _-_, _≤_, _<_}
+use mathlib.Core.Path.{_≡_, refl, sym, ap, _∙_, subst}
 use mathlib.Core.Bool.{true, false}
 use mathlib.Core.List.{List}
 use mathlib.Core.Logic.{⊎-elim}
@@ -9,28 +9,26 @@ use native.Mathlib.Numerals.{add-one}
 use native.Mathlib.Omega.{arith}
 use lib.Dec.{eqb}
 use lib.ListN.{length, getD, replicate, length-replicate}
-use borrow.Author.Tests.{eqb-true, eq-eqb}
+use borrow.Author.Tests.{eqb-true, eq-eqb, ne-eqb, le-leb}
 use Rattle.sets.specs.Tests.{pick}
-use Rattle.sets.proofs.Bools.{decide, pick-yes, pick-no}
+use Rattle.sets.proofs.Bools.{decide, and-i, not-i, pick-yes, pick-no}
 use Rattle.terminal.specs.declared.Record.{Record}
 use Rattle.terminal.specs.Rule.{start}
 use Rattle.plan.specs.declared.Plan.{Plan}
 use Rattle.plan.specs.Plan.{causeOf}
 use Rattle.plan.proofs.Laws.{sound}
 use Rattle.propagation.specs.FaultSet.{isFaultSet}
-use Rattle.propagation.specs.Run.{silence, table, sites, site}
+use Rattle.propagation.specs.Run.{Silent, table, sites, site}
+use Rattle.propagation.specs.Verdict.{verdict}
 use Rattle.propagation.proofs.Demand3.{demand3}
+use Rattle.propagation.proofs.Witness.{accepts-e}
 use Rattle.propagation.proofs.Rounds.{table-at}
+use Rattle.partition.proofs.Laws.{fault-is}
 use Rattle.simulation.specs.declared.Turn.{Turn}
 use Rattle.simulation.specs.Turns.{scriptOf, firstTurn, playedAfter, CanPlay, leftAfter}
-use Rattle.simulation.specs.Answer.{runCause, turnsOf, recordsAfter, arrayAfter, Demand3Holds}
-use Rattle.simulation.proofs.Causes.{accepted-run, turns-played, turns-refused}
+use Rattle.simulation.specs.Answer.{startSound, runCause, turnsOf, recordsAfter, arrayAfter, Demand3Holds, Defeated, noWords}
+use Rattle.simulation.proofs.Causes.{cause-played, accepted-run, turns-played, turns-refused}
 use Rattle.simulation.proofs.Walk.{walk-is, walk-array, turn-placed}
-
--- a list of words that are all 0 is the silent script
-silent-words : (n : ℕ) (words : List ℕ) → ((k : ℕ) → getD words k 0 ≡ 0) → scriptOf n words ≡ silence
-unfolding scriptOf
-silent-words n words z = fun-ext (λ round. fun-ext (λ sender. fun-ext (λ hearer. z _)))
 
 -- records that are, terminal by terminal, those of the rules have demand 3
 pub promised : (p : Plan) → causeOf p ≡ 0 → (faulty value rounds : ℕ) → isFaultSet p faulty ≡ true → 1 ≤ value → (words : List ℕ) (records : List Record)
@@ -40,7 +38,9 @@ promised p c faulty value rounds fault v words records same = record {
   safe = λ b g at u e. demand3 p c .safe value v faulty fault (scriptOf (p .n) words) rounds b g at u (sym (ap (λ (r : Record). r .state) (same b (g .0))) ∙ e);
   passes = λ h l b g e. demand3 p c .passes h value v faulty fault (scriptOf (p .n) words) rounds b l g (sym (ap (λ (r : Record). r .state) (same b (g .0))) ∙ e);
   silent = λ h f z b k m.
-      ap (λ (r : Record). r .state) (same b k) ∙ (λ i. site p (f i) value (silent-words (p .n) words z i) rounds b .state) ∙ demand3 p c .silent h value rounds b k m;
+      ap (λ (r : Record). r .state) (same b k)
+      ∙ (λ i. site p (f i) value (scriptOf (p .n) words) rounds b .state)
+      ∙ demand3 p c .silent h value (scriptOf (p .n) words) rounds b (subst (λ (x : ℕ). Silent p x rounds (scriptOf (p .n) words)) f z) k m;
 }
 
 -- ---- the turns of a run on a list that has a place for each terminal where the run is accepted
@@ -143,3 +143,37 @@ module _ (p : Plan) (faulty value rounds : ℕ) (words : List ℕ) (ys : List Re
       let a = accepted-run p faulty value rounds (length words) (length ys) e in
       promised p (a .0) faulty value rounds (a .1) (a .2) words records
       (λ b k. ap (λ (l : List Record). getD l b start) (q ∙ pick-yes _ _ _ (eq-eqb _ _ e)))
+
+-- ---- a failed plan is defeated in the run itself, by silence
+
+zeros : (k j : ℕ) → _≡_ {A = ℕ} (getD (replicate k 0) j 0) 0
+zeros zero j = refl
+zeros (suc k) zero = refl
+zeros (suc k) (suc j) = zeros k j
+
+module _ (p : Plan) (c : causeOf p ≡ 0) (value : ℕ) (v : 1 ≤ value) (failed : verdict p .passed ≡ false) (before : List Record) (places : length before ≡ p .n) where
+  abbrev words : List ℕ
+  words = noWords p (p .n - 1)
+
+  abbrev listed : ℕ
+  listed = verdict p .f
+
+  quiet : Silent p listed (p .n - 1) (scriptOf (p .n) words)
+  unfolding scriptOf
+  quiet round sender hearer first last k m = zeros ((p .n - 1) * (p .n * p .n)) _
+
+  called : runCause p listed value (p .n - 1) (length words) (length before) ≡ 0
+  unfolding startSound
+  called =
+      sym
+      (cause-played p listed value (p .n - 1) (length words) (length before) (fault-is p listed c (accepts-e p listed (verdict p .l) (verdict p .r) (demand3 p c .witness failed) .fault))
+      (and-i _ _ (not-i (ne-eqb value 0 (λ z. omega arith))) (le-leb (p .n - 1) 40 (let t = sound p c .twenty in omega arith)))
+      (and-i _ _ (eq-eqb _ _ (length-replicate {A = ℕ} ((p .n - 1) * (p .n * p .n)) 0)) (eq-eqb _ _ places)))
+
+  pub defeated-run : Defeated p value words before
+  defeated-run = record {
+    somebody = accepts-e p listed (verdict p .l) (verdict p .r) (demand3 p c .witness failed) .r-some;
+    accepted = called;
+    waits = λ b k m.
+        lent-promised p listed value (p .n - 1) words before called (recordsAfter p listed value (p .n - 1) words before) refl .silent failed refl quiet b k m;
+  }

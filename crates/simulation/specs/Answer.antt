@@ -4,7 +4,7 @@ use mathlib.Core.Path.{_≡_}
 use mathlib.Core.Bool.{Bool, true, false, not}
 use mathlib.Core.List.{List}
 use lib.Dec.{eqb, leb}
-use lib.ListN.{length, getD}
+use lib.ListN.{length, getD, replicate}
 use Rattle.sets.specs.Tests.{_and_, pick}
 use Rattle.sets.specs.Sets.{mem}
 use Rattle.terminal.specs.declared.State.the-variants.{Waiting, Taken}
@@ -13,7 +13,7 @@ use Rattle.terminal.specs.Rule.{start}
 use Rattle.plan.specs.declared.Plan.{Plan}
 use Rattle.partition.specs.Answer.{faultCauseOf}
 use Rattle.propagation.specs.Verdict.{verdict}
-use Rattle.propagation.specs.Run.{table, sites, site}
+use Rattle.propagation.specs.Run.{Silent, table, sites, site}
 use Rattle.propagation.specs.Demand3.{Good}
 use Rattle.simulation.specs.declared.Outcome.{Outcome}
 use Rattle.simulation.specs.declared.Outcome.the-variants.{Played, WrongRange, WrongLink, WrongMember, OverBound, WrongStart, WrongLength}
@@ -62,6 +62,18 @@ pub record Demand3Holds (p : Plan) (faulty value rounds : ℕ) (words : List ℕ
   pub safe : (b : ℕ) → Good p faulty b → (at v : ℕ) → getD records b start .state ≡ Taken at v → v ≡ value
   -- in a passed plan none waits after n - 1 rounds or more
   pub passes : verdict p .passed ≡ true → p .n - 1 ≤ rounds → (b : ℕ) → Good p faulty b → getD records b start .state ≡ Waiting → ⊥
-  -- words all 0 and F the verdict's: every member of its R waits
-  pub silent : verdict p .passed ≡ false → faulty ≡ verdict p .f → ((k : ℕ) → getD words k 0 ≡ 0) → (b : ℕ) → b < p .n → mem b (verdict p .r) ≡ true
-      → getD records b start .state ≡ Waiting
+  -- F is the verdict's, and all its words are 0: every member of its R waits
+  pub silent : verdict p .passed ≡ false → faulty ≡ verdict p .f → Silent p faulty rounds (scriptOf (p .n) words) → (b : ℕ) → b < p .n
+      → mem b (verdict p .r) ≡ true → getD records b start .state ≡ Waiting
+
+-- that a failed plan can be defeated shows in the run itself: R is not empty, the silent run of n - 1 rounds with the verdict's F is an accepted call,
+-- and it leaves each member of R waiting
+pub record Defeated (p : Plan) (value : ℕ) (words : List ℕ) (before : List Record) : Type 0 where
+  pub somebody : verdict p .r ≡ 0 → ⊥
+  pub accepted : runCause p (verdict p .f) value (p .n - 1) (length words) (length before) ≡ 0
+  pub waits : (b : ℕ) → b < p .n → mem b (verdict p .r) ≡ true
+      → getD (recordsAfter p (verdict p .f) value (p .n - 1) words before) b start .state ≡ Waiting
+
+-- the words of silence, for a number of rounds
+abbrev pub noWords : Plan → ℕ → List ℕ
+noWords p rounds = replicate (rounds * (p .n * p .n)) 0

@@ -25,7 +25,7 @@ pub enum Outcome {
 
 // Whose turn it is: terminal `at` in a round. `spoken` is what each good terminal says to all this
 // round, fixed before its first step; `next` collects what they say in the next.
-pub struct Turn {
+pub(crate) struct Turn {
     pub plan: Plan,
     pub faulty: u32,
     pub value: u16,
@@ -35,7 +35,7 @@ pub struct Turn {
     pub next: [u16; 20],
 }
 
-pub struct Made {
+pub(crate) struct Made {
     pub turn: Turn,
     pub after: Record,
 }
@@ -48,7 +48,7 @@ pub struct Ran {
 }
 
 // The outcome of a run, its first turn, and how many turns it has: none where it is refused.
-pub struct Begun {
+pub(crate) struct Begun {
     pub outcome: Outcome,
     pub turn: Turn,
     pub turns: usize,
