@@ -81,7 +81,7 @@ pub(crate) fn fault_set(body: &[u8], line: &mut [u8]) -> usize {
     say::byte(line, 0, fault_number(checked))
 }
 
-fn run_number(o: Run) -> u8 {
+pub(crate) fn run_number(o: Run) -> u8 {
     match o {
         Run::Played => 0,
         Run::WrongRange => 4,

@@ -2,6 +2,7 @@
 // A call is its kind, the length of the list that it lends, the length of the rest, both in two
 // bytes, high byte first, and the rest.
 mod calls;
+mod lent;
 mod said;
 mod say;
 mod texts;
@@ -18,6 +19,7 @@ fn answer(kind: u8, size: usize, body: &[u8], line: &mut [u8]) -> usize {
         b'w' => calls::witness(body, line),
         b'c' => calls::fault_set(body, line),
         b'n' => calls::site(size, body, line),
+        b'l' => lent::run(size, body, line),
         _ => 0,
     }
 }

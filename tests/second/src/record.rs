@@ -15,6 +15,7 @@ use crate::step::{step, Record, State};
 use crate::verdict::{fault_cause, verdict, witness_check};
 use std::fs;
 use std::io;
+use std::ops::RangeInclusive;
 use std::path::Path;
 
 pub const SEED: u64 = 20;
@@ -58,7 +59,7 @@ pub fn write(calls_file: &Path, lines_file: &Path) -> io::Result<()> {
 type Maker = fn(u64, u64) -> Call;
 
 /// Every kind of call, and how many of it.
-const KINDS: [(Maker, u64); 9] = [
+const KINDS: [(Maker, u64); 10] = [
     (verdict_call, 600),
     (run_call, 600),
     (read_call, 300),
@@ -68,6 +69,7 @@ const KINDS: [(Maker, u64); 9] = [
     (fault_set_call, 400),
     (site_call, 300),
     (small_site_call, 500),
+    (lent_call, 300),
 ];
 
 /// The calls of each kind. Of the long files a few are enough.
@@ -402,38 +404,50 @@ struct Site {
     words: Vec<u16>,
 }
 
+impl Site {
+    fn order(&self) -> Order<'_> {
+        Order {
+            plan: &self.plan,
+            bad: &self.bad,
+            value: self.value,
+            rounds: self.rounds,
+            words: &self.words,
+        }
+    }
+
+    /// All but the words.
+    fn head_bytes(&self) -> Vec<u8> {
+        let mut bytes = plan_bytes(&self.plan);
+        bytes.extend(quad(&self.bad));
+        bytes.extend(pair(self.value));
+        bytes.push(self.rounds as u8);
+        bytes
+    }
+
+    fn word_bytes(&self) -> Vec<u8> {
+        self.words.iter().flat_map(|&word| pair(word)).collect()
+    }
+}
+
 fn site(of: Site) -> Call {
-    let mut body = plan_bytes(&of.plan);
-    body.extend(quad(&of.bad));
-    body.extend(pair(of.value));
-    body.push(of.rounds as u8);
-    body.extend(of.words.iter().flat_map(|&word| pair(word)));
-    let order = Order {
-        plan: &of.plan,
-        bad: &of.bad,
-        value: of.value,
-        rounds: of.rounds,
-        words: &of.words,
-    };
     // Twenty places are printed at most; a plan with more is refused and leaves start records.
     let mut records = vec![Record::waiting(); of.plan.n as usize];
-    let mut line = vec![number(run(&order, &mut records, Fault::None))];
+    let mut line = vec![number(run(&of.order(), &mut records, Fault::None))];
     line.extend(records.iter().take(20).flat_map(record_bytes));
     Call {
         kind: b'n',
         lent: of.words.len(),
-        body,
+        body: [of.head_bytes(), of.word_bytes()].concat(),
         line,
     }
 }
 
 /// The run of a file, with noise where no word is looked at; one in three is then broken.
-fn site_call(seed: u64, index: u64) -> Call {
-    let mut rng = rng_for(seed, b'n', index);
+fn noisy_site(rng: &mut Rng, seed: u64, sizes: RangeInclusive<u32>) -> Site {
     let file = loop {
         let index = 100_000 + rng.below(1 << 30) as u64 * 16 + rng.below(8) as u64;
         match read_run(&case(Kind::Run, seed, index), Fault::None) {
-            Ok(file) if file.plan.n <= 8 => break file,
+            Ok(file) if sizes.contains(&file.plan.n) => break file,
             _ => continue,
         }
     };
@@ -453,9 +467,13 @@ fn site_call(seed: u64, index: u64) -> Call {
         }
     }
     if rng.chance(33) {
-        break_site(&mut rng, &mut of);
+        break_site(rng, &mut of);
     }
-    site(of)
+    of
+}
+
+fn site_call(seed: u64, index: u64) -> Call {
+    site(noisy_site(&mut rng_for(seed, b'n', index), seed, 2..=8))
 }
 
 fn break_site(rng: &mut Rng, of: &mut Site) {
@@ -494,6 +512,49 @@ fn small_site_call(seed: u64, index: u64) -> Call {
         rounds: 2,
         words,
     })
+}
+
+// ---- the run over lent records
+
+/// Places that `replay` lends: one too many for four terminals, one too few for six.
+const PLACES: usize = 5;
+
+/// A record that no run has left.
+fn noise(rng: &mut Rng) -> Record {
+    let state = match rng.below(3) {
+        0 => State::Waiting,
+        _ => State::Taken(u32::from(rng.byte()), rng.pick(&[0, 7, 65_535])),
+    };
+    let round = u32::from(rng.byte());
+    let mut heard = |neighbour| {
+        rng.chance(50)
+            .then(|| (neighbour, 1 + u16::from(rng.byte())))
+    };
+    let notes = (0..20).filter_map(&mut heard).collect();
+    Record {
+        state,
+        round,
+        notes,
+        ..Record::waiting()
+    }
+}
+
+/// Five places that hold noise, lent to the run of four to six terminals: what the rules leave
+/// where it is accepted, and the noise where it is refused.
+fn lent_call(seed: u64, index: u64) -> Call {
+    let mut rng = rng_for(seed, b'l', index);
+    let sizes = if rng.chance(60) { 5..=5 } else { 4..=6 };
+    let of = noisy_site(&mut rng, seed, sizes);
+    let mut records: Vec<Record> = (0..PLACES).map(|_| noise(&mut rng)).collect();
+    let before: Vec<u8> = records.iter().flat_map(record_bytes).collect();
+    let mut line = vec![number(run(&of.order(), &mut records, Fault::None))];
+    line.extend(records.iter().flat_map(record_bytes));
+    Call {
+        kind: b'l',
+        lent: of.words.len(),
+        body: [of.head_bytes(), before, of.word_bytes()].concat(),
+        line,
+    }
 }
 
 // ---- the step as a board calls it

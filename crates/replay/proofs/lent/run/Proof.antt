@@ -1,0 +1,43 @@
+-- The part that is lent has as many places as it was lent for. Assumes nothing.
+use mathlib.Core.Path.{sym}
+use lib.Seq.{length-take-le}
+use borrow.Author.Needs.{needs}
+use Rattle.replay.proofs.lent.run.Statement.{statement}
+use Rattle.replay.proofs.lent.run.Tie as tie
+
+slice-aggregate-pairs : tie.Need-slice-aggregate-pairs
+slice-aggregate-pairs c = search needs
+
+pairs-requires : tie.Need-pairs-requires
+pairs-requires c κs = search needs
+
+array-share-prefix-words : tie.Need-array-share-prefix-words
+array-share-prefix-words c = search needs
+
+slice-aggregate-lent-on : tie.Need-slice-aggregate-lent-on
+slice-aggregate-lent-on c = sym (length-take-le _ _ (search needs))
+
+lent-on-requires : tie.Need-lent-on-requires
+lent-on-requires c κs = search needs
+
+same-length : tie.Need-same-length
+same-length c = search needs
+
+returns : tie.Need-returns
+returns c = search needs
+
+returns-2 : tie.Need-returns-2
+returns-2 c = search needs
+
+pub run-spec : {M : Type 1} → statement M
+run-spec =
+    tie.close
+    (tie.spec
+    slice-aggregate-pairs
+    pairs-requires
+    array-share-prefix-words
+    slice-aggregate-lent-on
+    lent-on-requires
+    same-length
+    returns
+    returns-2)

@@ -1,0 +1,71 @@
+// The run over records that are lent: five places, so that a plan of four terminals, of five and of
+// six lends one too many, as many as it should, and one too few.
+use super::calls;
+use super::said;
+use super::say;
+use plan::Plan;
+use simulation::Outcome;
+use terminal::Record;
+
+// What the run answered, and what it left in the records.
+pub(crate) struct Lent {
+    pub outcome: Outcome,
+    pub records: [Record; 5],
+}
+
+fn lent_of(outcome: Outcome, records: [Record; 5]) -> Lent {
+    Lent {
+        outcome: outcome,
+        records: records,
+    }
+}
+
+// The one function that lends records; it is proved by hand, so it does nothing else.
+fn lend(p: Plan, faulty: u32, value: u16, rounds: u8, words: &[u16], records: [Record; 5]) -> Lent {
+    let mut places = records;
+    let outcome = simulation::run(p, faulty, value, rounds, words, &mut places);
+    lent_of(outcome, places)
+}
+
+fn records(line: &mut [u8], at: usize, list: [Record; 5]) -> usize {
+    let mut k = at;
+    let mut b = 0;
+    while b < 5 {
+        k = say::record(line, k, list[b]);
+        b += 1;
+    }
+    k
+}
+
+fn lent_on(body: &[u8], words: &[u16], line: &mut [u8]) -> usize {
+    let before = [
+        said::record(body, 90),
+        said::record(body, 135),
+        said::record(body, 180),
+        said::record(body, 225),
+        said::record(body, 270),
+    ];
+    let ran = lend(
+        said::plan(body),
+        said::quad(body, 83),
+        said::pair(body, 87),
+        said::byte(body, 89),
+        words,
+        before,
+    );
+    let outcome = ran.outcome;
+    let after = ran.records;
+    let one = say::byte(line, 0, calls::run_number(outcome));
+    records(line, one, after)
+}
+
+// The count of words, then a plan, the fault set, the value, the rounds, what the five places hold
+// before, and the words.
+pub(crate) fn run(count: usize, body: &[u8], line: &mut [u8]) -> usize {
+    let mut words = [0u16; 12000];
+    said::pairs(body, 315, &mut words);
+    if count <= 12000 {
+        return lent_on(body, &words[..count], line);
+    }
+    0
+}
