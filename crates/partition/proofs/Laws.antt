@@ -14,8 +14,8 @@ use Rattle.plan.specs.Plan.{causeOf}
 use Rattle.plan.proofs.Laws.{Sound, sound}
 use Rattle.propagation.specs.FaultSet.{hearsMany, isFaultSet}
 use Rattle.propagation.specs.Closure.{reached, rest, cutOff}
-use Rattle.propagation.specs.Verdict.{defeats, Found, none, found, bestBelow, verdictOf, verdict, accepts}
-use Rattle.propagation.proofs.Witness.{Ahead, IsBest, best-below, verdict-pass, verdict-fail, witness-accepted}
+use Rattle.propagation.specs.Verdict.{Ahead, defeats, Found, none, found, bestBelow, verdictOf, verdict, accepts}
+use Rattle.propagation.proofs.Witness.{IsBest, best-below, verdict-pass, verdict-fail, witness-accepted}
 use Rattle.partition.specs.declared.Judgement.the-variants.{Pass, Fail}
 use Rattle.partition.specs.declared.search.Best.{Best}
 use Rattle.partition.specs.Answer.{Answer, refused, told, judged, answerOf, Reply, replyOf, faultCauseOf}

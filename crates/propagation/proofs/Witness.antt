@@ -15,7 +15,7 @@ use Rattle.plan.specs.declared.Plan.{Plan}
 use Rattle.plan.specs.Plan.{hears}
 use Rattle.propagation.specs.FaultSet.{hearsMany, isFaultSet}
 use Rattle.propagation.specs.Closure.{joins, reached, rest, cutOff}
-use Rattle.propagation.specs.Verdict.{defeats, Found, none, found, better, bestBelow, Verdict, verdictOf, verdict, isPartition, accepts}
+use Rattle.propagation.specs.Verdict.{defeats, Found, none, found, better, bestBelow, Ahead, verdictOf, verdict, Fails, isPartition, accepts}
 use Rattle.propagation.proofs.Faults.{fault-below, fault-source}
 use Rattle.propagation.proofs.Growth.{joins-good, joins-why, joins-source, joins-many, reached-closed, reached-source, reached-below, reached-good, reached-least}
 
@@ -66,10 +66,7 @@ unfolding defeats
 undefeated p s h d =
     ⊎-elim (λ e. eqb-true (cutOff p s) 0 e) (λ e. clash (and-i _ _ h (not-i e)) d) (decide (eqb (cutOff p s) 0))
 
--- ---- the least: fewer members, or as many and no greater as a number
-
-unfoldable pub Ahead : Plan → ℕ → ℕ → Type 0
-Ahead p a b = (size (p .n) a < size (p .n) b) ⊎ ((size (p .n) a ≡ size (p .n) b) × (a ≤ b))
+-- ---- the least
 
 -- of the sets below m: none defeats the plan, or the one found does and is ahead of all that do
 unfoldable pub IsBest : Plan → ℕ → Found → Type 0
@@ -118,13 +115,6 @@ best-below p zero = λ s k. absurd (not-suc-le-zero k)
 best-below p (suc m) = better-best p m (bestBelow p m) (best-below p m)
 
 -- ---- the verdict
-
--- a verdict of fail: its F defeats the plan, L and R are F's, and every other set that defeats the plan has more members, or as many and is greater
-pub record Fails (p : Plan) (v : Verdict) : Type 0 where
-  pub beaten : defeats p (v .f) ≡ true
-  pub l-is : v .l ≡ reached p (v .f)
-  pub r-is : v .r ≡ cutOff p (v .f)
-  pub least : (s : ℕ) → defeats p s ≡ true → Ahead p (v .f) s
 
 defeats-below : (p : Plan) (s : ℕ) → defeats p s ≡ true → s < 2 ^ p .n
 defeats-below p s h = fault-below p s (defeats-fault p s h)

@@ -1,5 +1,7 @@
 -- The verdict with its witness, and the witness check (document 01, "Verdict and witness"). Assumes nothing.
-use Prim.Native.Nat.{ℕ, zero, suc, _+_, _^_}
+use Prim.Native.Nat.{ℕ, zero, suc, _+_, _^_, _≤_, _<_}
+use mathlib.Core.Path.{_≡_}
+use mathlib.Core.Logic.{_⊎_}
 use mathlib.Core.Bool.{Bool, true, false, not}
 use lib.Dec.{eqb, ltb}
 use Rattle.sets.specs.Tests.{_and_, _implies_, pick}
@@ -42,6 +44,16 @@ verdictOf p (found s) = record { passed = false; f = s; l = reached p s; r = cut
 
 unfoldable pub verdict : Plan → Verdict
 verdict p = verdictOf p (bestBelow p (2 ^ p .n))
+
+-- that the witness is the least (proofs/Witness.antt, `verdict-fail`): a comes before b if it has fewer members, or as many and is no greater as a number
+unfoldable pub Ahead : Plan → ℕ → ℕ → Type 0
+Ahead p a b = (size (p .n) a < size (p .n) b) ⊎ ((size (p .n) a ≡ size (p .n) b) × (a ≤ b))
+
+pub record Fails (p : Plan) (v : Verdict) : Type 0 where
+  pub beaten : defeats p (v .f) ≡ true
+  pub l-is : v .l ≡ reached p (v .f)
+  pub r-is : v .r ≡ cutOff p (v .f)
+  pub least : (s : ℕ) → defeats p s ≡ true → Ahead p (v .f) s
 
 -- the witness check: F, L, R are a partition of the terminals, the source is in L, R is non-empty, F is a fault set, no member of R hears the source,
 -- and none hears f + 1 members of L
