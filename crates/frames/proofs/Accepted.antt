@@ -15,11 +15,11 @@ use Rattle.sets.specs.Tests.{_and_, _or_, pick}
 use Rattle.sets.specs.Sets.{mem, mask, with, within}
 use Rattle.sets.proofs.Bools.{and-l, and-r, and-i, and-yes, or-no, not-i, not-e, not-no, pick-yes, pick-case}
 use Rattle.sets.proofs.Laws.{equal-or-not, below-or-not, mem-zero, mem-above, set-ext, mask-lt, mem-mask, mem-mask-above, all-at, all-i}
-use Rattle.terminal.specs.Answer.{inRange, hearsSoundly}
+use Rattle.quorum.specs.Quorum.{inRange, hearsSoundly}
 use Rattle.plan.specs.declared.Plan.{Plan}
 use Rattle.plan.specs.Plan.{heardBy, hears, rowSound, linksSound, causeOf}
 use Rattle.plan.proofs.Laws.{Sound, sound, tests}
-use Rattle.partition.specs.Answer.{faultCauseOf}
+use Rattle.faults.specs.Check.{faultCauseOf}
 use Rattle.lines.specs.declared.Frame.{Frame}
 use Rattle.lines.specs.declared.Frame.the-variants.{Foreign, Unknown, Head, Link, FaultSet, Start, Message}
 use Rattle.lines.specs.Frames.{frameOf}

@@ -10,7 +10,7 @@ use borrow.Author.Tests.{eq-eqb, ne-eqb, lt-ltb, le-ltb, le-leb, lt-leb, leb-tru
 use Rattle.sets.specs.Tests.{_and_, pick}
 use Rattle.sets.specs.Sets.{mem}
 use Rattle.sets.proofs.Bools.{and-l, and-r, and-i, and-yes, and-no-l, and-no-r, not-i, not-yes, pick-yes, pick-no}
-use Rattle.terminal.specs.Answer.{inRange}
+use Rattle.quorum.specs.Quorum.{inRange}
 use Rattle.plan.specs.Plan.{hears}
 use Rattle.lines.specs.declared.Frame.{Frame}
 use Rattle.lines.specs.declared.Frame.the-variants.{Foreign, Unknown, Head, Link, FaultSet, Start, Message}

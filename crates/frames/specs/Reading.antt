@@ -6,10 +6,10 @@ use lib.Dec.{eqb, leb, ltb}
 use lib.ListN.{length, getD, set, replicate}
 use Rattle.sets.specs.Tests.{_and_, _or_, pick}
 use Rattle.sets.specs.Sets.{mem, with}
-use Rattle.terminal.specs.Answer.{inRange}
+use Rattle.quorum.specs.Quorum.{inRange}
 use Rattle.plan.specs.declared.Plan.{Plan}
 use Rattle.plan.specs.Plan.{heardBy, hears}
-use Rattle.partition.specs.Answer.{faultCauseOf}
+use Rattle.faults.specs.Check.{faultCauseOf}
 use Rattle.lines.specs.declared.Frame.{Frame}
 use Rattle.lines.specs.declared.Frame.the-variants.{Foreign, Unknown, Head, Link, FaultSet, Start, Message}
 use Rattle.lines.specs.Frames.{frameOf}

@@ -4,12 +4,12 @@ ghost use Prim.Native.Nat.{_<_, _≤_};
 ghost use lib.Dec.{eqb};
 ghost use lib.ListN.{length, set};
 ghost use Rattle.sets.specs.Tests.{pick};
-ghost use Rattle.partition.specs.Answer.{faultNumberOf};
+ghost use Rattle.faults.specs.Check.{faultNumberOf};
 ghost use Rattle.lines.specs.declared.Frame.the-variants.{Head, Link, FaultSet, Start};
 ghost use Rattle.frames.specs.Reading.{placeOf, headCause, linkCause, faultSetCause, startCause, isWord, messageCause, causeIn, linked, after, wordsAfter};
 use super::Progress;
 use lines::Frame;
-use partition::FaultSetCheck;
+use faults::FaultSetCheck;
 use plan::Plan;
 
 // The cause that refuses a frame, 0 for none; and what is known after it where it is accepted.
@@ -27,7 +27,7 @@ fn head(p: Progress, n: u8, source: u8, f: u8) -> Told
             progress: p,
         };
     }
-    if terminal::in_range(n as usize, source as usize, f as usize) {
+    if quorum::in_range(n as usize, source as usize, f as usize) {
         return Told {
             cause: 0,
             progress: Progress {
@@ -135,7 +135,7 @@ fn fault_set(p: Progress, s: u32) -> Told
             progress: p,
         };
     }
-    let cause = fault_number(partition::check_fault_set(plan, s));
+    let cause = fault_number(faults::check_fault_set(plan, s));
     if cause != 0 {
         return Told {
             cause: cause,

@@ -10,10 +10,10 @@ use Rattle.sets.specs.Tests.{pick}
 use Rattle.sets.proofs.Bools.{and-l, pick-yes, pick-no}
 use Rattle.plan.specs.declared.Plan.{Plan}
 use Rattle.plan.proofs.Laws.{sound}
-use Rattle.propagation.specs.Verdict.{defeats}
-use Rattle.propagation.proofs.Faults.{fault-below}
-use Rattle.propagation.proofs.Growth.{reached-below}
-use Rattle.propagation.proofs.Witness.{cut-below}
+use Rattle.closure.specs.Verdict.{defeats}
+use Rattle.closure.proofs.Faults.{fault-below}
+use Rattle.closure.proofs.Growth.{reached-below}
+use Rattle.closure.proofs.Witness.{cut-below}
 use Rattle.partition.specs.declared.Judgement.{Judgement}
 use Rattle.partition.specs.declared.Judgement.the-variants.{Pass, Fail, WrongRange, WrongLink}
 use Rattle.partition.specs.Answer.{Answer, told, answerOf}

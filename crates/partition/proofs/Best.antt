@@ -14,11 +14,11 @@ use Rattle.sets.proofs.Masks.{mem-or}
 use Rattle.plan.specs.declared.Plan.{Plan}
 use Rattle.plan.specs.Plan.{causeOf}
 use Rattle.plan.proofs.Laws.{sound}
-use Rattle.propagation.specs.Closure.{reached}
-use Rattle.propagation.specs.Verdict.{Ahead, defeats, Found, none, found, bestBelow}
-use Rattle.propagation.proofs.Faults.{fault-below, fault-source}
-use Rattle.propagation.proofs.Growth.{joins-source, reached-closed, reached-source}
-use Rattle.propagation.proofs.Witness.{IsBest, best-below, defeats-fault}
+use Rattle.closure.specs.Closure.{reached}
+use Rattle.closure.specs.Verdict.{Ahead, defeats, Found, none, found, bestBelow}
+use Rattle.closure.proofs.Faults.{fault-below, fault-source}
+use Rattle.closure.proofs.Growth.{joins-source, reached-closed, reached-source}
+use Rattle.closure.proofs.Witness.{IsBest, best-below, defeats-fault}
 use Rattle.partition.specs.declared.search.Best.{Best}
 use Rattle.partition.specs.Search.{direct, key, StandsFor, Between, Part, Least}
 use Rattle.partition.proofs.Rows.{direct-mem, direct-below, one-below, one-only, one-mem}

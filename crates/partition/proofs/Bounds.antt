@@ -12,7 +12,8 @@ use lib.Pow.{pow-mono}
 use mir.Val.{boolByte}
 use borrow.Author.Tests.{ltb-true, ltb-false}
 use Rattle.sets.specs.Tests.{_and_, _implies_}
-use Rattle.sets.specs.Sets.{mem, all, count, many, size}
+use Rattle.sets.specs.Sets.{mem, all, count, size}
+use Rattle.quorum.specs.Quorum.{enough}
 use Rattle.sets.proofs.Bools.{clash, decide, and-l, and-r, and-i, and-no-r, or-e, or-l, or-r, not-i, not-e, not-yes, no-by, implies-i, implies-e}
 use Rattle.sets.proofs.Laws.{mem-zero, mem-below, mask-lt, all-i, all-at, some-member}
 use Rattle.sets.proofs.Masks.{mem-and, mem-or, mem-not, ones-count}
@@ -20,13 +21,14 @@ use Rattle.sets.proofs.Operations.{test-inside}
 use Rattle.plan.specs.declared.Plan.{Plan}
 use Rattle.plan.specs.Plan.{hears}
 use Rattle.plan.proofs.Laws.{Sound}
-use Rattle.propagation.specs.FaultSet.{hearsMany, isFaultSet}
-use Rattle.propagation.specs.Closure.{reached, cutOff}
-use Rattle.propagation.proofs.Faults.{fault-below, fault-bound, hears-many-mono}
-use Rattle.propagation.proofs.Growth.{joins-many, reached-closed}
-use Rattle.propagation.proofs.Witness.{cut-below, cut-good, cut-unreached, defeats-fault, defeats-cuts}
-use Rattle.partition.specs.Search.{outside, over, key, Inside, Apart, Settled, Hopeless, Closed, Spread, Grown}
-use Rattle.partition.proofs.Rows.{over-mem, over-below, over-why, over-low, word-of}
+use Rattle.closure.specs.FaultSet.{hearsEnough, isFaultSet}
+use Rattle.closure.specs.Closure.{reached, cutOff}
+use Rattle.closure.proofs.Faults.{fault-below, fault-bound, hears-enough-mono}
+use Rattle.closure.proofs.Growth.{joins-enough, reached-closed}
+use Rattle.closure.proofs.Witness.{cut-below, cut-good, cut-unreached, defeats-fault, defeats-cuts}
+use Rattle.partition.specs.Search.{outside, key, Inside, Apart, Settled, Hopeless, Closed, Spread, Grown}
+use Rattle.faults.specs.Rows.{over}
+use Rattle.faults.proofs.Rows.{over-mem, over-below, over-why, over-low, word-of}
 use Rattle.partition.proofs.Members.{outside-i, count-split, count-join, grows, inside-le, key-later, size-twenty}
 
 -- ---- a set with whoever joins it
@@ -49,7 +51,7 @@ module _ (p : Plan) (sound : Sound p) (s wall l o : ℕ) (w : wall < 2 ^ 32) (h 
       let both = sym (mem-and b o (4294967295 - wall)) ∙ m in
       let k = mem-below (p .n) b o (over-below p sound l o e) (and-l _ _ both) in
       c b k (not-e _ (sym (outer b k) ∙ and-r _ _ both))
-      (hears-many-mono p b l t (λ a x. h .least t i c a) (sym (over-mem p sound l o b e k) ∙ and-l _ _ both))
+      (hears-enough-mono p b l t (λ a x. h .least t i c a) (sym (over-mem p sound l o b e k) ∙ and-l _ _ both))
 
   pub spreading-next : Spreading p s wall (bitOr l (bitAnd o (4294967295 - wall)))
   spreading-next = record {
@@ -79,9 +81,9 @@ module _ (p : Plan) (sound : Sound p) (s wall l o : ℕ) (w : wall < 2 ^ 32) (h 
 -- ---- inn with all that it forces
 
 module _ {p : Plan} {inn r : ℕ} (h : Spread p inn 0 r) where
-  pub forced-bounded : all (p .n) (λ b. not (mem b r) implies not (hearsMany p b r)) ≡ true
+  pub forced-bounded : all (p .n) (λ b. not (mem b r) implies not (hearsEnough p b r)) ≡ true
   forced-bounded =
-      all-i (p .n) (λ b. not (mem b r) implies not (hearsMany p b r))
+      all-i (p .n) (λ b. not (mem b r) implies not (hearsEnough p b r))
       (λ b k. implies-i _ _ (λ z. not-i (no-by (λ y. clash (h .closed b k (mem-zero b) y) (not-e (mem b r) z)))))
 
   -- whoever hears more than f members of a fault set is one
@@ -91,36 +93,36 @@ module _ {p : Plan} {inn r : ℕ} (h : Spread p inn 0 r) where
 
 -- ---- faulty or reached
 
--- how many of s terminal b hears
+-- how enough of s terminal b hears
 abbrev ears : Plan → ℕ → ℕ → ℕ
 ears p b s = count (p .n) (λ a. hears p b a and mem a s)
 
-ears-few : (p : Plan) (b s : ℕ) → hearsMany p b s ≡ false → ears p b s ≤ p .f
-unfolding hearsMany many
+ears-few : (p : Plan) (b s : ℕ) → hearsEnough p b s ≡ false → ears p b s ≤ p .f
+unfolding hearsEnough enough
 ears-few p b s e = ltb-false (p .f) (ears p b s) e
 
 module _ (p : Plan) (sound : Sound p) (s : ℕ) (i : isFaultSet p s ≡ true) (known : ℕ) (u : Settled p s known) (b : ℕ) (k : b < p .n) where
-  hearing-reached : hearsMany p b (reached p s) ≡ true → (mem b s ≡ true) ⊎ (mem b (reached p s) ≡ true)
+  hearing-reached : hearsEnough p b (reached p s) ≡ true → (mem b s ≡ true) ⊎ (mem b (reached p s) ≡ true)
   hearing-reached h =
-      ⊎-elim inl (λ g. inr (reached-closed p s (sound .source-below) b k (joins-many p s (reached p s) b g h))) (decide (mem b s))
+      ⊎-elim inl (λ g. inr (reached-closed p s (sound .source-below) b k (joins-enough p s (reached p s) b g h))) (decide (mem b s))
 
   -- a settled terminal that is not faulty is reached
-  pub near-settled : (out : ℕ) → Apart out s → hearsMany p b (bitAnd known out) ≡ true
+  pub near-settled : (out : ℕ) → Apart out s → hearsEnough p b (bitAnd known out) ≡ true
       → (mem b s ≡ true) ⊎ (mem b (reached p s) ≡ true)
   near-settled out lacks h =
       hearing-reached
-      (hears-many-mono p b (bitAnd known out) (reached p s)
+      (hears-enough-mono p b (bitAnd known out) (reached p s)
       (λ a l m.
       let both = sym (mem-and a known out) ∙ m in
       ⊎-elim (λ y. clash y (lacks a (and-r _ _ both))) (λ y. y) (u a (and-l _ _ both)))
       h)
 
   -- of more than 2 f settled ones that a good terminal hears, at most f are faulty
-  pub far-settled : many (p .n) (2 * p .f) (λ a. hears p b a and mem a known) ≡ true → (mem b s ≡ true) ⊎ (mem b (reached p s) ≡ true)
-  unfolding many
-  far-settled h = ⊎-elim inl (λ g. ⊎-elim hearing-reached (λ r. absurd (few g r)) (decide (hearsMany p b (reached p s)))) (decide (mem b s))
+  pub far-settled : enough (p .n) (2 * p .f) (λ a. hears p b a and mem a known) ≡ true → (mem b s ≡ true) ⊎ (mem b (reached p s) ≡ true)
+  unfolding enough
+  far-settled h = ⊎-elim inl (λ g. ⊎-elim hearing-reached (λ r. absurd (few g r)) (decide (hearsEnough p b (reached p s)))) (decide (mem b s))
     where
-      few : mem b s ≡ false → hearsMany p b (reached p s) ≡ false → ⊥
+      few : mem b s ≡ false → hearsEnough p b (reached p s) ≡ false → ⊥
       few g r =
           let c : 2 * p .f < ears p b known = ltb-true (2 * p .f) (ears p b known) h in
           let x : ears p b s ≤ p .f = ears-few p b s (fault-bound p s i b k g) in
@@ -163,13 +165,13 @@ module _ (p : Plan) (sound : Sound p) (out known s o q : ℕ) (h : Grown p out k
 abbrev away : ℕ → ℕ → ℕ
 away known inn = bitAnd known (4294967295 - inn)
 
--- how many members a set before best may have, and f
+-- how enough members a set before best may have, and f
 abbrev pub need : Plan → ℕ → ℕ → ℕ
 need p inn best = p .f + best / 1048576 + boolByte (ltb inn (bitAnd best 1048575))
 
 module _ (p : Plan) (sound : Sound p) (inn known : ℕ) (hi : inn < 2 ^ p .n) (hk : known < 2 ^ p .n) where
   -- whoever is cut off hears at most f that are reached: the others of known that it hears are in the fault set, beside inn
-  few-heard : (s b : ℕ) → Inside inn s → Settled p s known → hearsMany p b (reached p s) ≡ false
+  few-heard : (s b : ℕ) → Inside inn s → Settled p s known → hearsEnough p b (reached p s) ≡ false
       → ones inn + ears p b (away known inn) ≤ size (p .n) s + p .f
   unfolding size
   few-heard s b i u r =
@@ -193,7 +195,7 @@ module _ (p : Plan) (sound : Sound p) (inn known : ℕ) (hi : inn < 2 ^ p .n) (h
           (λ v. inr (and-i _ _ (and-l _ _ m) v)) (u a (and-l _ _ both))
 
   module _ (rest best : ℕ) (e : rest ≡ outside (p .n) inn known) where
-    -- where everyone of the rest hears too many, no set that defeats the plan comes before best
+    -- where everyone of the rest hears too enough, no set that defeats the plan comes before best
     hopeless-is : ((b : ℕ) → b < p .n → mem b rest ≡ true → need p inn best ≤ ones inn + ears p b (away known inn)) → Hopeless p inn known best
     hopeless-is enough s d i u = go (some-member (p .n) (cutOff p s) (cut-below p s) (defeats-cuts p s d))
       where
@@ -206,8 +208,8 @@ module _ (p : Plan) (sound : Sound p) (inn known : ℕ) (hi : inn < 2 ^ p .n) (h
             let good = cut-good p s b k m in
             let unreached = cut-unreached p s b k m in
             let few = few-heard s b i u
-            (no-by (λ y. clash (reached-closed p s (sound .source-below) b k (joins-many p s (reached p s) b good y)) unreached)) in
-            let many = enough b k
+            (no-by (λ y. clash (reached-closed p s (sound .source-below) b k (joins-enough p s (reached p s) b good y)) unreached)) in
+            let enough = enough b k
             (outside-i (p .n) inn known rest b e k (no-by (λ y. clash (i b y) good))
             (no-by (λ y. ⊎-elim (λ v. clash v good) (λ v. clash v unreached) (u b y)))) in
             key-later best inn s (inside-le inn s (low hi) (low below) i) (omega (arith, size-twenty (p .n) s (sound .twenty) below))
@@ -217,7 +219,7 @@ module _ (p : Plan) (sound : Sound p) (inn known : ℕ) (hi : inn < 2 ^ p .n) (h
 
     pub hopeless-heard : (o : ℕ) → ones inn < need p inn best → o ≡ over (p .rows) (need p inn best - ones inn - 1) (away known inn)
         → eqb (bitAnd rest (4294967295 - o)) 0 ≡ true → Hopeless p inn known best
-    unfolding many
+    unfolding enough
     hopeless-heard o l q z =
         hopeless-is
         (λ b k m.

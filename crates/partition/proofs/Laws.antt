@@ -12,13 +12,14 @@ use Rattle.sets.proofs.Laws.{count-le}
 use Rattle.plan.specs.declared.Plan.{Plan}
 use Rattle.plan.specs.Plan.{causeOf}
 use Rattle.plan.proofs.Laws.{Sound, sound}
-use Rattle.propagation.specs.FaultSet.{hearsMany, isFaultSet}
-use Rattle.propagation.specs.Closure.{reached, rest, cutOff}
-use Rattle.propagation.specs.Verdict.{Ahead, defeats, Found, none, found, bestBelow, verdictOf, verdict, accepts}
-use Rattle.propagation.proofs.Witness.{IsBest, best-below, verdict-pass, verdict-fail, witness-accepted}
+use Rattle.closure.specs.FaultSet.{hearsEnough, isFaultSet}
+use Rattle.closure.specs.Closure.{reached, rest, cutOff}
+use Rattle.closure.specs.Verdict.{Ahead, defeats, Found, none, found, bestBelow, verdictOf, verdict, accepts}
+use Rattle.closure.proofs.Witness.{IsBest, best-below, verdict-pass, verdict-fail, witness-accepted}
 use Rattle.partition.specs.declared.Judgement.the-variants.{Pass, Fail}
 use Rattle.partition.specs.declared.search.Best.{Best}
-use Rattle.partition.specs.Answer.{Answer, refused, told, judged, answerOf, Reply, replyOf, faultCauseOf}
+use Rattle.partition.specs.Answer.{Answer, refused, told, judged, answerOf, Reply, replyOf}
+use Rattle.faults.specs.Check.{faultCauseOf}
 use Rattle.partition.specs.Search.{StandsFor}
 
 -- ---- the search's memory read as a verdict
@@ -130,49 +131,3 @@ pub reply-refused : (p : Plan) (f l r k : ℕ) → k ≡ causeOf p → (k ≡ 0 
 unfolding replyOf
 reply-refused p f l r k e z =
     ap (λ (y : ℕ). record { number = y; accepted = 0 }) e ∙ sym (pick-no _ _ _ (ne-eqb (causeOf p) 0 (λ y. z (e ∙ y))))
-
--- ---- the fault set's check, by the plan's cause, the members and the bound
-
-module _ (p : Plan) (s : ℕ) where
-  pub fault-bounded : causeOf p ≡ 0 → within (p .n) s and not (mem (p .source) s) ≡ true
-      → all (p .n) (λ b. not (mem b s) implies not (hearsMany p b s)) ≡ true → 0 ≡ faultCauseOf p s
-  unfolding faultCauseOf isFaultSet
-  fault-bounded e m b =
-      sym
-      (pick-yes _ _ _ (eq-eqb (causeOf p) 0 e) ∙ pick-yes _ _ _ m
-      ∙ pick-yes _ _ _ (and-i _ _ (and-l _ _ m) (and-i _ _ (and-r _ _ m) b)))
-
-  pub fault-unbounded : causeOf p ≡ 0 → within (p .n) s and not (mem (p .source) s) ≡ true
-      → all (p .n) (λ b. not (mem b s) implies not (hearsMany p b s)) ≡ false → 8 ≡ faultCauseOf p s
-  unfolding faultCauseOf isFaultSet
-  fault-unbounded e m b =
-      sym (pick-yes _ _ _ (eq-eqb (causeOf p) 0 e) ∙ pick-yes _ _ _ m ∙ pick-no _ _ _ (and-no-r _ _ (and-no-r _ _ b)))
-
-  pub fault-members : causeOf p ≡ 0 → within (p .n) s and not (mem (p .source) s) ≡ false → 7 ≡ faultCauseOf p s
-  unfolding faultCauseOf
-  fault-members e m = sym (pick-yes _ _ _ (eq-eqb (causeOf p) 0 e) ∙ pick-no _ _ _ m)
-
-  pub fault-refused : (k : ℕ) → k ≡ causeOf p → (k ≡ 0 → ⊥) → k ≡ faultCauseOf p s
-  unfolding faultCauseOf
-  fault-refused k e z = e ∙ sym (pick-no _ _ _ (ne-eqb (causeOf p) 0 (λ y. z (e ∙ y))))
-
-  -- what no cause means: a sound plan, and a fault set of it
-  pub fault-sound : faultCauseOf p s ≡ 0 → (causeOf p ≡ 0) × (isFaultSet p s ≡ true)
-  unfolding faultCauseOf
-  fault-sound =
-      pick-case (λ (x : ℕ). x ≡ 0 → (causeOf p ≡ 0) × (isFaultSet p s ≡ true)) (eqb (causeOf p) 0)
-      (pick (within (p .n) s and not (mem (p .source) s)) (pick (isFaultSet p s) 0 8) 7) (causeOf p)
-      (λ e.
-      pick-case (λ (x : ℕ). x ≡ 0 → (causeOf p ≡ 0) × (isFaultSet p s ≡ true)) (within (p .n) s and not (mem (p .source) s))
-      (pick (isFaultSet p s) 0 8) 7
-      (λ m.
-      pick-case (λ (x : ℕ). x ≡ 0 → (causeOf p ≡ 0) × (isFaultSet p s ≡ true)) (isFaultSet p s) 0 8
-      (λ b z. (eqb-true (causeOf p) 0 e, b)) (λ b z. absurd (omega arith)))
-      (λ m z. absurd (omega arith)))
-      (λ e z. clash (eq-eqb (causeOf p) 0 z) e)
-
-  -- and a fault set of a sound plan has no cause against it
-  pub fault-is : causeOf p ≡ 0 → isFaultSet p s ≡ true → faultCauseOf p s ≡ 0
-  unfolding faultCauseOf isFaultSet
-  fault-is c h =
-      pick-yes _ _ _ (eq-eqb _ _ c) ∙ pick-yes _ _ _ (and-i _ _ (and-l _ _ h) (and-l _ _ (and-r _ _ h))) ∙ pick-yes _ _ _ h

@@ -15,11 +15,11 @@ use Rattle.sets.proofs.Laws.{mem-zero, set-ext, some-member, count-mono, count-
 use Rattle.sets.proofs.Masks.{mem-and, mem-or}
 use Rattle.plan.specs.declared.Plan.{Plan}
 use Rattle.plan.proofs.Laws.{sound}
-use Rattle.propagation.specs.FaultSet.{isFaultSet}
-use Rattle.propagation.specs.Closure.{reached, rest, cutOff}
-use Rattle.propagation.specs.Verdict.{defeats}
-use Rattle.propagation.proofs.Faults.{fault-below}
-use Rattle.propagation.proofs.Witness.{defeats-fault}
+use Rattle.closure.specs.FaultSet.{isFaultSet}
+use Rattle.closure.specs.Closure.{reached, rest, cutOff}
+use Rattle.closure.specs.Verdict.{defeats}
+use Rattle.closure.proofs.Faults.{fault-below}
+use Rattle.closure.proofs.Witness.{defeats-fault}
 use Rattle.partition.specs.Search.{outside, key, Inside, Between, Settled, Hopeless, Spread, Grown, Part, Least}
 use Rattle.partition.proofs.Members.{outside-mem, outside-i, outside-below, with-below, with-keeps, with-one, with-why, key-mono}
 use Rattle.partition.proofs.Bounds.{forced-bounded, forced-least}

@@ -1,21 +1,16 @@
 -- What the verdict and the witness check answer for every plan record: document 01's number and values for each case. Assumes nothing.
 use Prim.Native.Nat.{ℕ}
-use mathlib.Core.Bool.{not}
 use lib.Dec.{eqb}
-use Rattle.sets.specs.Tests.{_and_, pick}
-use Rattle.sets.specs.Sets.{mem, within}
+use Rattle.sets.specs.Tests.{pick}
 use Rattle.plan.specs.declared.Plan.{Plan}
 use Rattle.plan.specs.Plan.{causeOf}
-use Rattle.propagation.specs.FaultSet.{isFaultSet}
-use Rattle.propagation.specs.Verdict as theory
-pub use Rattle.propagation.specs.Answer.{Answer, refused}
-unfoldable pub use Rattle.propagation.specs.Answer.{judged, answerOf}
+use Rattle.closure.specs.Verdict as theory
+pub use Rattle.closure.specs.Answer.{Answer, refused}
+unfoldable pub use Rattle.closure.specs.Answer.{judged, answerOf}
 use Rattle.partition.specs.declared.Judgement.{Judgement}
 use Rattle.partition.specs.declared.Judgement.the-variants as judgement
 use Rattle.partition.specs.declared.WitnessCheck.{WitnessCheck}
 use Rattle.partition.specs.declared.WitnessCheck.the-variants as check
-use Rattle.partition.specs.declared.FaultSetCheck.{FaultSetCheck}
-use Rattle.partition.specs.declared.FaultSetCheck.the-variants as faults
 
 abbrev pub told : Judgement → Answer
 told judgement.Pass = record { number = 0; failed = 0; f = 0; l = 0; r = 0 }
@@ -37,15 +32,3 @@ replied check.WrongLink = record { number = 5; accepted = 0 }
 unfoldable pub replyOf : Plan → ℕ → ℕ → ℕ → Reply
 replyOf p f l r =
     pick (eqb (causeOf p) 0) (record { number = 0; accepted = pick (theory.accepts p f l r) 1 0 }) (record { number = causeOf p; accepted = 0 })
-
--- the check of a proposed fault set: 4, 5, then 7 where it names the source or a number at or above n, then 8 where a good terminal hears more than f
-abbrev pub faultNumberOf : FaultSetCheck → ℕ
-faultNumberOf faults.Sound = 0
-faultNumberOf faults.WrongRange = 4
-faultNumberOf faults.WrongLink = 5
-faultNumberOf faults.WrongMember = 7
-faultNumberOf faults.OverBound = 8
-
-unfoldable pub faultCauseOf : Plan → ℕ → ℕ
-faultCauseOf p s =
-    pick (eqb (causeOf p) 0) (pick (within (p .n) s and not (mem (p .source) s)) (pick (isFaultSet p s) 0 8) 7) (causeOf p)

@@ -4,20 +4,15 @@ use mathlib.Core.Bool.{true, false, not}
 use mathlib.Core.Logic.{_⊎_}
 use mathlib.Core.List.{List}
 use mathlib.Core.Path.{_≡_}
-use lib.Dec.{ltb}
-use lib.ListN.{getD}
 use Rattle.sets.specs.Tests.{_and_}
-use Rattle.sets.specs.Sets.{mem, count, mask, size, singleton}
+use Rattle.sets.specs.Sets.{mem, mask, size, singleton}
 use Rattle.plan.specs.declared.Plan.{Plan}
 use Rattle.plan.specs.Plan.{causeOf}
-use Rattle.propagation.specs.FaultSet.{hearsMany, isFaultSet}
-use Rattle.propagation.specs.Closure.{reached}
-use Rattle.propagation.specs.Verdict.{defeats, Found, none, found}
+use Rattle.closure.specs.FaultSet.{hearsEnough, isFaultSet}
+use Rattle.closure.specs.Closure.{reached}
+use Rattle.closure.specs.Verdict.{defeats, Found, none, found}
+use Rattle.faults.specs.Rows.{over}
 use Rattle.partition.specs.declared.search.Best.{Best}
-
--- the terminals that hear more than f members of a
-unfoldable pub over : List ℕ → ℕ → ℕ → ℕ
-over rows f a = mask 20 (λ b. ltb f (count 32 (λ i. mem i (getD rows b 0) and mem i a)))
 
 -- the terminals that hear the source
 unfoldable pub direct : List ℕ → ℕ → ℕ
@@ -65,7 +60,7 @@ Hopeless p inn known best = (s : ℕ) → defeats p s ≡ true → Inside inn s 
 
 -- whoever is outside the wall and hears more than f of s is in s
 abbrev pub Closed : Plan → ℕ → ℕ → Type 0
-Closed p wall s = (b : ℕ) → b < p .n → mem b wall ≡ false → hearsMany p b s ≡ true → mem b s ≡ true
+Closed p wall s = (b : ℕ) → b < p .n → mem b wall ≡ false → hearsEnough p b s ≡ true → mem b s ≡ true
 
 -- r is the least closed set that has s. Without a wall it is s with all that it forces: every fault set is closed
 pub record Spread (p : Plan) (s wall r : ℕ) : Type 0 where

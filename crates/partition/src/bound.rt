@@ -16,7 +16,7 @@ pub(crate) fn settled(p: Plan, out: u32, known: u32) -> u32
     let mut s = known;
     loop {
         let f = p.f as u32;
-        let next = s | search::over(rows, f, s & out) | search::over(rows, 2 * f, s);
+        let next = s | faults::over(rows, f, s & out) | faults::over(rows, 2 * f, s);
         if next == s {
             return s;
         }

@@ -5,8 +5,8 @@ ghost use mathlib.Core.Bool.{true, false};
 ghost use Prim.Native.Nat.{_<_, _^_};
 ghost use Rattle.sets.specs.Sets.{mem};
 ghost use Rattle.plan.specs.Plan.{causeOf};
-ghost use Rattle.propagation.specs.FaultSet.{isFaultSet};
-ghost use Rattle.propagation.specs.Verdict.{defeats};
+ghost use Rattle.closure.specs.FaultSet.{isFaultSet};
+ghost use Rattle.closure.specs.Verdict.{defeats};
 ghost use Rattle.partition.specs.Search.{SomeOf, outside, direct, key, Hopeless, Part, Least};
 use super::bound;
 use super::search;
@@ -97,7 +97,7 @@ fn hopeless(p: Plan, inn: u32, known: u32, rest: u32, best: u32) -> bool
     if need <= own {
         return true;
     }
-    rest & !search::over(rows, need - own - 1, known & !inn) == 0
+    rest & !faults::over(rows, need - own - 1, known & !inn) == 0
 }
 
 // The lesser of best and the part's least key, where inn itself does not defeat the plan: first the

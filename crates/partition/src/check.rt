@@ -5,8 +5,8 @@ ghost use Prim.Native.Nat.{_<_, _≤_, _^_};
 ghost use Rattle.sets.specs.Tests.{_and_, _implies_};
 ghost use Rattle.sets.specs.Sets.{mem, all, within};
 ghost use Rattle.plan.specs.Plan.{hears, causeOf};
-ghost use Rattle.propagation.specs.FaultSet.{hearsMany, isFaultSet};
-ghost use Rattle.propagation.specs.Verdict.{isPartition, accepts};
+ghost use Rattle.closure.specs.FaultSet.{hearsEnough, isFaultSet};
+ghost use Rattle.closure.specs.Verdict.{isPartition, accepts};
 use super::search;
 use plan::Plan;
 
@@ -26,23 +26,20 @@ fn is_partition(n: usize, f: u32, l: u32, r: u32) -> bool
 }
 
 fn is_fault_set(p: Plan, f: u32) -> bool
-    requires { ⌜ (causeOf p ≡ 0) × (f < 2 ^ p .n) ⌝ }
+    requires { ⌜ causeOf p ≡ 0 ⌝ }
     ensures { λ x. ⌜ x ≡ isFaultSet p f ⌝ }
 {
-    if sets::member(f, p.source) {
-        return false;
-    }
-    search::bounded(p, f)
+    faults::number(faults::check_fault_set(p, f)) == 0
 }
 
 // No member of R hears the source, and none hears more than f members of L.
 fn cut_off(p: Plan, l: u32, r: u32) -> bool
     requires { ⌜ causeOf p ≡ 0 ⌝ }
-    ensures { λ x. ⌜ x ≡ all (p .n) (λ b. mem b r implies (not (hears p b (p .source)) and not (hearsMany p b l))) ⌝ }
+    ensures { λ x. ⌜ x ≡ all (p .n) (λ b. mem b r implies (not (hears p b (p .source)) and not (hearsEnough p b l))) ⌝ }
 {
     let rows = p.rows;
-    let hearers = search::over(rows, 0, sets::singleton(p.source));
-    (hearers | search::over(rows, p.f as u32, l)) & r == 0
+    let hearers = faults::over(rows, 0, sets::singleton(p.source));
+    (hearers | faults::over(rows, p.f as u32, l)) & r == 0
 }
 
 pub(crate) fn accepts(p: Plan, f: u32, l: u32, r: u32) -> bool
@@ -57,16 +54,6 @@ pub(crate) fn accepts(p: Plan, f: u32, l: u32, r: u32) -> bool
                 }
             }
         }
-    }
-    false
-}
-
-// The set has terminals of the plan only, and not the source.
-pub(crate) fn names_terminals(p: Plan, s: u32) -> bool
-    ensures { λ x. ⌜ x ≡ within (p .n) s and not (mem (p .source) s) ⌝ }
-{
-    if sets::within(s, p.n) {
-        return !sets::member(s, p.source);
     }
     false
 }

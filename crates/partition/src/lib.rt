@@ -7,8 +7,8 @@ mod search;
 ghost use mathlib.Core.Path.{_≡_};
 ghost use mathlib.Core.Bool.{true};
 ghost use Rattle.plan.specs.Plan.{causeOf};
-ghost use Rattle.propagation.specs.Verdict.{verdict, accepts};
-ghost use Rattle.partition.specs.Answer.{told, judged, answerOf, replied, replyOf, faultNumberOf, faultCauseOf};
+ghost use Rattle.closure.specs.Verdict.{verdict, accepts};
+ghost use Rattle.partition.specs.Answer.{told, judged, answerOf, replied, replyOf};
 use plan::Plan;
 use plan::Soundness;
 
@@ -34,21 +34,13 @@ pub enum WitnessCheck {
     WrongLink,
 }
 
-pub enum FaultSetCheck {
-    Sound,
-    WrongRange,
-    WrongLink,
-    WrongMember,
-    OverBound,
-}
-
 // The verdict on a sound plan.
 fn judge(p: Plan) -> Judgement
     requires { ⌜ causeOf p ≡ 0 ⌝ }
     ensures { λ r. ⌜ told r ≡ judged (verdict p) ⌝ }
 {
     let rows = p.rows;
-    let hearers = search::over(rows, 0, sets::singleton(p.source));
+    let hearers = faults::over(rows, 0, sets::singleton(p.source));
     let best = search::search(p, hearers);
     if 20 < best.members {
         return Judgement::Pass;
@@ -87,25 +79,5 @@ pub fn check_witness(p: Plan, f: u32, l: u32, r: u32) -> WitnessCheck
         }
         Soundness::WrongRange => WitnessCheck::WrongRange,
         Soundness::WrongLink => WitnessCheck::WrongLink,
-    }
-}
-
-// Whether the set can be the liars' of the plan.
-pub fn check_fault_set(p: Plan, s: u32) -> FaultSetCheck
-    ensures { λ r. ⌜ faultNumberOf r ≡ faultCauseOf p s ⌝ }
-{
-    let soundness = plan::check(p);
-    match soundness {
-        Soundness::Sound => {
-            if check::names_terminals(p, s) {
-                if search::bounded(p, s) {
-                    return FaultSetCheck::Sound;
-                }
-                return FaultSetCheck::OverBound;
-            }
-            FaultSetCheck::WrongMember
-        }
-        Soundness::WrongRange => FaultSetCheck::WrongRange,
-        Soundness::WrongLink => FaultSetCheck::WrongLink,
     }
 }

@@ -5,10 +5,10 @@ ghost use Prim.Native.Nat.{_<_, _≤_, _^_};
 ghost use Rattle.sets.specs.Tests.{_and_, _implies_};
 ghost use Rattle.sets.specs.Sets.{mem, all, mask};
 ghost use Rattle.plan.specs.Plan.{causeOf};
-ghost use Rattle.propagation.specs.FaultSet.{hearsMany};
-ghost use Rattle.propagation.specs.Closure.{reached};
-ghost use Rattle.propagation.specs.Verdict.{bestBelow};
-ghost use Rattle.partition.specs.Search.{over, direct, Spread, StandsFor};
+ghost use Rattle.closure.specs.FaultSet.{hearsEnough};
+ghost use Rattle.closure.specs.Closure.{reached};
+ghost use Rattle.closure.specs.Verdict.{bestBelow};
+ghost use Rattle.partition.specs.Search.{direct, Spread, StandsFor};
 use super::branch;
 use plan::Plan;
 
@@ -16,29 +16,6 @@ use plan::Plan;
 pub(crate) struct Best {
     pub members: usize,
     pub set: u32,
-}
-
-// The terminals that hear more than f members of a. Every row is counted without a branch.
-pub(crate) fn over(rows: [u32; 20], f: u32, a: u32) -> u32
-    ensures { λ r. ⌜ r ≡ over rows f a ⌝ }
-{
-    let mut found: u32 = 0;
-    let mut b: usize = 0;
-    while b < 20 {
-        let more = (f < u32::count_ones(rows[b] & a)) as u32;
-        found = found | (more << b);
-        b += 1;
-    }
-    found
-}
-
-// Everyone outside s hears at most f of its members.
-pub(crate) fn bounded(p: Plan, s: u32) -> bool
-    requires { ⌜ (causeOf p ≡ 0) × (s < 2 ^ p .n) ⌝ }
-    ensures { λ r. ⌜ r ≡ all (p .n) (λ b. not (mem b s) implies not (hearsMany p b s)) ⌝ }
-{
-    let rows = p.rows;
-    over(rows, p.f as u32, s) & !s == 0
 }
 
 // S with whoever joins it turn by turn: outside the wall, and hearing more than f that are in. It stops
@@ -50,7 +27,7 @@ pub(crate) fn spread(p: Plan, s: u32, wall: u32) -> u32
     let rows = p.rows;
     let mut l = s;
     loop {
-        let next = l | (over(rows, p.f as u32, l) & !wall);
+        let next = l | (faults::over(rows, p.f as u32, l) & !wall);
         if next == l {
             return l;
         }

@@ -10,7 +10,7 @@ use Rattle.sets.specs.Tests.{_and_, pick}
 use Rattle.sets.specs.Sets.{mem, within}
 use Rattle.sets.proofs.Bools.{and-l, and-r, not-e, pick-yes, pick-no, pick-case}
 use Rattle.sets.proofs.Laws.{all-at, mem-below}
-use Rattle.terminal.specs.Answer.{inRange, hearsSoundly}
+use Rattle.quorum.specs.Quorum.{inRange, hearsSoundly}
 use Rattle.plan.specs.declared.Plan.{Plan}
 use Rattle.plan.specs.Plan.{heardBy, hears, rowSound, linksSound, causeOf}
 

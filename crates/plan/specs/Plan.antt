@@ -5,7 +5,7 @@ use lib.Dec.{eqb, ltb}
 use lib.ListN.{getD}
 use Rattle.sets.specs.Tests.{pick}
 use Rattle.sets.specs.Sets.{mem, all}
-use Rattle.terminal.specs.Answer.{inRange, hearsSoundly}
+use Rattle.quorum.specs.Quorum.{inRange, hearsSoundly}
 use Rattle.plan.specs.declared.Plan.{Plan}
 use Rattle.plan.specs.declared.Soundness.{Soundness}
 use Rattle.plan.specs.declared.Soundness.the-variants.{Sound, WrongRange, WrongLink}

@@ -22,7 +22,7 @@ fn row_sound(n: usize, b: usize, row: u32) -> bool
     ensures { λ r. ⌜ r ≡ rowSound n b row ⌝ }
 {
     if b < n {
-        return terminal::hears_soundly(n, b, row);
+        return quorum::hears_soundly(n, b, row);
     }
     row == 0
 }
@@ -46,7 +46,7 @@ pub fn check(p: Plan) -> Soundness
     ensures { λ r. ⌜ numberOf r ≡ causeOf p ⌝ }
 {
     let rows = p.rows;
-    if terminal::in_range(p.n, p.source, p.f) {
+    if quorum::in_range(p.n, p.source, p.f) {
         if links_sound(p.n, rows) {
             return Soundness::Sound;
         }

@@ -14,12 +14,12 @@ use Rattle.terminal.specs.Rule.{start}
 use Rattle.plan.specs.declared.Plan.{Plan}
 use Rattle.plan.specs.Plan.{causeOf}
 use Rattle.plan.proofs.Laws.{Sound, sound}
-use Rattle.propagation.specs.FaultSet.{isFaultSet}
-use Rattle.propagation.specs.Closure.{reached}
-use Rattle.propagation.specs.Verdict.{verdict, accepts}
+use Rattle.closure.specs.FaultSet.{isFaultSet}
+use Rattle.closure.specs.Closure.{reached}
+use Rattle.closure.specs.Verdict.{verdict, accepts}
 use Rattle.propagation.specs.Run.{Script, Silent, silence, site}
 use Rattle.propagation.specs.Demand3.{Good, LeavesWaiting, Demand3}
-use Rattle.propagation.proofs.Witness.{accepts-e, reached-of-none, verdict-pass, witness-accepted}
+use Rattle.closure.proofs.Witness.{accepts-e, reached-of-none, verdict-pass, witness-accepted}
 use Rattle.propagation.proofs.Safety
 use Rattle.propagation.proofs.Liveness.{reached-never-waits}
 use Rattle.propagation.proofs.Rounds.{sites-same}

@@ -1,7 +1,4 @@
 -- The theorems, in the order in which they are read.
-pub mod Faults
-pub mod Growth
-pub mod Witness
 pub mod Rounds
 pub mod Safety
 pub mod Liveness

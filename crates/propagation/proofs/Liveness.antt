@@ -6,7 +6,8 @@ use mathlib.Core.Bool.{true, false}
 use native.Mathlib.Nat.{eq-or-lt-of-le, le-of-suc-le-suc, zero-add, suc-add}
 use native.Mathlib.Omega.{arith}
 use Rattle.sets.specs.Tests.{_and_}
-use Rattle.sets.specs.Sets.{mem, many}
+use Rattle.sets.specs.Sets.{mem}
+use Rattle.quorum.specs.Quorum.{enough}
 use Rattle.sets.proofs.Bools.{clash, and-i}
 use Rattle.sets.proofs.Laws.{mem-below}
 use Rattle.terminal.specs.declared.State.the-variants.{Waiting, Taken}
@@ -16,11 +17,11 @@ use Rattle.terminal.proofs.Laws.{Room, taken-stays, takes, waits-source, waits-
 use Rattle.plan.specs.declared.Plan.{Plan}
 use Rattle.plan.specs.Plan.{heardBy, hears}
 use Rattle.plan.proofs.Laws.{Sound}
-use Rattle.propagation.specs.FaultSet.{hearsMany, isFaultSet}
-use Rattle.propagation.specs.Closure.{reachedAfter}
+use Rattle.closure.specs.FaultSet.{hearsEnough, isFaultSet}
+use Rattle.closure.specs.Closure.{reachedAfter}
 use Rattle.propagation.specs.Run.{Script}
-use Rattle.propagation.proofs.Faults.{fault-source, hears-many-of}
-use Rattle.propagation.proofs.Growth.{joins-why, after-below, after-why, after-good, first-only}
+use Rattle.closure.proofs.Faults.{fault-source, hears-enough-of}
+use Rattle.closure.proofs.Growth.{joins-why, after-below, after-why, after-good, first-only}
 use Rattle.propagation.proofs.Rounds.{at, word, source-at-start, at-next, word-good, says-then-at}
 use Rattle.propagation.proofs.Safety.{safe, state-cases, not-both}
 
@@ -113,15 +114,15 @@ module _ (p : Plan) (sound : Sound p) (faulty value : ℕ) (layout : value ≡ 0
       (waits-source (p .n) (p .source) (p .f) (heardBy p b) (word p faulty value script r b) (at p faulty value script r b) (waited r b k g w)
       (sym (next-state r b k g) ∙ w) h value))
 
-  many-heard : (r b s : ℕ) → b < p .n → mem b faulty ≡ false → hearsMany p b s ≡ true
+  enough-heard : (r b s : ℕ) → b < p .n → mem b faulty ≡ false → hearsEnough p b s ≡ true
       → ((j : ℕ) → j < p .n → mem j s ≡ true → (mem j faulty ≡ false) × ((t : ℕ) × (v : ℕ) × (at p faulty value script r j .state ≡ Taken t v)))
       → at p faulty value script (suc r) b .state ≡ Waiting → ⊥
   unfolding after hears
-  many-heard r b s k g h took w =
-      let votes = hears-many-of p b s (λ j. mem j (heardBy p b) and hasNoted (at p faulty value script (suc r) b .notes) value j)
+  enough-heard r b s k g h took w =
+      let votes = hears-enough-of p b s (λ j. mem j (heardBy p b) and hasNoted (at p faulty value script (suc r) b .notes) value j)
       (λ j l e m. and-i _ _ e (voted j l e (took j l m))) h in
       clash votes
-      (subst (λ (x : Record). many (p .n) (p .f) (λ j. mem j (heardBy p b) and hasNoted (x .notes) value j) ≡ false) (sym (at-next p faulty value script r b k g))
+      (subst (λ (x : Record). enough (p .n) (p .f) (λ j. mem j (heardBy p b) and hasNoted (x .notes) value j) ≡ false) (sym (at-next p faulty value script r b k g))
       (waits-votes (p .n) (p .source) (p .f) (heardBy p b) (word p faulty value script r b) (at p faulty value script r b) (waited r b k g w)
       (sym (next-state r b k g) ∙ w) value))
     where
@@ -148,7 +149,7 @@ module _ (p : Plan) (sound : Sound p) (faulty value : ℕ) (layout : value ≡ 0
       absurd
       (⊎-elim (λ h. source-heard k b l g h w)
       (λ h.
-      many-heard k b (reachedAfter p faulty k) l g h
+      enough-heard k b (reachedAfter p faulty k) l g h
       (λ a la ma. (after-good p faulty (fault-source p faulty fault) k a ma, reached-takes k a ma)) w)
       (joins-why p faulty (reachedAfter p faulty k) b j)))
       (λ t. t)

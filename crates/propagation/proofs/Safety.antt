@@ -5,7 +5,8 @@ use mathlib.Core.Logic.{_⊎_, inl, inr, ⊎-elim}
 use mathlib.Core.Bool.{true, false}
 use native.Mathlib.Omega.{arith}
 use Rattle.sets.specs.Tests.{_and_}
-use Rattle.sets.specs.Sets.{mem, many}
+use Rattle.sets.specs.Sets.{mem}
+use Rattle.quorum.specs.Quorum.{enough}
 use Rattle.sets.proofs.Bools.{clash, decide, and-l, and-r}
 use Rattle.sets.proofs.Laws.{equal-or-not}
 use Rattle.terminal.specs.declared.State.{State}
@@ -17,9 +18,9 @@ use Rattle.terminal.proofs.Laws.{Room, Reason, start-room, source-start-room, s
 use Rattle.plan.specs.declared.Plan.{Plan}
 use Rattle.plan.specs.Plan.{heardBy, hears}
 use Rattle.plan.proofs.Laws.{Sound}
-use Rattle.propagation.specs.FaultSet.{isFaultSet}
+use Rattle.closure.specs.FaultSet.{isFaultSet}
 use Rattle.propagation.specs.Run.{Script}
-use Rattle.propagation.proofs.Faults.{fault-source, fault-bound, hears-many}
+use Rattle.closure.proofs.Faults.{fault-source, fault-bound, hears-enough}
 use Rattle.propagation.proofs.Rounds.{at, word, source-at-start, other-at-start, at-next, word-good, says-why}
 
 -- what holds of every good terminal's record after r rounds
@@ -84,13 +85,13 @@ module _ (p : Plan) (sound : Sound p) (faulty value : ℕ) (script : Script) (fa
   -- more than f neighbours cannot all be faulty, so one of them is good
   certified-good : (b : ℕ) → b < p .n → mem b faulty ≡ false → (x : Record) (v : ℕ)
       → ((j : ℕ) → hears p b j ≡ true → mem j faulty ≡ false → hasNoted (x .notes) v j ≡ true → v ≡ value)
-      → many (p .n) (p .f) (λ j. mem j (heardBy p b) and hasNoted (x .notes) v j) ≡ true → v ≡ value
+      → enough (p .n) (p .f) (λ j. mem j (heardBy p b) and hasNoted (x .notes) v j) ≡ true → v ≡ value
   unfolding hears
   certified-good b k g x v notes m =
       ⊎-elim (λ e. e)
       (λ z.
       clash
-      (hears-many p b faulty (λ j. mem j (heardBy p b) and hasNoted (x .notes) v j)
+      (hears-enough p b faulty (λ j. mem j (heardBy p b) and hasNoted (x .notes) v j)
       (λ j l e.
       (and-l _ _ e, ⊎-elim (λ t. t) (λ t. absurd (z (notes j (and-l _ _ e) t (and-r _ _ e)))) (decide (mem j faulty)))) m)
       (fault-bound p faulty fault b k g))

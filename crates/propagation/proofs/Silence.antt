@@ -15,8 +15,8 @@ use Rattle.plan.specs.declared.Plan.{Plan}
 use Rattle.plan.specs.Plan.{heardBy, hears}
 use Rattle.plan.proofs.Laws.{Sound}
 use Rattle.propagation.specs.Run.{silence}
-use Rattle.propagation.proofs.Faults.{hears-many}
-use Rattle.propagation.proofs.Witness.{Accepted}
+use Rattle.closure.proofs.Faults.{hears-enough}
+use Rattle.closure.proofs.Witness.{Accepted}
 use Rattle.propagation.proofs.Rounds.{at, word, other-at-start, at-next, word-good, word-faulty, says-why}
 use Rattle.propagation.proofs.Safety.{state-cases, not-both}
 
@@ -59,12 +59,12 @@ module _ (p : Plan) (sound : Sound p) (f l r : ℕ) (accepted : Accepted p f l r
             ⊎-elim (λ s. clash (s .0) (accepted .no-source b lb m))
             (λ s.
             clash
-            (hears-many p b l
+            (hears-enough p b l
             (λ j.
             mem j (heardBy p b)
             and hasNoted (step (p .n) (p .source) (p .f) (heardBy p b) (word p f value silence k b) (at p f value silence k b) .notes) (t .1) j)
             (λ j lj e. (and-l _ _ e, next-notes k (kept k) b lb m j (t .1) (and-l _ _ e) (and-r _ _ e))) s)
-            (accepted .no-many b lb m))
+            (accepted .no-enough b lb m))
             (takes (p .n) (p .source) (p .f) (heardBy p b) (word p f value silence k b) (at p f value silence k b) (t .0) (t .1) (kept k b lb m .0) (t .2) .1))
             (state-cases (step (p .n) (p .source) (p .f) (heardBy p b) (word p f value silence k b) (at p f value silence k b) .state)),
         next-notes k (kept k) b lb m,

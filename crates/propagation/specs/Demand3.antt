@@ -7,8 +7,8 @@ use mathlib.Core.Bool.{true, false}
 use Rattle.sets.specs.Sets.{mem}
 use Rattle.terminal.specs.declared.State.the-variants.{Waiting, Taken}
 use Rattle.plan.specs.declared.Plan.{Plan}
-use Rattle.propagation.specs.FaultSet.{isFaultSet}
-use Rattle.propagation.specs.Verdict.{verdict, accepts}
+use Rattle.closure.specs.FaultSet.{isFaultSet}
+use Rattle.closure.specs.Verdict.{verdict, accepts}
 use Rattle.propagation.specs.Run.{Script, Silent, site}
 
 -- a good terminal of the plan is one outside the fault set

@@ -9,7 +9,7 @@ use Rattle.sets.specs.Sets.{mask}
 use Rattle.terminal.specs.declared.State.{State}
 use Rattle.terminal.specs.declared.State.the-variants.{Waiting, Taken}
 use Rattle.plan.specs.declared.Plan.{Plan}
-use Rattle.propagation.specs.Answer.{Answer, answerOf}
+use Rattle.closure.specs.Answer.{Answer, answerOf}
 use Rattle.propagation.specs.Run.{silence, site}
 
 -- "0>1" of the document: terminal 1 hears terminal 0

@@ -1,8 +1,4 @@
--- The theory's definitions, in the order in which they are read.
-pub mod FaultSet
-pub mod Closure
-pub mod Verdict
-pub mod Answer
+-- The definitions that the run rests on, in the order in which they are read.
 pub mod Run
 pub mod Demand3
 pub mod Drawings

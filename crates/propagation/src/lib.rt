@@ -1,1 +1,2 @@
-// The theory that verdict and run rest on: definitions in specs/, theorems in proofs/. It has no code.
+// The theory that the run rests on: runs by the rules, and demand 3. Definitions in specs/, theorems in proofs/; it
+// has no code.

@@ -1,7 +1,7 @@
 // The calls on values: the step, the two checks of sets, the run.
 use super::said;
 use super::say;
-use partition::FaultSetCheck;
+use faults::FaultSetCheck;
 use partition::WitnessCheck;
 use simulation::Outcome as Run;
 use terminal::Outcome as Step;
@@ -77,7 +77,7 @@ fn fault_number(c: FaultSetCheck) -> u8 {
 // A plan and a set.
 pub(crate) fn fault_set(body: &[u8], line: &mut [u8]) -> usize {
     let p = said::plan(body);
-    let checked = partition::check_fault_set(p, said::quad(body, 83));
+    let checked = faults::check_fault_set(p, said::quad(body, 83));
     say::byte(line, 0, fault_number(checked))
 }
 

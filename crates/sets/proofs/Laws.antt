@@ -10,7 +10,7 @@ use lib.Pow.{pow-pos}
 use borrow.Author.Count.{below-more}
 use borrow.Author.Tests.{ltb-true, ltb-false, lt-ltb, le-ltb, eqb-true, eqb-false}
 use Rattle.sets.specs.Tests.{_and_, _or_, _implies_}
-use Rattle.sets.specs.Sets.{bit, mem, count, all, mask, many}
+use Rattle.sets.specs.Sets.{bit, mem, count, all, mask}
 use Rattle.sets.proofs.Bools.{clash, decide, and-l, and-r, and-i, implies-e, implies-no-l, implies-no-r, not-e, not-no, no-by, same-test}
 use Rattle.sets.proofs.Digits.{bit-test, low-of, high-of, half-lt, twice-lt, digits-same}
 
@@ -152,19 +152,6 @@ count-next (suc i) P =
 
 pub few : (f : ℕ) {m : ℕ} → m ≡ 0 → ltb f m ≡ false
 few f {m} e = le-ltb f m (omega arith)
-
--- ---- `many`: all that the layers above use of it
-
-pub many-mono : (n f : ℕ) (P Q : ℕ → Bool) → ((i : ℕ) → i < n → P i ≡ true → Q i ≡ true) → many n f P ≡ true → many n f Q ≡ true
-unfolding many
-many-mono n f P Q s h =
-    let a : f < count n P = ltb-true f (count n P) h in
-    let b : count n P ≤ count n Q = count-mono n P Q s in
-    lt-ltb f (count n Q) (omega arith)
-
-pub many-none : (n f : ℕ) (P : ℕ → Bool) → ((i : ℕ) → i < n → P i ≡ false) → many n f P ≡ false
-unfolding many
-many-none n f P e = le-ltb f (count n P) (omega (arith, count-none n P e))
 
 -- ---- sets of n terminals, one within the other
 

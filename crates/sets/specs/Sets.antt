@@ -5,43 +5,45 @@ use mathlib.Core.Bool.{Bool, true, false, not}
 use lib.Dec.{eqb, ltb}
 use Rattle.sets.specs.Tests.{_and_, _or_}
 
+abbrev pub Terminal : Type 0
+Terminal = ℕ
+
+abbrev pub Set : Type 0
+Set = ℕ
+
 -- 1 for yes, 0 for no
 abbrev pub bit : Bool → ℕ
 bit true = 1
 bit false = 0
 
 -- is terminal i in the set s?
-unfoldable pub mem : ℕ → ℕ → Bool
+unfoldable pub mem : Terminal → Set → Bool
 mem zero s = eqb (s % 2) 1
 mem (suc i) s = mem i (s / 2)
 
 -- of the terminals below n: how many have P; have all of them P; the set of those that have P
-unfoldable pub count : ℕ → (ℕ → Bool) → ℕ
+unfoldable pub count : (n : ℕ) → (Terminal → Bool) → ℕ
 count zero P = 0
 count (suc n) P = bit (P 0) + count n (λ i. P (suc i))
 
-unfoldable pub all : ℕ → (ℕ → Bool) → Bool
+unfoldable pub all : (n : ℕ) → (Terminal → Bool) → Bool
 all zero P = true
 all (suc n) P = P 0 and all n (λ i. P (suc i))
 
-unfoldable pub mask : ℕ → (ℕ → Bool) → ℕ
+unfoldable pub mask : (n : ℕ) → (Terminal → Bool) → Set
 mask zero P = 0
 mask (suc n) P = bit (P 0) + 2 * mask n (λ i. P (suc i))
 
--- more than f of the terminals below n have P: too many for all of them to be faulty
-unfoldable pub many : ℕ → ℕ → (ℕ → Bool) → Bool
-many n f P = ltb f (count n P)
-
 -- s has no terminal at or above n
-unfoldable pub within : ℕ → ℕ → Bool
+unfoldable pub within : (n : ℕ) (s : Set) → Bool
 within n s = ltb s (2 ^ n)
 
 -- the operations on sets of w bits
-unfoldable pub size : ℕ → ℕ → ℕ
+unfoldable pub size : (w : ℕ) (s : Set) → ℕ
 size w s = count w (λ i. mem i s)
 
-unfoldable pub singleton : ℕ → ℕ → ℕ
+unfoldable pub singleton : (w : ℕ) (i : Terminal) → Set
 singleton w i = mask w (λ j. eqb j i)
 
-unfoldable pub with : ℕ → ℕ → ℕ → ℕ
+unfoldable pub with : (w : ℕ) (s : Set) (i : Terminal) → Set
 with w s i = mask w (λ j. mem j s or eqb j i)

@@ -12,9 +12,9 @@ use Rattle.sets.specs.Tests.{_and_, pick}
 use Rattle.sets.proofs.Bools.{clash, and-l, and-r, not-e, pick-yes, pick-no, pick-case}
 use Rattle.plan.specs.declared.Plan.{Plan}
 use Rattle.plan.specs.Plan.{causeOf}
-use Rattle.propagation.specs.FaultSet.{isFaultSet}
-use Rattle.partition.specs.Answer.{faultCauseOf}
-use Rattle.partition.proofs.Laws.{fault-sound}
+use Rattle.closure.specs.FaultSet.{isFaultSet}
+use Rattle.faults.specs.Check.{faultCauseOf}
+use Rattle.faults.proofs.Laws.{fault-sound}
 use Rattle.simulation.specs.declared.Outcome.{Outcome}
 use Rattle.simulation.specs.declared.Outcome.the-variants.{Played, WrongRange, WrongLink, WrongMember, OverBound, WrongStart, WrongLength}
 use Rattle.simulation.specs.Answer.{numberOf, startSound, runCause, turnsOf}

@@ -17,13 +17,13 @@ use Rattle.terminal.specs.Rule.{start}
 use Rattle.plan.specs.declared.Plan.{Plan}
 use Rattle.plan.specs.Plan.{causeOf}
 use Rattle.plan.proofs.Laws.{sound}
-use Rattle.propagation.specs.FaultSet.{isFaultSet}
+use Rattle.closure.specs.FaultSet.{isFaultSet}
 use Rattle.propagation.specs.Run.{Silent, table, sites, site}
-use Rattle.propagation.specs.Verdict.{verdict}
+use Rattle.closure.specs.Verdict.{verdict}
 use Rattle.propagation.proofs.Demand3.{demand3}
-use Rattle.propagation.proofs.Witness.{accepts-e}
+use Rattle.closure.proofs.Witness.{accepts-e}
 use Rattle.propagation.proofs.Rounds.{table-at}
-use Rattle.partition.proofs.Laws.{fault-is}
+use Rattle.faults.proofs.Laws.{fault-is}
 use Rattle.simulation.specs.declared.Turn.{Turn}
 use Rattle.simulation.specs.Turns.{scriptOf, firstTurn, playedAfter, CanPlay, leftAfter}
 use Rattle.simulation.specs.Answer.{startSound, runCause, turnsOf, recordsAfter, arrayAfter, Demand3Holds, Defeated, noWords}

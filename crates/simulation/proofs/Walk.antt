@@ -25,7 +25,7 @@ use Rattle.plan.specs.declared.Plan.{Plan}
 use Rattle.plan.specs.Plan as plan
 use Rattle.plan.specs.Plan.{heardBy, hears}
 use Rattle.plan.proofs.Laws.{sound, tests, row-of}
-use Rattle.propagation.specs.FaultSet.{isFaultSet}
+use Rattle.closure.specs.FaultSet.{isFaultSet}
 use Rattle.propagation.specs.Run.{Script, table, startRecord, saysIn, heardFrom, sites, site}
 use Rattle.propagation.proofs.Rounds.{table-length, table-at, at, word, at-start, at-next, at-faulty, sites-length}
 use Rattle.propagation.proofs.Safety.{safe, not-both}

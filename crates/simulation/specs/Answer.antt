@@ -11,8 +11,8 @@ use Rattle.terminal.specs.declared.State.the-variants.{Waiting, Taken}
 use Rattle.terminal.specs.declared.Record.{Record}
 use Rattle.terminal.specs.Rule.{start}
 use Rattle.plan.specs.declared.Plan.{Plan}
-use Rattle.partition.specs.Answer.{faultCauseOf}
-use Rattle.propagation.specs.Verdict.{verdict}
+use Rattle.faults.specs.Check.{faultCauseOf}
+use Rattle.closure.specs.Verdict.{verdict}
 use Rattle.propagation.specs.Run.{Silent, table, sites, site}
 use Rattle.propagation.specs.Demand3.{Good}
 use Rattle.simulation.specs.declared.Outcome.{Outcome}

@@ -6,10 +6,10 @@ ghost use Prim.Native.Nat.{_*_, _≤_};
 ghost use lib.ListN.{length};
 ghost use lib.Dec.{eqb};
 ghost use Rattle.sets.specs.Tests.{_and_};
-ghost use Rattle.partition.specs.Answer.{faultNumberOf};
+ghost use Rattle.faults.specs.Check.{faultNumberOf};
 ghost use Rattle.simulation.specs.Turns.{firstTurn, CanPlay, leftAfter};
 ghost use Rattle.simulation.specs.Answer.{numberOf, startSound, runCause, turnsOf, recordsAfter, arrayAfter, Demand3Holds};
-use partition::FaultSetCheck;
+use faults::FaultSetCheck;
 use plan::Plan;
 use terminal::Record;
 
@@ -105,7 +105,7 @@ fn lists_fit(n: usize, rounds: u8, words: usize, places: usize) -> bool
 fn judge(p: Plan, faulty: u32, value: u16, rounds: u8, words: usize, places: usize) -> Outcome
     ensures { λ r. ⌜ numberOf r ≡ runCause p faulty value rounds words places ⌝ }
 {
-    let fault = refused(partition::check_fault_set(p, faulty));
+    let fault = refused(faults::check_fault_set(p, faulty));
     if let Outcome::Played = fault {
         if start_sound(value, rounds) {
             if lists_fit(p.n, rounds, words, places) {

@@ -10,13 +10,14 @@ use native.Mathlib.Omega.{arith}
 use lib.Dec.{eqb, ltb, leb}
 use lib.ListN.{length, getD, replicate, length-replicate}
 use Rattle.sets.specs.Tests.{_and_, pick}
-use Rattle.sets.specs.Sets.{mem, many}
+use Rattle.sets.specs.Sets.{mem}
+use Rattle.quorum.specs.Quorum.{enough, inRange, hearsSoundly}
 use Rattle.sets.proofs.Bools.{clash, no-by, and-no-r, pick-yes, pick-no}
 use Rattle.terminal.specs.declared.State.{State}
 use Rattle.terminal.specs.declared.State.the-variants.{Waiting, Taken}
 use Rattle.terminal.specs.declared.Record.{Record}
 use Rattle.terminal.specs.Rule.{start, sourceStart, firstWord, noted, hasNoted, certified, choice, taking, stepFrom, step}
-use Rattle.terminal.specs.Answer.{inRange, hearsSoundly, stateSound, recordSound, causeOf}
+use Rattle.terminal.specs.Answer.{stateSound, recordSound, causeOf}
 use Rattle.terminal.proofs.Notes.{noted-length, noted-at, noted-change, first-spoken, zeros, has-i, has-layout, has-value, choice-why, choice-none-source, choice-none-certified, choice-least}
 
 -- the record has a note for each of m terminals
@@ -27,7 +28,7 @@ Room m r = m ≤ length (r .notes)
 unfoldable pub Reason : ℕ → ℕ → ℕ → ℕ → Record → ℕ → Type 0
 Reason n source f heard r v =
     ((mem source heard ≡ true) × (hasNoted (r .notes) v source ≡ true))
-    ⊎ (many n f (λ j. mem j heard and hasNoted (r .notes) v j) ≡ true)
+    ⊎ (enough n f (λ j. mem j heard and hasNoted (r .notes) v j) ≡ true)
 
 taking-taken : (round v at w : ℕ) → taking round v ≡ Taken at w → (at ≡ round) × (w ≡ v) × (v ≡ 0 → ⊥)
 unfolding taking
@@ -121,7 +122,7 @@ module _ (n source f heard : ℕ) (said : ℕ → ℕ) where
       (taking-waits (r .round + 1) (choice n source f heard (step n source f heard said r .notes)) (sym (waiting-state r w) ∙ t)) h v
 
   pub waits-votes : (r : Record) → r .state ≡ Waiting → step n source f heard said r .state ≡ Waiting
-      → (v : ℕ) → many n f (λ j. mem j heard and hasNoted (step n source f heard said r .notes) v j) ≡ false
+      → (v : ℕ) → enough n f (λ j. mem j heard and hasNoted (step n source f heard said r .notes) v j) ≡ false
   unfolding certified
   waits-votes r w t v =
       choice-none-certified n source f heard (step n source f heard said r .notes)
@@ -130,7 +131,7 @@ module _ (n source f heard : ℕ) (said : ℕ → ℕ) where
   -- a waiting terminal that has enough votes takes, and the smallest value that has them, unless the source has spoken to it
   pub takes-least : (r : Record) (at value : ℕ) → r .state ≡ Waiting → step n source f heard said r .state ≡ Taken at value
       → (mem source heard and hasNoted (step n source f heard said r .notes) value source ≡ false)
-      → (v : ℕ) → many n f (λ j. mem j heard and hasNoted (step n source f heard said r .notes) v j) ≡ true → value ≤ v
+      → (v : ℕ) → enough n f (λ j. mem j heard and hasNoted (step n source f heard said r .notes) v j) ≡ true → value ≤ v
   unfolding certified
   takes-least r at value w t s v h =
       let p = taking-taken (r .round + 1) (choice n source f heard (step n source f heard said r .notes)) at value (sym (waiting-state r w) ∙ t) in

@@ -12,7 +12,8 @@ use borrow.Author.Tests.{eq-eqb, ne-eqb, eqb-true}
 use Rattle.sets.specs.Tests.{_and_}
 use Rattle.sets.specs.Sets.{mem, all}
 use Rattle.sets.proofs.Bools.{clash, decide, and-l, and-r, and-i, and-no-l, and-no-r, not-i, not-e, pick-yes, pick-case}
-use Rattle.sets.proofs.Laws.{all-at, all-not, many-none}
+use Rattle.sets.proofs.Laws.{all-at, all-not}
+use Rattle.quorum.proofs.Laws.{enough-none}
 use Rattle.terminal.specs.Rule.{firstWord, noted, hasNoted, certified, lesser, least, candidate, choice}
 
 -- ---- a note
@@ -86,7 +87,7 @@ certified-by n f heard notes v h = go (decide (all n (λ j. not (voter j))))
 
     go : (all n (λ j. not (voter j)) ≡ true) ⊎ (all n (λ j. not (voter j)) ≡ false)
         → (j : ℕ) × (j < n) × (mem j heard ≡ true) × (hasNoted notes v j ≡ true)
-    go (inl e) = clash h (many-none n f voter (λ j k. not-e (voter j) (all-at n (λ j. not (voter j)) e j k)))
+    go (inl e) = clash h (enough-none n f voter (λ j k. not-e (voter j) (all-at n (λ j. not (voter j)) e j k)))
     go (inr e) =
         let w = all-not n (λ j. not (voter j)) e in
         let y : voter (w .0) ≡ true = ⊎-elim (λ t. t) (λ t. clash (not-i t) (w .2)) (decide (voter (w .0))) in

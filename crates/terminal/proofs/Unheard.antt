@@ -8,13 +8,14 @@ use native.Mathlib.Omega.{arith}
 use lib.Dec.{eqb, ltb}
 use lib.ListN.{length, getD}
 use Rattle.sets.specs.Tests.{_and_, pick}
-use Rattle.sets.specs.Sets.{mem, many}
+use Rattle.sets.specs.Sets.{mem}
+use Rattle.quorum.specs.Quorum.{enough, inRange, hearsSoundly}
 use Rattle.sets.proofs.Bools.{clash, decide, and-no-l, pick-yes, pick-no, pick-case}
 use Rattle.terminal.specs.declared.State.{State}
 use Rattle.terminal.specs.declared.State.the-variants.{Waiting, Taken}
 use Rattle.terminal.specs.declared.Record.{Record}
 use Rattle.terminal.specs.Rule.{firstWord, noted, hasNoted, certified, least, candidate, choice, taking, stepFrom, step}
-use Rattle.terminal.specs.Answer.{inRange, hearsSoundly, stateSound, recordSound, causeOf, recordAfter}
+use Rattle.terminal.specs.Answer.{stateSound, recordSound, causeOf, recordAfter}
 use Rattle.terminal.specs.Unheard.{SameHeard, SameRecord, UnheardIgnored}
 use Rattle.terminal.proofs.Notes.{noted-length}
 use Rattle.terminal.proofs.Laws.{step-change}
@@ -46,7 +47,7 @@ module _ (n source f heard : ℕ) (a b : List ℕ) (e : (j : ℕ) → mem j hear
 
   certified-same : (v : ℕ) → certified n f heard a v ≡ certified n f heard b v
   unfolding certified
-  certified-same v = ap (many n f) (fun-ext (vote-same v))
+  certified-same v = ap (enough n f) (fun-ext (vote-same v))
 
   candidate-same : (j : ℕ) → candidate n f heard a j ≡ candidate n f heard b j
   unfolding candidate

@@ -17,7 +17,8 @@ use Rattle.terminal.specs.declared.State.{State}
 use Rattle.terminal.specs.declared.State.the-variants.{Taken}
 use Rattle.terminal.specs.declared.Record.{Record}
 use Rattle.terminal.specs.Rule.{firstWord, noted, lesser, least, taking, step}
-use Rattle.terminal.specs.Answer.{inRange, hearsSoundly, recordSound, causeOf, recordAfter}
+use Rattle.terminal.specs.Answer.{recordSound, causeOf, recordAfter}
+use Rattle.quorum.specs.Quorum.{inRange, hearsSoundly}
 
 -- ---- the lesser of two values, where 0 is none
 

@@ -6,6 +6,7 @@ use lib.Dec.{eqb, ltb, leb}
 use lib.ListN.{length, getD}
 use Rattle.sets.specs.Tests.{_and_, pick}
 use Rattle.sets.specs.Sets.{mem, within}
+use Rattle.quorum.specs.Quorum.{inRange, hearsSoundly}
 use Rattle.terminal.specs.declared.State.{State}
 use Rattle.terminal.specs.declared.State.the-variants.{Waiting, Taken}
 use Rattle.terminal.specs.declared.Record.{Record}
@@ -20,14 +21,6 @@ numberOf WrongRange = 4
 numberOf WrongLink = 5
 numberOf WrongLength = 12
 numberOf WrongRecord = 13
-
--- n from 2 to 20, the source below n, f from 0 to n - 1
-unfoldable pub inRange : ℕ → ℕ → ℕ → Bool
-inRange n source f = leb 2 n and leb n 20 and ltb source n and ltb f n
-
--- a heard set has no bit at or above n and not the terminal's own
-unfoldable pub hearsSoundly : ℕ → ℕ → ℕ → Bool
-hearsSoundly n own heard = within n heard and not (mem own heard)
 
 -- not the source waiting; not taken later than the record's round, nor with value 0
 unfoldable pub stateSound : State → Bool → ℕ → Bool

@@ -6,7 +6,8 @@ use mathlib.Core.List.{List, [], _∷_}
 use lib.Dec.{eqb}
 use lib.ListN.{getD, replicate}
 use Rattle.sets.specs.Tests.{_and_, pick}
-use Rattle.sets.specs.Sets.{mem, many}
+use Rattle.sets.specs.Sets.{mem}
+use Rattle.quorum.specs.Quorum.{enough}
 use Rattle.terminal.specs.declared.State.{State}
 use Rattle.terminal.specs.declared.State.the-variants.{Waiting, Taken}
 use Rattle.terminal.specs.declared.Record.{Record}
@@ -39,7 +40,7 @@ hasNoted notes v j = not (eqb v 0) and eqb (getD notes j 0) v
 
 -- v is noted from more than f different neighbours
 unfoldable pub certified : ℕ → ℕ → ℕ → List ℕ → ℕ → Bool
-certified n f heard notes v = many n f (λ j. mem j heard and hasNoted notes v j)
+certified n f heard notes v = enough n f (λ j. mem j heard and hasNoted notes v j)
 
 -- the lesser of two values, where 0 is none; the least of the values of the terminals below n
 unfoldable pub lesser : ℕ → ℕ → ℕ

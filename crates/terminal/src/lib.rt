@@ -6,7 +6,7 @@ ghost use Prim.Native.Nat.{_+_, _<_, _≤_};
 ghost use lib.ListN.{length, getD};
 ghost use Rattle.sets.specs.Sets.{mem};
 ghost use Rattle.terminal.specs.Rule.{start, sourceStart, firstWord, noted, choice, taking, step};
-ghost use Rattle.terminal.specs.Answer.{numberOf, inRange, hearsSoundly, stateSound, recordSound, causeOf, recordAfter};
+ghost use Rattle.terminal.specs.Answer.{numberOf, stateSound, recordSound, causeOf, recordAfter};
 
 // A terminal waits, or it has taken a layout in a round and keeps both.
 pub enum State {
@@ -113,30 +113,6 @@ impl Record {
     }
 }
 
-pub fn in_range(n: usize, source: usize, f: usize) -> bool
-    ensures { λ r. ⌜ r ≡ inRange n source f ⌝ }
-{
-    if n < 2 {
-        return false;
-    }
-    if 20 < n {
-        return false;
-    }
-    if n <= source {
-        return false;
-    }
-    f < n
-}
-
-pub fn hears_soundly(n: usize, own: usize, heard: u32) -> bool
-    ensures { λ r. ⌜ r ≡ hearsSoundly n own heard ⌝ }
-{
-    if sets::within(heard, n) {
-        return !sets::member(heard, own);
-    }
-    false
-}
-
 fn state_sound(state: State, is_source: bool, round: u8) -> bool
     ensures { λ r. ⌜ r ≡ stateSound state «is_source» round ⌝ }
 {
@@ -177,8 +153,8 @@ fn judge(
 ) -> Outcome
     ensures { λ r. ⌜ numberOf r ≡ causeOf n source f own heard before words ⌝ }
 {
-    if in_range(n, source, f) {
-        if hears_soundly(n, own, heard) {
+    if quorum::in_range(n, source, f) {
+        if quorum::hears_soundly(n, own, heard) {
             if record_sound(n, source, own, before) {
                 if words == n {
                     return Outcome::Accepted;

@@ -15,7 +15,7 @@ use Rattle.sets.specs.Tests.{_and_, _or_}
 use Rattle.sets.specs.Sets.{mem, with}
 use Rattle.sets.proofs.Bools.{and-i, and-yes, and-swap, and-no-l, and-no-r, or-r, not-i, same-test, pick-yes, pick-no, pick-case, clash}
 use Rattle.sets.proofs.Laws.{equal-or-not, below-or-not, mem-zero, mem-above, set-ext, mask-lt, mem-mask}
-use Rattle.terminal.specs.Answer.{inRange}
+use Rattle.quorum.specs.Quorum.{inRange}
 use Rattle.plan.specs.declared.Plan.{Plan}
 use Rattle.plan.specs.Plan.{heardBy, hears, causeOf}
 use Rattle.plan.proofs.Laws.{Sound, sound, tests}

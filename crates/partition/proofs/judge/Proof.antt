@@ -1,6 +1,6 @@
 -- The search's memory read as a verdict. Assumes nothing.
 use Rattle.plan.proofs.Laws.{sound}
-use Rattle.propagation.specs.Verdict.{verdict}
+use Rattle.closure.specs.Verdict.{verdict}
 use Rattle.partition.proofs.Laws.{memory-passes, memory-fails, memory-below}
 use Rattle.partition.proofs.Rows.{direct-by}
 use borrow.Author.Needs.{needs}

@@ -3,7 +3,7 @@ use mathlib.Core.Path.{sym, ap, _∙_}
 use borrow.Author.Tests.{leb-true}
 use Rattle.sets.proofs.Bools.{and-r}
 use Rattle.plan.proofs.Laws.{sound}
-use Rattle.partition.proofs.Laws.{fault-sound}
+use Rattle.faults.proofs.Laws.{fault-sound}
 use Rattle.simulation.specs.Answer.{numberOf, startSound}
 use Rattle.simulation.proofs.Causes.{cause-played, cause-length, cause-start, cause-fault, not-played}
 use borrow.Author.Needs.{needs}

@@ -1,7 +1,7 @@
 -- What a fault set leaves out decides. Assumes nothing.
 use native.Mathlib.Omega.{arith}
 use Rattle.plan.proofs.Laws.{sound}
-use Rattle.propagation.proofs.Faults.{fault-below}
+use Rattle.closure.proofs.Faults.{fault-below}
 use Rattle.partition.proofs.Parts.{defeats-test}
 use Rattle.partition.proofs.branch.defeats.Statement.{statement}
 use Rattle.partition.proofs.branch.defeats.Tie as tie

@@ -5,7 +5,7 @@ use borrow.Author.Tests.{ltb-true, eq-eqb, ne-eqb}
 use Rattle.sets.specs.Sets.{within}
 use Rattle.sets.proofs.Bools.{and-l, and-no-l, and-no-r, not-i, not-yes, and-yes}
 use Rattle.plan.proofs.Laws.{sound}
-use Rattle.propagation.specs.Verdict.{isPartition, accepts}
+use Rattle.closure.specs.Verdict.{isPartition, accepts}
 use native.Mathlib.Omega.{arith}
 use borrow.Author.Needs.{needs}
 use Rattle.partition.proofs.check.accepts.Statement.{statement}
@@ -18,8 +18,7 @@ member-requires : tie.Need-member-requires
 member-requires c κs = search needs
 
 is-fault-set-requires : tie.Need-is-fault-set-requires
-unfolding isPartition within
-is-fault-set-requires c κs = (c .before .before .before .before .before .pre, ltb-true (c .before .before .before .before .before .args .f) (2 ^ c .before .before .before .before .before .args .p .n) (and-l _ _ (sym (c .before .before .before .before .is-partition .ensures) ∙ c .before .before .before .if1 .taken)))
+is-fault-set-requires c κs = c .before .before .before .before .before .pre
 
 cut-off-requires : tie.Need-cut-off-requires
 cut-off-requires c κs = c .before .before .before .before .before .before .before .pre

@@ -1,23 +1,20 @@
--- The set lies below 2 ^ n, so what is left of the definition is the source and the bound. Assumes nothing.
-use mathlib.Core.Path.{sym, _∙_}
-use Rattle.sets.proofs.Bools.{clash, no-by}
-use Rattle.propagation.proofs.Faults.{fault-source}
-use Rattle.partition.proofs.Tests.{fault-test}
+-- The plan is sound, so the number of the check tells. Assumes nothing.
+use mathlib.Core.Path.{ap, _∙_}
+use Prim.Native.Nat.{ℕ}
+use lib.Dec.{eqb}
+use Rattle.faults.proofs.Laws.{fault-number}
 use borrow.Author.Needs.{needs}
 use Rattle.partition.proofs.check.is_fault_set.Statement.{statement}
 use Rattle.partition.proofs.check.is_fault_set.Tie as tie
 
-member-requires : tie.Need-member-requires
-member-requires c κs = search needs
+check-fault-set-requires : tie.Need-check-fault-set-requires
+check-fault-set-requires c κs = search needs
+
+number-requires : tie.Need-number-requires
+number-requires c κs = search needs
 
 returns : tie.Need-returns
-returns c = sym (no-by (λ h. clash (sym (c .before .member .ensures) ∙ c .if1 .taken) (fault-source (c .before .before .args .p) (c .before .before .args .f) h)))
-
-bounded-requires : tie.Need-bounded-requires
-bounded-requires c κs = (c .before .before .pre .0, c .before .before .pre .1)
-
-returns-2 : tie.Need-returns-2
-returns-2 c = fault-test (c .before .before .before .args .p) (c .before .before .before .args .f) (c .bounded .result) (c .before .before .before .pre .1) (sym (c .before .before .member .ensures) ∙ c .before .if1 .left) (c .bounded .ensures)
+returns c = ap (λ (k : ℕ). eqb k 0) (c .number .ensures ∙ c .before .check-fault-set .ensures) ∙ fault-number _ _ (c .before .before .pre)
 
 pub is-fault-set-spec : {M : Type 1} → statement M
-is-fault-set-spec = tie.close (tie.spec member-requires returns bounded-requires returns-2)
+is-fault-set-spec = tie.close (tie.spec check-fault-set-requires number-requires returns)

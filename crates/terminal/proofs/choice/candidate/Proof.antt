@@ -3,7 +3,7 @@ use mathlib.Core.Path.{sym, _∙_}
 use borrow.Author.Tests.{lt-ltb, le-ltb}
 use borrow.Author.Needs.{needs}
 use Rattle.sets.specs.Tests.{_and_, pick}
-use Rattle.sets.specs.Sets.{many}
+use Rattle.quorum.specs.Quorum.{enough}
 use Rattle.terminal.specs.Rule.{certified, candidate}
 use Rattle.terminal.proofs.choice.candidate.Statement.{statement}
 use Rattle.terminal.proofs.choice.candidate.Tie as tie
@@ -21,11 +21,11 @@ votes-requires : tie.Need-votes-requires
 votes-requires c κs = search needs
 
 returns : tie.Need-returns
-unfolding candidate certified many _and_ pick
+unfolding candidate certified enough _and_ pick
 returns c = simp (sym (c .before .before .before .member .ensures) ∙ c .before .before .if1 .taken, sym (c .before .votes .ensures), lt-ltb _ _ (c .if2 .taken))
 
 returns-2 : tie.Need-returns-2
-unfolding candidate certified many _and_ pick
+unfolding candidate certified enough _and_ pick
 returns-2 c = simp (sym (c .before .before .before .member .ensures) ∙ c .before .before .if1 .taken, sym (c .before .votes .ensures), le-ltb _ _ (c .if2 .left))
 
 returns-3 : tie.Need-returns-3

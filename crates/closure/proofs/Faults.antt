@@ -1,0 +1,46 @@
+-- All that the theory uses of a fault set, and of hearing enough of a set. Assumes nothing.
+use Prim.Native.Nat.{ℕ, _<_, _^_}
+use mathlib.Core.Path.{_≡_}
+use mathlib.Core.Bool.{Bool, true, false, not}
+use borrow.Author.Tests.{ltb-true}
+use Rattle.sets.specs.Tests.{_and_, _implies_}
+use Rattle.sets.specs.Sets.{mem, within}
+use Rattle.quorum.specs.Quorum.{enough}
+use Rattle.sets.proofs.Bools.{and-l, and-r, and-i, not-i, not-e, implies-e}
+use Rattle.sets.proofs.Laws.{all-at}
+use Rattle.quorum.proofs.Laws.{enough-mono}
+use Rattle.plan.specs.declared.Plan.{Plan}
+use Rattle.plan.specs.Plan.{hears}
+use Rattle.closure.specs.FaultSet.{hearsEnough, isBounded, isFaultSet}
+
+-- it lies below 2 ^ n, it lacks the source, and its members that a good terminal hears are never enough
+pub fault-below : (p : Plan) (s : ℕ) → isFaultSet p s ≡ true → s < 2 ^ p .n
+unfolding isFaultSet within
+fault-below p s h = ltb-true s (2 ^ p .n) (and-l _ _ h)
+
+pub fault-source : (p : Plan) (s : ℕ) → isFaultSet p s ≡ true → mem (p .source) s ≡ false
+unfolding isFaultSet
+fault-source p s h = not-e (mem (p .source) s) (and-l _ _ (and-r _ _ h))
+
+pub fault-bound : (p : Plan) (s : ℕ) → isFaultSet p s ≡ true → (b : ℕ) → b < p .n → mem b s ≡ false → hearsEnough p b s ≡ false
+unfolding isFaultSet isBounded
+fault-bound p s h b k e =
+    not-e (hearsEnough p b s)
+    (implies-e _ _ (all-at (p .n) (λ b. not (mem b s) implies not (hearsEnough p b s)) (and-r _ _ (and-r _ _ h)) b k) (not-i e))
+
+-- whoever hears enough of a property's terminals, each in the set, hears enough of the set
+pub hears-enough : (p : Plan) (b s : ℕ) (P : ℕ → Bool) → ((a : ℕ) → a < p .n → P a ≡ true → (hears p b a ≡ true) × (mem a s ≡ true))
+    → enough (p .n) (p .f) P ≡ true → hearsEnough p b s ≡ true
+unfolding hearsEnough
+hears-enough p b s P i h = enough-mono (p .n) (p .f) P (λ a. hears p b a and mem a s) (λ a k e. let t = i a k e in and-i _ _ (t .0) (t .1)) h
+
+pub hears-enough-of : (p : Plan) (b s : ℕ) (Q : ℕ → Bool) → ((a : ℕ) → a < p .n → hears p b a ≡ true → mem a s ≡ true → Q a ≡ true)
+    → hearsEnough p b s ≡ true → enough (p .n) (p .f) Q ≡ true
+unfolding hearsEnough
+hears-enough-of p b s Q i h =
+    enough-mono (p .n) (p .f) (λ a. hears p b a and mem a s) Q (λ a k e. i a k (and-l _ _ e) (and-r _ _ e)) h
+
+pub hears-enough-mono : (p : Plan) (b s t : ℕ) → ((a : ℕ) → a < p .n → mem a s ≡ true → mem a t ≡ true)
+    → hearsEnough p b s ≡ true → hearsEnough p b t ≡ true
+unfolding hearsEnough
+hears-enough-mono p b s t i h = hears-enough-of p b s (λ a. hears p b a and mem a t) (λ a k e m. and-i _ _ e (i a k m)) h

@@ -1,0 +1,4 @@
+-- The theorems, in the order in which they are read.
+pub mod Faults
+pub mod Growth
+pub mod Witness

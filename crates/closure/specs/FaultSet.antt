@@ -1,0 +1,19 @@
+-- Fault sets. Document 01 calls them bad sets; document 000, definition 2, feasible f-local fault sets. Assumes nothing.
+use mathlib.Core.Bool.{Bool, not}
+use Rattle.sets.specs.Tests.{_and_, _implies_}
+use Rattle.sets.specs.Sets.{Terminal, Set, mem, all, within}
+use Rattle.quorum.specs.Quorum.{enough}
+use Rattle.plan.specs.declared.Plan.{Plan}
+use Rattle.plan.specs.Plan.{hears}
+
+-- terminal b hears enough members of the set s: more than f
+unfoldable pub hearsEnough : Plan → (b : Terminal) (s : Set) → Bool
+hearsEnough p b s = enough (p .n) (p .f) (λ a. hears p b a and mem a s)
+
+-- every terminal outside s, the source too, hears at most f of its members; s may have more than f members
+unfoldable pub isBounded : Plan → Set → Bool
+isBounded p s = all (p .n) (λ b. not (mem b s) implies not (hearsEnough p b s))
+
+-- s has terminals of the plan only, lacks the source, and is bounded
+unfoldable pub isFaultSet : Plan → Set → Bool
+isFaultSet p s = within (p .n) s and not (mem (p .source) s) and isBounded p s

@@ -1,0 +1,2 @@
+-- All that the layers above use of `enough`.
+pub mod Laws
