@@ -5,13 +5,12 @@ use mathlib.Core.Bool.{Bool, true, false, not}
 use borrow.Author.Tests.{ltb-true}
 use Rattle.sets.specs.Tests.{_and_, _implies_}
 use Rattle.sets.specs.Sets.{mem, within}
-use Rattle.quorum.specs.Quorum.{enough}
 use Rattle.sets.proofs.Bools.{and-l, and-r, and-i, not-i, not-e, implies-e}
 use Rattle.sets.proofs.Laws.{all-at}
 use Rattle.quorum.proofs.Laws.{enough-mono}
 use Rattle.plan.specs.declared.Plan.{Plan}
 use Rattle.plan.specs.Plan.{hears}
-use Rattle.closure.specs.FaultSet.{hearsEnough, isBounded, isFaultSet}
+use Rattle.closure.specs.FaultSet.{enoughIn, hearsEnough, isBounded, isFaultSet}
 
 -- it lies below 2 ^ n, it lacks the source, and its members that a good terminal hears are never enough
 pub fault-below : (p : Plan) (s : ℕ) → isFaultSet p s ≡ true → s < 2 ^ p .n
@@ -30,12 +29,12 @@ fault-bound p s h b k e =
 
 -- whoever hears enough of a property's terminals, each in the set, hears enough of the set
 pub hears-enough : (p : Plan) (b s : ℕ) (P : ℕ → Bool) → ((a : ℕ) → a < p .n → P a ≡ true → (hears p b a ≡ true) × (mem a s ≡ true))
-    → enough (p .n) (p .f) P ≡ true → hearsEnough p b s ≡ true
+    → enoughIn p P ≡ true → hearsEnough p b s ≡ true
 unfolding hearsEnough
 hears-enough p b s P i h = enough-mono (p .n) (p .f) P (λ a. hears p b a and mem a s) (λ a k e. let t = i a k e in and-i _ _ (t .0) (t .1)) h
 
 pub hears-enough-of : (p : Plan) (b s : ℕ) (Q : ℕ → Bool) → ((a : ℕ) → a < p .n → hears p b a ≡ true → mem a s ≡ true → Q a ≡ true)
-    → hearsEnough p b s ≡ true → enough (p .n) (p .f) Q ≡ true
+    → hearsEnough p b s ≡ true → enoughIn p Q ≡ true
 unfolding hearsEnough
 hears-enough-of p b s Q i h =
     enough-mono (p .n) (p .f) (λ a. hears p b a and mem a s) Q (λ a k e. i a k (and-l _ _ e) (and-r _ _ e)) h

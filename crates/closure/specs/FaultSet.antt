@@ -6,9 +6,13 @@ use Rattle.quorum.specs.Quorum.{enough}
 use Rattle.plan.specs.declared.Plan.{Plan}
 use Rattle.plan.specs.Plan.{hears}
 
+-- of the plan's terminals, those that have P can't all be bad
+abbrev pub enoughIn : Plan → (Terminal → Bool) → Bool
+enoughIn p P = enough (p .n) (p .f) P
+
 -- terminal b hears enough members of the set s: more than f
 unfoldable pub hearsEnough : Plan → (b : Terminal) (s : Set) → Bool
-hearsEnough p b s = enough (p .n) (p .f) (λ a. hears p b a and mem a s)
+hearsEnough p b s = enoughIn p (λ a. hears p b a and mem a s)
 
 -- every terminal outside s, the source too, hears at most f of its members; s may have more than f members
 unfoldable pub isBounded : Plan → Set → Bool

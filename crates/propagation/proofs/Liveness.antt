@@ -7,21 +7,21 @@ use native.Mathlib.Nat.{eq-or-lt-of-le, le-of-suc-le-suc, zero-add, suc-add}
 use native.Mathlib.Omega.{arith}
 use Rattle.sets.specs.Tests.{_and_}
 use Rattle.sets.specs.Sets.{mem}
-use Rattle.quorum.specs.Quorum.{enough}
 use Rattle.sets.proofs.Bools.{clash, and-i}
 use Rattle.sets.proofs.Laws.{mem-below}
 use Rattle.terminal.specs.declared.State.the-variants.{Waiting, Taken}
 use Rattle.terminal.specs.declared.Record.{Record}
-use Rattle.terminal.specs.Rule.{hasNoted, step}
-use Rattle.terminal.proofs.Laws.{Room, taken-stays, takes, waits-source, waits-votes, note-stays, spoken-noted}
+use Rattle.terminal.specs.Rule.{holds}
+use Rattle.terminal.proofs.Laws.{Room}
 use Rattle.plan.specs.declared.Plan.{Plan}
-use Rattle.plan.specs.Plan.{heardBy, hears}
+use Rattle.plan.specs.Plan.{hears}
 use Rattle.plan.proofs.Laws.{Sound}
-use Rattle.closure.specs.FaultSet.{hearsEnough, isFaultSet}
+use Rattle.closure.specs.FaultSet.{enoughIn, hearsEnough, isFaultSet}
 use Rattle.closure.specs.Closure.{reachedAfter}
-use Rattle.propagation.specs.Run.{Script}
+use Rattle.propagation.specs.Run.{Script, stepIn}
 use Rattle.closure.proofs.Faults.{fault-source, hears-enough-of}
 use Rattle.closure.proofs.Growth.{joins-why, after-below, after-why, after-good, first-only}
+use Rattle.propagation.proofs.Steps.{taken-stays, takes, waits-source, waits-votes, note-stays, spoken-noted}
 use Rattle.propagation.proofs.Rounds.{at, word, source-at-start, at-next, word-good, says-then-at}
 use Rattle.propagation.proofs.Safety.{safe, state-cases, not-both}
 
@@ -32,7 +32,7 @@ room-for m n x l h = omega arith
 module _ (p : Plan) (sound : Sound p) (faulty value : ℕ) (layout : value ≡ 0 → ⊥) (script : Script) (fault : isFaultSet p faulty ≡ true) where
   -- a good terminal's record one round on
   after : ℕ → ℕ → Record
-  after r b = step (p .n) (p .source) (p .f) (heardBy p b) (word p faulty value script r b) (at p faulty value script r b)
+  after r b = stepIn p b (word p faulty value script r b) (at p faulty value script r b)
 
   next-state : (r b : ℕ) → b < p .n → mem b faulty ≡ false → at p faulty value script (suc r) b .state ≡ after r b .state
   unfolding after
@@ -43,7 +43,7 @@ module _ (p : Plan) (sound : Sound p) (faulty value : ℕ) (layout : value ≡ 0
   unfolding after
   stays r b t v k g e =
       next-state r b k g
-      ∙ taken-stays (p .n) (p .source) (p .f) (heardBy p b) (word p faulty value script r b) (at p faulty value script r b) t v e
+      ∙ taken-stays p b (word p faulty value script r b) (at p faulty value script r b) t v e
 
   -- whoever waits has waited, and whoever had taken by an earlier round had taken then
   waited : (r b : ℕ) → b < p .n → mem b faulty ≡ false
@@ -58,7 +58,7 @@ module _ (p : Plan) (sound : Sound p) (faulty value : ℕ) (layout : value ≡ 0
       ⊎-elim
       (λ w.
       let o : t ≡ at p faulty value script r b .round + 1 =
-      takes (p .n) (p .source) (p .f) (heardBy p b) (word p faulty value script r b) (at p faulty value script r b) t v w (sym (next-state r b k g) ∙ e) .0 in
+      takes p b (word p faulty value script r b) (at p faulty value script r b) t v w (sym (next-state r b k g) ∙ e) .0 in
       let q : at p faulty value script r b .round ≡ r = safe p sound faulty value script fault r b k g .round-is in
       absurd (omega arith))
       (λ w. w .2 ∙ sym (stays r b (w .0) (w .1) k g (w .2)) ∙ e)
@@ -67,7 +67,7 @@ module _ (p : Plan) (sound : Sound p) (faulty value : ℕ) (layout : value ≡ 0
   -- a waiting terminal has noted the layout of each good neighbour that took before
   has-heard : (r b j t v : ℕ) → b < p .n → mem b faulty ≡ false → hears p b j ≡ true → mem j faulty ≡ false
       → at p faulty value script r b .state ≡ Waiting → at p faulty value script r j .state ≡ Taken t v → t < r
-      → hasNoted (at p faulty value script r b .notes) value j ≡ true
+      → holds (at p faulty value script r b) value j ≡ true
   unfolding after hears
   has-heard zero b j t v k g h gj w e l = absurd (omega arith)
   has-heard (suc r) b j t v k g h gj w e l =
@@ -75,20 +75,20 @@ module _ (p : Plan) (sound : Sound p) (faulty value : ℕ) (layout : value ≡ 0
       let then = had-taken r j t v jk gj (le-of-suc-le-suc l) e in
       let wr = waited r b k g w in
       let s = safe p sound faulty value script fault r b k g in
-      subst (λ (x : Record). hasNoted (x .notes) value j ≡ true) (sym (at-next p faulty value script r b k g))
+      subst (λ (x : Record). holds x value j ≡ true) (sym (at-next p faulty value script r b k g))
       (⊎-elim
       (λ now.
       let say : word p faulty value script r b j ≡ v = spoken r b j t v h gj now then in
       let vv : v ≡ value = safe p sound faulty value script fault r j jk gj .taken t v then .0 in
       let heard =
-      spoken-noted (p .n) (p .source) (p .f) (heardBy p b) (word p faulty value script r b) (at p faulty value script r b) j wr
+      spoken-noted p b (word p faulty value script r b) (at p faulty value script r b) j wr
       (room-for 20 (p .n) (at p faulty value script r b) (sound .twenty) (s .room)) jk h (λ z. layout (sym vv ∙ sym say ∙ z)) in
-      subst (λ (u : ℕ). hasNoted (after r b .notes) u j ≡ true)
+      subst (λ (u : ℕ). holds (after r b) u j ≡ true)
       (safe p sound faulty value script fault (suc r) b k g .notes-good j (heard .0) h gj
-      (subst (λ (x : Record). hasNoted (x .notes) (heard .0) j ≡ true) (sym (at-next p faulty value script r b k g)) (heard .1)))
+      (subst (λ (x : Record). holds x (heard .0) j ≡ true) (sym (at-next p faulty value script r b k g)) (heard .1)))
       (heard .1))
       (λ before.
-      note-stays (p .n) (p .source) (p .f) (heardBy p b) (word p faulty value script r b) (at p faulty value script r b) value j
+      note-stays p b (word p faulty value script r b) (at p faulty value script r b) value j
       (has-heard r b j t v k g h gj wr then before))
       (eq-or-lt-of-le (le-of-suc-le-suc l)))
     where
@@ -110,8 +110,8 @@ module _ (p : Plan) (sound : Sound p) (faulty value : ℕ) (layout : value ≡ 0
   source-heard r b k g h w =
       let noted = has-heard (suc r) b (p .source) 0 value k g h (fault-source p faulty fault) w (source-taken (suc r)) (omega arith) in
       clash noted
-      (subst (λ (x : Record). hasNoted (x .notes) value (p .source) ≡ false) (sym (at-next p faulty value script r b k g))
-      (waits-source (p .n) (p .source) (p .f) (heardBy p b) (word p faulty value script r b) (at p faulty value script r b) (waited r b k g w)
+      (subst (λ (x : Record). holds x value (p .source) ≡ false) (sym (at-next p faulty value script r b k g))
+      (waits-source p b (word p faulty value script r b) (at p faulty value script r b) (waited r b k g w)
       (sym (next-state r b k g) ∙ w) h value))
 
   enough-heard : (r b s : ℕ) → b < p .n → mem b faulty ≡ false → hearsEnough p b s ≡ true
@@ -119,16 +119,16 @@ module _ (p : Plan) (sound : Sound p) (faulty value : ℕ) (layout : value ≡ 0
       → at p faulty value script (suc r) b .state ≡ Waiting → ⊥
   unfolding after hears
   enough-heard r b s k g h took w =
-      let votes = hears-enough-of p b s (λ j. mem j (heardBy p b) and hasNoted (at p faulty value script (suc r) b .notes) value j)
+      let votes = hears-enough-of p b s (λ j. hears p b j and holds (at p faulty value script (suc r) b) value j)
       (λ j l e m. and-i _ _ e (voted j l e (took j l m))) h in
       clash votes
-      (subst (λ (x : Record). enough (p .n) (p .f) (λ j. mem j (heardBy p b) and hasNoted (x .notes) value j) ≡ false) (sym (at-next p faulty value script r b k g))
-      (waits-votes (p .n) (p .source) (p .f) (heardBy p b) (word p faulty value script r b) (at p faulty value script r b) (waited r b k g w)
+      (subst (λ (x : Record). enoughIn p (λ j. hears p b j and holds x value j) ≡ false) (sym (at-next p faulty value script r b k g))
+      (waits-votes p b (word p faulty value script r b) (at p faulty value script r b) (waited r b k g w)
       (sym (next-state r b k g) ∙ w) value))
     where
       voted : (j : ℕ) → j < p .n → hears p b j ≡ true
           → (mem j faulty ≡ false) × ((t : ℕ) × (v : ℕ) × (at p faulty value script r j .state ≡ Taken t v))
-          → hasNoted (at p faulty value script (suc r) b .notes) value j ≡ true
+          → holds (at p faulty value script (suc r) b) value j ≡ true
       voted j l e x =
           let early : x .1 .0 ≤ r = safe p sound faulty value script fault r j l (x .0) .taken (x .1 .0) (x .1 .1) (x .1 .2) .1 in
           has-heard (suc r) b j (x .1 .0) (x .1 .1) k g e (x .0) w (stays r j (x .1 .0) (x .1 .1) l (x .0) (x .1 .2)) (omega arith)

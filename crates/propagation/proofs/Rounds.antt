@@ -16,10 +16,10 @@ use Rattle.sets.proofs.Bools.{decide, pick-yes, pick-no, pick-case}
 use Rattle.terminal.specs.declared.State.{State}
 use Rattle.terminal.specs.declared.State.the-variants.{Waiting, Taken}
 use Rattle.terminal.specs.declared.Record.{Record}
-use Rattle.terminal.specs.Rule.{start, sourceStart, step}
+use Rattle.terminal.specs.Rule.{start, sourceStart}
 use Rattle.plan.specs.declared.Plan.{Plan}
-use Rattle.plan.specs.Plan.{heardBy, hears}
-use Rattle.propagation.specs.Run.{Script, table, startRecord, saysIn, heardFrom, recordIn, played, sites, site, SameWords}
+use Rattle.plan.specs.Plan.{hears}
+use Rattle.propagation.specs.Run.{Script, stepIn, table, startRecord, saysIn, heardFrom, recordIn, played, sites, site, SameWords}
 
 pub table-length : (n : ℕ) (one : ℕ → Record) → length (table n one) ≡ n
 unfolding table
@@ -76,7 +76,7 @@ module _ (p : Plan) (faulty value : ℕ) (script : Script) where
   other-at-start b k z = at-start b k ∙ pick-no _ _ _ (ne-eqb b (p .source) z)
 
   pub at-next : (r b : ℕ) → b < p .n → mem b faulty ≡ false
-      → at (suc r) b ≡ step (p .n) (p .source) (p .f) (heardBy p b) (word r b) (at r b)
+      → at (suc r) b ≡ stepIn p b (word r b) (at r b)
   unfolding site sites played recordIn
   at-next r b k g = table-at (p .n) (recordIn p faulty script (suc r) (sites p faulty value script r)) b k ∙ pick-no _ _ _ g
 
@@ -117,7 +117,7 @@ module _ (p : Plan) (faulty value : ℕ) (script other : Script) where
       → recordIn p faulty script round before b ≡ recordIn p faulty other round before b
   unfolding recordIn
   record-same r round same first last before b k =
-      ap (λ (said : ℕ → ℕ). pick (mem b faulty) start (step (p .n) (p .source) (p .f) (heardBy p b) said (getD before b start)))
+      ap (λ (said : ℕ → ℕ). pick (mem b faulty) start (stepIn p b said (getD before b start)))
       (fun-ext (heard-same r round same first last before b k))
 
   pub sites-same : (r : ℕ) → SameWords p faulty r script other → sites p faulty value script r ≡ sites p faulty value other r

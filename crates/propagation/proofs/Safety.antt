@@ -6,21 +6,20 @@ use mathlib.Core.Bool.{true, false}
 use native.Mathlib.Omega.{arith}
 use Rattle.sets.specs.Tests.{_and_}
 use Rattle.sets.specs.Sets.{mem}
-use Rattle.quorum.specs.Quorum.{enough}
 use Rattle.sets.proofs.Bools.{clash, decide, and-l, and-r}
 use Rattle.sets.proofs.Laws.{equal-or-not}
 use Rattle.terminal.specs.declared.State.{State}
 use Rattle.terminal.specs.declared.State.the-variants.{Waiting, Taken}
 use Rattle.terminal.specs.declared.Record.{Record}
-use Rattle.terminal.specs.Rule.{start, sourceStart, hasNoted, step}
-use Rattle.terminal.proofs.Notes.{has-layout}
-use Rattle.terminal.proofs.Laws.{Room, Reason, start-room, source-start-room, start-empty, step-round, step-room, taken-stays, takes, note-said}
+use Rattle.terminal.specs.Rule.{start, sourceStart, holds}
+use Rattle.terminal.proofs.Laws.{Room, start-room, source-start-room, start-empty, source-start-empty, holds-layout}
 use Rattle.plan.specs.declared.Plan.{Plan}
-use Rattle.plan.specs.Plan.{heardBy, hears}
+use Rattle.plan.specs.Plan.{hears}
 use Rattle.plan.proofs.Laws.{Sound}
-use Rattle.closure.specs.FaultSet.{isFaultSet}
-use Rattle.propagation.specs.Run.{Script}
+use Rattle.closure.specs.FaultSet.{enoughIn, isFaultSet}
+use Rattle.propagation.specs.Run.{Script, stepIn}
 use Rattle.closure.proofs.Faults.{fault-source, fault-bound, hears-enough}
+use Rattle.propagation.proofs.Steps.{step-round, step-room, taken-stays, takes, note-said}
 use Rattle.propagation.proofs.Rounds.{at, word, source-at-start, other-at-start, at-next, word-good, says-why}
 
 -- what holds of every good terminal's record after r rounds
@@ -28,7 +27,7 @@ pub record Safe (p : Plan) (faulty value r b : ℕ) (x : Record) : Type 0 where
   pub round-is : x .round ≡ r
   pub room : Room 20 x
   pub taken : (t v : ℕ) → x .state ≡ Taken t v → (v ≡ value) × (t ≤ r)
-  pub notes-good : (j v : ℕ) → hears p b j ≡ true → mem j faulty ≡ false → hasNoted (x .notes) v j ≡ true → v ≡ value
+  pub notes-good : (j v : ℕ) → hears p b j ≡ true → mem j faulty ≡ false → holds x v j ≡ true → v ≡ value
 
 -- a state is waiting or taken
 pub state-cases : (s : State) → (s ≡ Waiting) ⊎ ((t : ℕ) × (v : ℕ) × (s ≡ Taken t v))
@@ -52,7 +51,7 @@ module _ (p : Plan) (sound : Sound p) (faulty value : ℕ) (script : Script) (fa
     round-is = refl;
     room = source-start-room value;
     taken = λ t v e. let q : 0 ≡ t = cc in (cc, omega arith);
-    notes-good = λ j v h g e. clash e (start-empty v j);
+    notes-good = λ j v h g e. clash e (source-start-empty value v j);
   }
 
   start-safe : (b : ℕ) → b < p .n → Safe p faulty value 0 b (at p faulty value script 0 b)
@@ -73,25 +72,25 @@ module _ (p : Plan) (sound : Sound p) (faulty value : ℕ) (script : Script) (fa
   -- one round: the notes of good neighbours, and then what is taken
   next-notes : (r : ℕ) → ((b : ℕ) → b < p .n → mem b faulty ≡ false → Safe p faulty value r b (at p faulty value script r b))
       → (b : ℕ) → b < p .n → mem b faulty ≡ false → (j v : ℕ) → hears p b j ≡ true → mem j faulty ≡ false
-      → hasNoted (step (p .n) (p .source) (p .f) (heardBy p b) (word p faulty value script r b) (at p faulty value script r b) .notes) v j ≡ true
+      → holds (stepIn p b (word p faulty value script r b) (at p faulty value script r b)) v j ≡ true
       → v ≡ value
   next-notes r ih b k g j v h gj e =
       ⊎-elim (ih b k g .notes-good j v h gj)
       (λ s.
       good-word r ih b j v k h gj (s .1)
-      (has-layout (step (p .n) (p .source) (p .f) (heardBy p b) (word p faulty value script r b) (at p faulty value script r b) .notes) v j e))
-      (note-said (p .n) (p .source) (p .f) (heardBy p b) (word p faulty value script r b) (at p faulty value script r b) v j e)
+      (holds-layout (stepIn p b (word p faulty value script r b) (at p faulty value script r b)) v j e))
+      (note-said p b (word p faulty value script r b) (at p faulty value script r b) v j e)
 
   -- more than f neighbours cannot all be faulty, so one of them is good
   certified-good : (b : ℕ) → b < p .n → mem b faulty ≡ false → (x : Record) (v : ℕ)
-      → ((j : ℕ) → hears p b j ≡ true → mem j faulty ≡ false → hasNoted (x .notes) v j ≡ true → v ≡ value)
-      → enough (p .n) (p .f) (λ j. mem j (heardBy p b) and hasNoted (x .notes) v j) ≡ true → v ≡ value
+      → ((j : ℕ) → hears p b j ≡ true → mem j faulty ≡ false → holds x v j ≡ true → v ≡ value)
+      → enoughIn p (λ j. hears p b j and holds x v j) ≡ true → v ≡ value
   unfolding hears
   certified-good b k g x v notes m =
       ⊎-elim (λ e. e)
       (λ z.
       clash
-      (hears-enough p b faulty (λ j. mem j (heardBy p b) and hasNoted (x .notes) v j)
+      (hears-enough p b faulty (λ j. hears p b j and holds x v j)
       (λ j l e.
       (and-l _ _ e, ⊎-elim (λ t. t) (λ t. absurd (z (notes j (and-l _ _ e) t (and-r _ _ e)))) (decide (mem j faulty)))) m)
       (fault-bound p faulty fault b k g))
@@ -99,24 +98,23 @@ module _ (p : Plan) (sound : Sound p) (faulty value : ℕ) (script : Script) (fa
 
   next-taken : (r : ℕ) → ((b : ℕ) → b < p .n → mem b faulty ≡ false → Safe p faulty value r b (at p faulty value script r b))
       → (b : ℕ) → b < p .n → mem b faulty ≡ false → (t v : ℕ)
-      → step (p .n) (p .source) (p .f) (heardBy p b) (word p faulty value script r b) (at p faulty value script r b) .state ≡ Taken t v
+      → stepIn p b (word p faulty value script r b) (at p faulty value script r b) .state ≡ Taken t v
       → (v ≡ value) × (t ≤ suc r)
-  unfolding hears Reason
   next-taken r ih b k g t v e =
       ⊎-elim
       (λ w.
-      let why = takes (p .n) (p .source) (p .f) (heardBy p b) (word p faulty value script r b) (at p faulty value script r b) t v w e in
+      let why = takes p b (word p faulty value script r b) (at p faulty value script r b) t v w e in
       let q : at p faulty value script r b .round ≡ r = ih b k g .round-is in
       let o : t ≡ at p faulty value script r b .round + 1 = why .0 in (
         ⊎-elim (λ s. next-notes r ih b k g (p .source) v (s .0) (fault-source p faulty fault) (s .1))
             (λ m.
-            certified-good b k g (step (p .n) (p .source) (p .f) (heardBy p b) (word p faulty value script r b) (at p faulty value script r b)) v
+            certified-good b k g (stepIn p b (word p faulty value script r b) (at p faulty value script r b)) v
             (λ j h gj n. next-notes r ih b k g j v h gj n) m)
             (why .1),
         omega arith,
       ))
       (λ w.
-      let kept = taken-stays (p .n) (p .source) (p .f) (heardBy p b) (word p faulty value script r b) (at p faulty value script r b) (w .0) (w .1) (w .2) in
+      let kept = taken-stays p b (word p faulty value script r b) (at p faulty value script r b) (w .0) (w .1) (w .2) in
       let old = ih b k g .taken (w .0) (w .1) (w .2) in
       let tt1 : t ≡ w .0 = same-time (sym e ∙ kept) in
       let vv1 : v ≡ w .1 = same-value (sym e ∙ kept) in
@@ -135,11 +133,11 @@ module _ (p : Plan) (sound : Sound p) (faulty value : ℕ) (script : Script) (fa
       subst (Safe p faulty value (suc r) b) (sym (at-next p faulty value script r b k g))
       (record {
         round-is =
-            (let e = step-round (p .n) (p .source) (p .f) (heardBy p b) (word p faulty value script r b) (at p faulty value script r b) in
+            (let e = step-round p b (word p faulty value script r b) (at p faulty value script r b) in
             let q : at p faulty value script r b .round ≡ r = safe r b k g .round-is in
             let s : at p faulty value script r b .round + 1 ≡ suc r = omega arith in
             e ∙ s);
-        room = step-room (p .n) (p .source) (p .f) (heardBy p b) (word p faulty value script r b) 20 (at p faulty value script r b) (safe r b k g .room);
+        room = step-room p b (word p faulty value script r b) (at p faulty value script r b) 20 (safe r b k g .room);
         taken = next-taken r (safe r) b k g;
         notes-good = next-notes r (safe r) b k g;
       })

@@ -8,22 +8,22 @@ use Rattle.sets.specs.Sets.{mem}
 use Rattle.sets.proofs.Bools.{clash, decide, and-l, and-r}
 use Rattle.terminal.specs.declared.State.the-variants.{Waiting}
 use Rattle.terminal.specs.declared.Record.{Record}
-use Rattle.terminal.specs.Rule.{hasNoted, step}
-use Rattle.terminal.proofs.Notes.{has-layout}
-use Rattle.terminal.proofs.Laws.{Reason, start-empty, takes, note-said}
+use Rattle.terminal.specs.Rule.{holds}
+use Rattle.terminal.proofs.Laws.{start-empty, holds-layout}
 use Rattle.plan.specs.declared.Plan.{Plan}
-use Rattle.plan.specs.Plan.{heardBy, hears}
+use Rattle.plan.specs.Plan.{hears}
 use Rattle.plan.proofs.Laws.{Sound}
-use Rattle.propagation.specs.Run.{silence}
+use Rattle.propagation.specs.Run.{silence, stepIn}
 use Rattle.closure.proofs.Faults.{hears-enough}
 use Rattle.closure.proofs.Witness.{Accepted}
+use Rattle.propagation.proofs.Steps.{takes, note-said}
 use Rattle.propagation.proofs.Rounds.{at, word, other-at-start, at-next, word-good, word-faulty, says-why}
 use Rattle.propagation.proofs.Safety.{state-cases, not-both}
 
 module _ (p : Plan) (sound : Sound p) (f l r : ℕ) (accepted : Accepted p f l r) (value : ℕ) where
   -- a cut-off terminal waits, and has notes from reached terminals only
   Kept : ℕ → ℕ → Record → Type 0
-  Kept k b x = (x .state ≡ Waiting) × ((j v : ℕ) → hears p b j ≡ true → hasNoted (x .notes) v j ≡ true → mem j l ≡ true)
+  Kept k b x = (x .state ≡ Waiting) × ((j v : ℕ) → hears p b j ≡ true → holds x v j ≡ true → mem j l ≡ true)
 
   start-kept : (b : ℕ) → b < p .n → mem b r ≡ true → Kept 0 b (at p f value silence 0 b)
   unfolding Kept
@@ -34,11 +34,11 @@ module _ (p : Plan) (sound : Sound p) (f l r : ℕ) (accepted : Accepted p f l r
 
   next-notes : (k : ℕ) → ((b : ℕ) → b < p .n → mem b r ≡ true → Kept k b (at p f value silence k b))
       → (b : ℕ) → b < p .n → mem b r ≡ true → (j v : ℕ) → hears p b j ≡ true
-      → hasNoted (step (p .n) (p .source) (p .f) (heardBy p b) (word p f value silence k b) (at p f value silence k b) .notes) v j ≡ true
+      → holds (stepIn p b (word p f value silence k b) (at p f value silence k b)) v j ≡ true
       → mem j l ≡ true
   unfolding Kept
   next-notes k ih b lb m j v h n =
-      let z = has-layout (step (p .n) (p .source) (p .f) (heardBy p b) (word p f value silence k b) (at p f value silence k b) .notes) v j n in
+      let z = holds-layout (stepIn p b (word p f value silence k b) (at p f value silence k b)) v j n in
       ⊎-elim (ih b lb m .1 j v h)
       (λ s.
       ⊎-elim (λ bad. absurd (z (sym (s .1) ∙ word-faulty p f value silence k b j h bad)))
@@ -47,10 +47,10 @@ module _ (p : Plan) (sound : Sound p) (f l r : ℕ) (accepted : Accepted p f l r
       let lj = sound .heard-below b j lb h in
       ⊎-elim (λ e. e) (λ e. not-both (ih j lj (accepted .r-rest j lj good e) .0) (w .1)) (decide (mem j l)))
       (decide (mem j f)))
-      (note-said (p .n) (p .source) (p .f) (heardBy p b) (word p f value silence k b) (at p f value silence k b) v j n)
+      (note-said p b (word p f value silence k b) (at p f value silence k b) v j n)
 
   kept : (k b : ℕ) → b < p .n → mem b r ≡ true → Kept k b (at p f value silence k b)
-  unfolding Kept hears Reason
+  unfolding Kept hears
   kept zero b lb m = start-kept b lb m
   kept (suc k) b lb m =
       subst (Kept (suc k) b) (sym (at-next p f value silence k b lb (accepted .r-good b lb m))) (
@@ -61,12 +61,11 @@ module _ (p : Plan) (sound : Sound p) (f l r : ℕ) (accepted : Accepted p f l r
             clash
             (hears-enough p b l
             (λ j.
-            mem j (heardBy p b)
-            and hasNoted (step (p .n) (p .source) (p .f) (heardBy p b) (word p f value silence k b) (at p f value silence k b) .notes) (t .1) j)
+            hears p b j and holds (stepIn p b (word p f value silence k b) (at p f value silence k b)) (t .1) j)
             (λ j lj e. (and-l _ _ e, next-notes k (kept k) b lb m j (t .1) (and-l _ _ e) (and-r _ _ e))) s)
             (accepted .no-enough b lb m))
-            (takes (p .n) (p .source) (p .f) (heardBy p b) (word p f value silence k b) (at p f value silence k b) (t .0) (t .1) (kept k b lb m .0) (t .2) .1))
-            (state-cases (step (p .n) (p .source) (p .f) (heardBy p b) (word p f value silence k b) (at p f value silence k b) .state)),
+            (takes p b (word p f value silence k b) (at p f value silence k b) (t .0) (t .1) (kept k b lb m .0) (t .2) .1))
+            (state-cases (stepIn p b (word p f value silence k b) (at p f value silence k b) .state)),
         next-notes k (kept k) b lb m,
       )
 

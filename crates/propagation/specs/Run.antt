@@ -7,67 +7,70 @@ use mathlib.Core.List.{List, [], _∷_}
 use lib.Dec.{eqb}
 use lib.ListN.{getD}
 use Rattle.sets.specs.Tests.{pick}
-use Rattle.sets.specs.Sets.{mem}
+use Rattle.sets.specs.Sets.{Terminal, Set, mem}
 use Rattle.terminal.specs.declared.State.{State}
 use Rattle.terminal.specs.declared.State.the-variants.{Waiting, Taken}
 use Rattle.terminal.specs.declared.Record.{Record}
-use Rattle.terminal.specs.Rule.{start, sourceStart, step}
+use Rattle.terminal.specs.Rule.{Layout, Round, start, sourceStart, step}
 use Rattle.plan.specs.declared.Plan.{Plan}
 use Rattle.plan.specs.Plan.{heardBy, hears}
 
 abbrev pub Script : Type 0
-Script = ℕ → ℕ → ℕ → ℕ
+Script = (round : Round) (sender hearer : Terminal) → Layout
 
 abbrev pub silence : Script
 silence round sender hearer = 0
 
 -- the records of the terminals below n, one after the other
-unfoldable pub table : ℕ → (ℕ → Record) → List Record
+unfoldable pub table : (n : ℕ) (one : Terminal → Record) → List Record
 table zero one = []
 table (suc n) one = one 0 ∷ table n (λ b. one (suc b))
 
 -- the source starts as taken in round 0 with its value, all others start waiting
-unfoldable pub startRecord : Plan → ℕ → ℕ → Record
+unfoldable pub startRecord : Plan → (value : Layout) (b : Terminal) → Record
 startRecord p value b = pick (eqb b (p .source)) (sourceStart value) start
 
 -- what a good terminal says in a round: its value in the round after it took, and never again
-unfoldable pub saysIn : ℕ → State → ℕ
+unfoldable pub saysIn : Round → State → Layout
 saysIn round Waiting = 0
 saysIn round (Taken at value) = pick (eqb (at + 1) round) value 0
 
 -- what terminal b hears from terminal j in a round, where `before` are the records after the round before: the script's word if j is in the fault set
-unfoldable pub heardFrom : Plan → ℕ → Script → ℕ → List Record → ℕ → ℕ → ℕ
+unfoldable pub heardFrom : Plan → (faulty : Set) (script : Script) (round : Round) (before : List Record) (b j : Terminal) → Layout
 heardFrom p faulty script round before b j =
     pick (hears p b j) (pick (mem j faulty) (script round j b) (saysIn round (getD before j start .state))) 0
 
+-- one terminal's step in the plan
+abbrev pub stepIn : Plan → (b : Terminal) (said : Terminal → Layout) → Record → Record
+stepIn p b said r = step (p .n) (p .source) (p .f) (heardBy p b) said r
+
 -- a terminal's record after a round; one of the fault set stays waiting, round 0, nothing heard
-unfoldable pub recordIn : Plan → ℕ → Script → ℕ → List Record → ℕ → Record
+unfoldable pub recordIn : Plan → (faulty : Set) (script : Script) (round : Round) (before : List Record) (b : Terminal) → Record
 recordIn p faulty script round before b =
-    pick (mem b faulty) start
-    (step (p .n) (p .source) (p .f) (heardBy p b) (heardFrom p faulty script round before b) (getD before b start))
+    pick (mem b faulty) start (stepIn p b (heardFrom p faulty script round before b) (getD before b start))
 
 -- one round of the whole site
-unfoldable pub played : Plan → ℕ → Script → ℕ → List Record → List Record
+unfoldable pub played : Plan → (faulty : Set) (script : Script) (round : Round) (before : List Record) → List Record
 played p faulty script round before = table (p .n) (recordIn p faulty script round before)
 
 -- the site after a number of rounds
-unfoldable pub sites : Plan → ℕ → ℕ → Script → ℕ → List Record
+unfoldable pub sites : Plan → (faulty : Set) (value : Layout) (script : Script) (rounds : Round) → List Record
 sites p faulty value script zero = table (p .n) (startRecord p value)
 sites p faulty value script (suc r) = played p faulty script (suc r) (sites p faulty value script r)
 
 -- terminal b's record after r rounds
-unfoldable pub site : Plan → ℕ → ℕ → Script → ℕ → ℕ → Record
+unfoldable pub site : Plan → (faulty : Set) (value : Layout) (script : Script) (rounds : Round) (b : Terminal) → Record
 site p faulty value script r b = getD (sites p faulty value script r) b start
 
 -- ---- scripts that a run cannot tell apart
 
 -- two scripts have the same words of the fault set's members, on the links that there are, in the rounds 1 to r
-abbrev pub SameWords : Plan → ℕ → ℕ → Script → Script → Type 0
+abbrev pub SameWords : Plan → (faulty : Set) (r : Round) (script other : Script) → Type 0
 SameWords p faulty r script other =
     (round sender hearer : ℕ) → 1 ≤ round → round ≤ r → hearer < p .n → hears p hearer sender ≡ true → mem sender faulty ≡ true
     → script round sender hearer ≡ other round sender hearer
 
 -- silence: all words of the fault set's members are 0, in the rounds 1 to r; what anybody else's entries hold does not matter
-abbrev pub Silent : Plan → ℕ → ℕ → Script → Type 0
+abbrev pub Silent : Plan → (faulty : Set) (r : Round) (script : Script) → Type 0
 Silent p faulty r script =
     (round sender hearer : ℕ) → 1 ≤ round → round ≤ r → hearer < p .n → mem sender faulty ≡ true → script round sender hearer ≡ 0

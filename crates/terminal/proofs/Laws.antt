@@ -1,5 +1,5 @@
 -- The laws of the rule (specs/Rule.antt) that the layers above use in place of its text. They speak of a record's round and state, and of its notes
--- only through `hasNoted`: which values it has from which neighbour. Assumes nothing.
+-- only through `holds`: which values it has from which neighbour. Assumes nothing.
 use Prim.Native.Nat.{ℕ, zero, suc, _+_, _≤_, _<_}
 use mathlib.Core.Path.{_≡_, refl, sym, ap, _∙_, subst}
 use mathlib.Core.Logic.{_⊎_, inl, inr, ⊎-elim}
@@ -16,7 +16,7 @@ use Rattle.sets.proofs.Bools.{clash, no-by, and-no-r, pick-yes, pick-no}
 use Rattle.terminal.specs.declared.State.{State}
 use Rattle.terminal.specs.declared.State.the-variants.{Waiting, Taken}
 use Rattle.terminal.specs.declared.Record.{Record}
-use Rattle.terminal.specs.Rule.{start, sourceStart, firstWord, noted, hasNoted, certified, choice, taking, stepFrom, step}
+use Rattle.terminal.specs.Rule.{start, sourceStart, firstWord, noted, hasNoted, holds, certified, choice, taking, stepFrom, step}
 use Rattle.terminal.specs.Answer.{stateSound, recordSound, causeOf}
 use Rattle.terminal.proofs.Notes.{noted-length, noted-at, noted-change, first-spoken, zeros, has-i, has-layout, has-value, choice-why, choice-none-source, choice-none-certified, choice-least}
 
@@ -27,8 +27,8 @@ Room m r = m ≤ length (r .notes)
 -- why a waiting terminal took v: it has it from the source, or from more than f neighbours
 unfoldable pub Reason : ℕ → ℕ → ℕ → ℕ → Record → ℕ → Type 0
 Reason n source f heard r v =
-    ((mem source heard ≡ true) × (hasNoted (r .notes) v source ≡ true))
-    ⊎ (enough n f (λ j. mem j heard and hasNoted (r .notes) v j) ≡ true)
+    ((mem source heard ≡ true) × (holds r v source ≡ true))
+    ⊎ (enough n f (λ j. mem j heard and holds r v j) ≡ true)
 
 taking-taken : (round v at w : ℕ) → taking round v ≡ Taken at w → (at ≡ round) × (w ≡ v) × (v ≡ 0 → ⊥)
 unfolding taking
@@ -50,8 +50,21 @@ pub source-start-room : (value : ℕ) → Room 20 (sourceStart value)
 unfolding Room
 source-start-room value = omega (arith, length-replicate {A = ℕ} 20 0)
 
-pub start-empty : (v j : ℕ) → hasNoted (replicate 20 0) v j ≡ false
-start-empty v j = no-by (λ h. has-layout (replicate 20 0) v j h (sym (has-value (replicate 20 0) v j h) ∙ zeros 20 j))
+none-noted : (v j : ℕ) → hasNoted (replicate 20 0) v j ≡ false
+none-noted v j = no-by (λ h. has-layout (replicate 20 0) v j h (sym (has-value (replicate 20 0) v j h) ∙ zeros 20 j))
+
+pub start-empty : (v j : ℕ) → holds start v j ≡ false
+unfolding holds
+start-empty v j = none-noted v j
+
+pub source-start-empty : (value v j : ℕ) → holds (sourceStart value) v j ≡ false
+unfolding holds
+source-start-empty value v j = none-noted v j
+
+-- what is held is a layout
+pub holds-layout : (r : Record) (v j : ℕ) → holds r v j ≡ true → v ≡ 0 → ⊥
+unfolding holds
+holds-layout r v j h = has-layout (r .notes) v j h
 
 -- a source that starts with 0, which is no layout, is refused by its first step
 pub source-start-zero : (n source f own heard words : ℕ) → inRange n source f ≡ true → hearsSoundly n own heard ≡ true
@@ -59,10 +72,6 @@ pub source-start-zero : (n source f own heard words : ℕ) → inRange n source 
 unfolding causeOf recordSound stateSound
 source-start-zero n source f own heard words r h =
     pick-yes _ _ _ r ∙ pick-yes _ _ _ h ∙ pick-no _ _ _ (and-no-r (ltb 0 40) _ (and-no-r (ltb own n) _ (and-no-r (leb 0 0) (not (eqb 0 0)) refl)))
-
-first-at-zero : (said : ℕ) → firstWord true 0 said ≡ said
-unfolding firstWord pick _and_
-first-at-zero said = refl
 
 -- ---- the step: `notes` stands for the notes before it
 
@@ -109,35 +118,36 @@ module _ (n source f heard : ℕ) (said : ℕ → ℕ) where
   -- what a waiting terminal takes is the source's word or has more than f votes, and the take keeps the raised round number
   pub takes : (r : Record) (at value : ℕ) → r .state ≡ Waiting → step n source f heard said r .state ≡ Taken at value
       → (at ≡ r .round + 1) × Reason n source f heard (step n source f heard said r) value
-  unfolding Reason certified
+  unfolding Reason certified holds
   takes r at value w t =
       let p = taking-taken (r .round + 1) (choice n source f heard (step n source f heard said r .notes)) at value (sym (waiting-state r w) ∙ t) in
       (p .0, subst (λ (v : ℕ). Reason n source f heard (step n source f heard said r) v) (sym (p .1)) (choice-why n source f heard (step n source f heard said r .notes) (p .2)))
 
   -- one that goes on waiting has nothing from the source, and no value with more than f votes
   pub waits-source : (r : Record) → r .state ≡ Waiting → step n source f heard said r .state ≡ Waiting → mem source heard ≡ true
-      → (v : ℕ) → hasNoted (step n source f heard said r .notes) v source ≡ false
+      → (v : ℕ) → holds (step n source f heard said r) v source ≡ false
+  unfolding holds
   waits-source r w t h v =
       choice-none-source n source f heard (step n source f heard said r .notes)
       (taking-waits (r .round + 1) (choice n source f heard (step n source f heard said r .notes)) (sym (waiting-state r w) ∙ t)) h v
 
   pub waits-votes : (r : Record) → r .state ≡ Waiting → step n source f heard said r .state ≡ Waiting
-      → (v : ℕ) → enough n f (λ j. mem j heard and hasNoted (step n source f heard said r .notes) v j) ≡ false
-  unfolding certified
+      → (v : ℕ) → enough n f (λ j. mem j heard and holds (step n source f heard said r) v j) ≡ false
+  unfolding certified holds
   waits-votes r w t v =
       choice-none-certified n source f heard (step n source f heard said r .notes)
       (taking-waits (r .round + 1) (choice n source f heard (step n source f heard said r .notes)) (sym (waiting-state r w) ∙ t)) v
 
   -- a waiting terminal that has enough votes takes, and the smallest value that has them, unless the source has spoken to it
   pub takes-least : (r : Record) (at value : ℕ) → r .state ≡ Waiting → step n source f heard said r .state ≡ Taken at value
-      → (mem source heard and hasNoted (step n source f heard said r .notes) value source ≡ false)
-      → (v : ℕ) → enough n f (λ j. mem j heard and hasNoted (step n source f heard said r .notes) v j) ≡ true → value ≤ v
-  unfolding certified
+      → (mem source heard and holds (step n source f heard said r) value source ≡ false)
+      → (v : ℕ) → enough n f (λ j. mem j heard and holds (step n source f heard said r) v j) ≡ true → value ≤ v
+  unfolding certified holds
   takes-least r at value w t s v h =
       let p = taking-taken (r .round + 1) (choice n source f heard (step n source f heard said r .notes)) at value (sym (waiting-state r w) ∙ t) in
       subst (λ (x : ℕ). x ≤ v) (sym (p .1))
       (choice-least n source f heard (step n source f heard said r .notes) (p .2)
-      (subst (λ (x : ℕ). mem source heard and hasNoted (step n source f heard said r .notes) x source ≡ false) (p .1) s) v h)
+      (subst (λ (x : ℕ). mem source heard and holds (step n source f heard said r) x source ≡ false) (p .1) s) v h)
 
   -- a note stays, or it was nothing and is now what that neighbour said
   from-change : (s : State) (round : ℕ) (notes : List ℕ) (j : ℕ)
@@ -154,8 +164,9 @@ module _ (n source f heard : ℕ) (said : ℕ → ℕ) where
   step-change r j = from-change (r .state) (r .round) (r .notes) j
 
   -- a note was there before, or that neighbour said it now
-  pub note-said : (r : Record) (v j : ℕ) → hasNoted (step n source f heard said r .notes) v j ≡ true
-      → (hasNoted (r .notes) v j ≡ true) ⊎ ((mem j heard ≡ true) × (said j ≡ v))
+  pub note-said : (r : Record) (v j : ℕ) → holds (step n source f heard said r) v j ≡ true
+      → (holds r v j ≡ true) ⊎ ((mem j heard ≡ true) × (said j ≡ v))
+  unfolding holds
   note-said r v j h =
       let e = has-value (step n source f heard said r .notes) v j h in
       ⊎-elim (λ p. inl (has-i (r .notes) v j (has-layout (step n source f heard said r .notes) v j h) (sym p ∙ e)))
@@ -163,7 +174,8 @@ module _ (n source f heard : ℕ) (said : ℕ → ℕ) where
       (step-change r j)
 
   -- a note stays
-  pub note-stays : (r : Record) (v j : ℕ) → hasNoted (r .notes) v j ≡ true → hasNoted (step n source f heard said r .notes) v j ≡ true
+  pub note-stays : (r : Record) (v j : ℕ) → holds r v j ≡ true → holds (step n source f heard said r) v j ≡ true
+  unfolding holds
   note-stays r v j h =
       let e = has-value (r .notes) v j h in
       let z = has-layout (r .notes) v j h in
@@ -178,20 +190,10 @@ module _ (n source f heard : ℕ) (said : ℕ → ℕ) where
       ∙ noted-at n (λ j. mem j heard) said (r .notes) j k (lt-of-lt-of-le k m)
       ∙ ap (λ (b : Bool). firstWord b (getD (r .notes) j 0) (said j)) h
 
-  -- the first word of a heard neighbour is noted
-  pub first-noted : (r : Record) (v j : ℕ) → r .state ≡ Waiting → Room n r → j < n → mem j heard ≡ true
-      → ((u : ℕ) → hasNoted (r .notes) u j ≡ false) → said j ≡ v → (v ≡ 0 → ⊥) → hasNoted (step n source f heard said r .notes) v j ≡ true
-  first-noted r v j w m k h e s z =
-      has-i (step n source f heard said r .notes) v j z
-      (heard-note r j w m k h ∙ ap (λ (x : ℕ). firstWord true x (said j)) (no-note (getD (r .notes) j 0) refl) ∙ first-at-zero (said j) ∙ s)
-    where
-      no-note : (x : ℕ) → getD (r .notes) j 0 ≡ x → getD (r .notes) j 0 ≡ 0
-      no-note zero q = q
-      no-note (suc x) q = clash (has-i (r .notes) (suc x) j (λ y. omega arith) q) (e (suc x))
-
   -- whoever is heard and has spoken has a note
   pub spoken-noted : (r : Record) (j : ℕ) → r .state ≡ Waiting → Room n r → j < n → mem j heard ≡ true → (said j ≡ 0 → ⊥)
-      → (u : ℕ) × (hasNoted (step n source f heard said r .notes) u j ≡ true)
+      → (u : ℕ) × (holds (step n source f heard said r) u j ≡ true)
+  unfolding holds
   spoken-noted r j w m k h s = (
     getD (step n source f heard said r .notes) j 0,
     has-i (step n source f heard said r .notes) (getD (step n source f heard said r .notes) j 0) j

@@ -5,14 +5,18 @@ use mathlib.Core.List.{List}
 use lib.Dec.{eqb, ltb, leb}
 use lib.ListN.{length, getD}
 use Rattle.sets.specs.Tests.{_and_, pick}
-use Rattle.sets.specs.Sets.{mem, within}
+use Rattle.sets.specs.Sets.{Terminal, Set}
 use Rattle.quorum.specs.Quorum.{inRange, hearsSoundly}
 use Rattle.terminal.specs.declared.State.{State}
 use Rattle.terminal.specs.declared.State.the-variants.{Waiting, Taken}
 use Rattle.terminal.specs.declared.Record.{Record}
 use Rattle.terminal.specs.declared.Outcome.{Outcome}
 use Rattle.terminal.specs.declared.Outcome.the-variants.{Accepted, WrongRange, WrongLink, WrongLength, WrongRecord}
-use Rattle.terminal.specs.Rule.{step}
+use Rattle.terminal.specs.Rule.{Layout, Round, step}
+
+-- run and step stop at this round
+abbrev pub mostRounds : ℕ
+mostRounds = 40
 
 -- document 01's number of each outcome, 0 where nothing is refused
 abbrev pub numberOf : Outcome → ℕ
@@ -23,22 +27,22 @@ numberOf WrongLength = 12
 numberOf WrongRecord = 13
 
 -- not the source waiting; not taken later than the record's round, nor with value 0
-unfoldable pub stateSound : State → Bool → ℕ → Bool
+unfoldable pub stateSound : State → (isSource : Bool) (round : Round) → Bool
 stateSound Waiting isSource round = not isSource
 stateSound (Taken at value) isSource round = leb at round and not (eqb value 0)
 
 -- the record can be stepped: before round 40, its own number below n, its state sound
-unfoldable pub recordSound : ℕ → ℕ → ℕ → Record → Bool
-recordSound n source own r = ltb (r .round) 40 and ltb own n and stateSound (r .state) (eqb own source) (r .round)
+unfoldable pub recordSound : (n : ℕ) (source own : Terminal) → Record → Bool
+recordSound n source own r = ltb (r .round) mostRounds and ltb own n and stateSound (r .state) (eqb own source) (r .round)
 
 -- the number of the first cause that applies, in the order 4, 5, 13, 12; 0 where none does
-unfoldable pub causeOf : ℕ → ℕ → ℕ → ℕ → ℕ → Record → ℕ → ℕ
+unfoldable pub causeOf : (n : ℕ) (source : Terminal) (f : ℕ) (own : Terminal) (heard : Set) → Record → (words : ℕ) → ℕ
 causeOf n source f own heard r words =
     pick (inRange n source f)
     (pick (hearsSoundly n own heard) (pick (recordSound n source own r) (pick (eqb words n) 0 12) 13) 5)
     4
 
 -- the record that comes back: the stepped one, or where the step is refused the one that went in
-unfoldable pub recordAfter : ℕ → ℕ → ℕ → ℕ → ℕ → Record → List ℕ → Record
+unfoldable pub recordAfter : (n : ℕ) (source : Terminal) (f : ℕ) (own : Terminal) (heard : Set) → Record → (said : List Layout) → Record
 recordAfter n source f own heard r said =
     pick (eqb (causeOf n source f own heard r (length said)) 0) (step n source f heard (λ j. getD said j 0) r) r

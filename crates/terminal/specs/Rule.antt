@@ -6,27 +6,34 @@ use mathlib.Core.List.{List, [], _∷_}
 use lib.Dec.{eqb}
 use lib.ListN.{getD, replicate}
 use Rattle.sets.specs.Tests.{_and_, pick}
-use Rattle.sets.specs.Sets.{mem}
+use Rattle.sets.specs.Sets.{Terminal, Set, mem}
 use Rattle.quorum.specs.Quorum.{enough}
 use Rattle.terminal.specs.declared.State.{State}
 use Rattle.terminal.specs.declared.State.the-variants.{Waiting, Taken}
 use Rattle.terminal.specs.declared.Record.{Record}
+
+-- layouts are 1 to 65,535, and 0 means that nothing was said
+abbrev pub Layout : Type 0
+Layout = ℕ
+
+abbrev pub Round : Type 0
+Round = ℕ
 
 -- ---- the start: every record is at round 0 with nothing heard, the source's too
 
 abbrev pub start : Record
 start = record { state = Waiting; round = 0; notes = replicate 20 0 }
 
-abbrev pub sourceStart : ℕ → Record
+abbrev pub sourceStart : Layout → Record
 sourceStart value = record { state = Taken 0 value; round = 0; notes = replicate 20 0 }
 
 -- ---- notes: for each neighbour it hears, the first value that this neighbour said
 
 -- one neighbour's note after a round: what it said, if it is heard and nothing is noted of it yet
-unfoldable pub firstWord : Bool → ℕ → ℕ → ℕ
+unfoldable pub firstWord : (hears : Bool) (note said : Layout) → Layout
 firstWord hears note said = pick (hears and eqb note 0) said note
 
-unfoldable pub noted : ℕ → (ℕ → Bool) → (ℕ → ℕ) → List ℕ → List ℕ
+unfoldable pub noted : (n : ℕ) (hears : Terminal → Bool) (said : Terminal → Layout) (notes : List Layout) → List Layout
 noted zero hears said notes = notes
 noted (suc n) hears said [] = []
 noted (suc n) hears said (note ∷ notes) =
@@ -35,41 +42,45 @@ noted (suc n) hears said (note ∷ notes) =
 -- ---- the choice of a value, 0 for none
 
 -- v is a layout, and it is what is noted of terminal j
-unfoldable pub hasNoted : List ℕ → ℕ → ℕ → Bool
+unfoldable pub hasNoted : (notes : List Layout) (v : Layout) (j : Terminal) → Bool
 hasNoted notes v j = not (eqb v 0) and eqb (getD notes j 0) v
 
+-- who has said what to it: it has the layout v from terminal j
+unfoldable pub holds : Record → Layout → Terminal → Bool
+holds r v j = hasNoted (r .notes) v j
+
 -- v is noted from more than f different neighbours
-unfoldable pub certified : ℕ → ℕ → ℕ → List ℕ → ℕ → Bool
+unfoldable pub certified : (n f : ℕ) (heard : Set) (notes : List Layout) (v : Layout) → Bool
 certified n f heard notes v = enough n f (λ j. mem j heard and hasNoted notes v j)
 
 -- the lesser of two values, where 0 is none; the least of the values of the terminals below n
-unfoldable pub lesser : ℕ → ℕ → ℕ
+unfoldable pub lesser : Layout → Layout → Layout
 lesser zero b = b
 lesser (suc a) zero = suc a
 lesser (suc a) (suc b) = min (suc a) (suc b)
 
-unfoldable pub least : ℕ → (ℕ → ℕ) → ℕ
+unfoldable pub least : (n : ℕ) (value : Terminal → Layout) → Layout
 least zero value = 0
 least (suc n) value = lesser (value 0) (least n (λ j. value (suc j)))
 
 -- the note of a neighbour, if it is certified; a certified value is noted from some neighbour, so these are all of them
-unfoldable pub candidate : ℕ → ℕ → ℕ → List ℕ → ℕ → ℕ
+unfoldable pub candidate : (n f : ℕ) (heard : Set) (notes : List Layout) (j : Terminal) → Layout
 candidate n f heard notes j = pick (mem j heard and certified n f heard notes (getD notes j 0)) (getD notes j 0) 0
 
 -- the value noted from the source, if it hears the source and has one; otherwise the smallest that is certified
-unfoldable pub choice : ℕ → ℕ → ℕ → ℕ → List ℕ → ℕ
+unfoldable pub choice : (n : ℕ) (source : Terminal) (f : ℕ) (heard : Set) (notes : List Layout) → Layout
 choice n source f heard notes =
     pick (mem source heard and not (eqb (getD notes source 0) 0)) (getD notes source 0) (least n (candidate n f heard notes))
 
 -- ---- the step
 
 -- the state of a terminal that chose a value in a round: it waits where there is none
-unfoldable pub taking : ℕ → ℕ → State
+unfoldable pub taking : Round → Layout → State
 taking round zero = Waiting
 taking round (suc v) = Taken round (suc v)
 
 -- a waiting terminal notes and chooses, and a take keeps the raised round number; one that has taken changes only its round number
-unfoldable pub stepFrom : State → ℕ → ℕ → ℕ → ℕ → (ℕ → ℕ) → ℕ → List ℕ → Record
+unfoldable pub stepFrom : State → (n : ℕ) (source : Terminal) (f : ℕ) (heard : Set) (said : Terminal → Layout) (round : Round) (notes : List Layout) → Record
 stepFrom Waiting n source f heard said round notes = record {
   state = taking (round + 1) (choice n source f heard (noted n (λ j. mem j heard) said notes));
   round = round + 1;
@@ -77,5 +88,5 @@ stepFrom Waiting n source f heard said round notes = record {
 }
 stepFrom (Taken at value) n source f heard said round notes = record { state = Taken at value; round = round + 1; notes = notes }
 
-unfoldable pub step : ℕ → ℕ → ℕ → ℕ → (ℕ → ℕ) → Record → Record
+unfoldable pub step : (n : ℕ) (source : Terminal) (f : ℕ) (heard : Set) (said : Terminal → Layout) → Record → Record
 step n source f heard said r = stepFrom (r .state) n source f heard said (r .round) (r .notes)
