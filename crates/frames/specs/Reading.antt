@@ -4,7 +4,7 @@ use mathlib.Core.Bool.{Bool, not}
 use mathlib.Core.List.{List, [], _∷_}
 use lib.Dec.{eqb, leb, ltb}
 use lib.ListN.{length, getD, set, replicate}
-use Rattle.sets.specs.Tests.{_and_, _or_, pick}
+use Rattle.sets.specs.Tests.{_and_, pick}
 use Rattle.sets.specs.Sets.{mem, with}
 use Rattle.terminal.specs.Answer.{inRange}
 use Rattle.plan.specs.declared.Plan.{Plan}
