@@ -2,8 +2,7 @@
 use Prim.Native.Nat.{ℕ}
 use mathlib.Core.Path.{_≡_, sym, ap, _∙_, subst}
 use mathlib.Core.List.{List}
-use Rattle.plan.specs.declared.Plan.{Plan}
-use Rattle.frames.specs.Reading.{Reading, reading, planReading, runReading}
+use Rattle.frames.specs.Reading.{Reading, reading, planReading}
 use Rattle.frames.proofs.Accepted.{reading-known, run-is}
 use Rattle.writer.specs.Written.{planText}
 use Rattle.writer.specs.RoundTrip.{Says, Again, RoundTrip}
@@ -15,8 +14,8 @@ use Rattle.writer.proofs.TextLinks.{reading-links}
 says : (kinds : ℕ) (file : List ℕ) → reading kinds file .number ≡ 0 → Says kinds file (reading kinds file .progress .plan)
 says kinds file h = record { head = reading-begins kinds file h; links = reading-links kinds file h }
 
--- for any program's kinds
-again : (kinds : ℕ) (file : List ℕ) → reading kinds file .number ≡ 0 → Again kinds file (reading kinds file .progress .plan)
+-- whatever kinds its program knows
+pub again : (kinds : ℕ) (file : List ℕ) → reading kinds file .number ≡ 0 → Again kinds file (reading kinds file .progress .plan)
 unfolding planReading
 again kinds file h =
     let w = reading-known kinds file h .plan-whole in
