@@ -151,7 +151,7 @@ module _ (p : Progress) (words : List ℕ) where
       let c = stage-of 2 (pick (not (eqb value 0) and leb rounds 40) 0 9) h in
       (c .0, choice-zero (not (eqb value 0) and leb rounds 40) 0 9 (λ z. omega arith) (c .1) .0)
 
-  message-accepted : (round from to value : ℕ) → causeIn p words (Message round from to value) ≡ 0 → p .stage ≡ 3
+  pub message-accepted : (round from to value : ℕ) → causeIn p words (Message round from to value) ≡ 0 → p .stage ≡ 3
   unfolding causeIn messageCause
   message-accepted round from to value h = stage-of 3 _ h .0
 
@@ -182,7 +182,7 @@ module _ (p : Progress) (words : List ℕ) where
 -- ---- the lines: what every accepted frame leaves, after the first and after a later one, an accepted file leaves
 
 -- a text that is not empty has a line
-some-line : (line text : List ℕ) → 0 < length line + length text → linesFrom line text ≡ [] → ⊥
+pub some-line : (line text : List ℕ) → 0 < length line + length text → linesFrom line text ≡ [] → ⊥
 unfolding linesFrom lastLine
 some-line [] [] h = λ e. omega arith
 some-line (b ∷ line) [] h = λ e. let z : _≡_ {A = ℕ} 0 1 = cc in omega arith
@@ -282,6 +282,10 @@ whole-stage r =
     (eqb (r .number) 0 and not (eqb (r .progress .stage) 3)) (refusal 3 0) r
     (λ t z. absurd (omega arith))
     (λ t z. (refl, eqb-true (r .progress .stage) 3 (not-no _ (sym (and-yes _ _ (eq-eqb (r .number) 0 z)) ∙ t))))
+
+pub run-is : (text : List ℕ) → runReading text .number ≡ 0 → runReading text ≡ reading 5 text
+unfolding runReading
+run-is text h = whole-stage (reading 5 text) h .0
 
 pub run-accepted : (text : List ℕ) → runReading text .number ≡ 0
     → (causeOf (runReading text .progress .plan) ≡ 0)

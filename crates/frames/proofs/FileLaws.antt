@@ -1,7 +1,10 @@
 -- What a file is by its length, and a run file by what was read of it. Assumes nothing.
 use Prim.Native.Nat.{ℕ, _<_}
-use mathlib.Core.Path.{_≡_, sym, _∙_}
+use mathlib.Core.Path.{_≡_, sym, ap, _∙_}
+use mathlib.Core.Bool.{true}
 use mathlib.Core.List.{List}
+use native.Mathlib.Omega.{arith}
+use lib.Dec.{eqb}
 use lib.ListN.{length}
 use borrow.Author.Tests.{eq-eqb, ne-eqb, lt-leb}
 use Rattle.sets.proofs.Bools.{and-i, and-no-l, and-no-r, not-i, not-yes, pick-yes, pick-no}
@@ -18,28 +21,52 @@ long-file kinds text h = pick-no _ _ _ (and-no-r _ _ (lt-leb (length text) 24576
 
 -- ---- a run file
 
-pub wrong-room : (text : List ℕ) (room : ℕ) → (room ≡ 16000 → ⊥) → runFile text room ≡ refusal 12 0
+-- a list that fits is not looked at
+pub run-file : (text : List ℕ) (room : ℕ) → room ≡ 16000 → runFile text room ≡ runReading text
 unfolding runFile
-wrong-room text room h = pick-no _ _ _ (ne-eqb room 16000 h)
+run-file text room fits = pick-no _ _ _ (and-no-r _ _ (not-yes (eq-eqb room 16000 fits)))
 
-module _ (text : List ℕ) (room : ℕ) (fits : room ≡ 16000) where
-  pub run-file : runFile text room ≡ runReading text
+-- what the file is by what was read of its lines
+module _ (text : List ℕ) (room : ℕ) (file : FileRead) (e : file ≡ fileRead (reading 5 text)) where
+  number-is : reading 5 text .number ≡ file .number
+  number-is = sym (ap (λ (f : FileRead). f .number) e)
+
+  stage-is : reading 5 text .progress .stage ≡ file .progress .stage
+  stage-is = sym (ap (λ (f : FileRead). f .progress .stage) e)
+
+  -- a refused file's list is not looked at either
+  file-first : (found : Reading) → runReading text ≡ found → (found .number ≡ 0 → ⊥) → runFile text room ≡ found
   unfolding runFile
-  run-file = pick-yes _ _ _ (eq-eqb room 16000 fits)
+  file-first found h n = pick-no _ _ _ (and-no-l _ _ (ne-eqb (runReading text .number) 0 (λ z. n (sym (ap (λ (r : Reading). r .number) h) ∙ z)))) ∙ h
 
-  pub run-refused : (reading 5 text .number ≡ 0 → ⊥) → runFile text room ≡ reading 5 text
+  pub run-refused : (file .number ≡ 0 → ⊥) → runFile text room ≡ reading 5 text
   unfolding whole runReading
-  run-refused h = run-file ∙ pick-no _ _ _ (and-no-l _ _ (ne-eqb (reading 5 text .number) 0 h))
+  run-refused n =
+      let m : reading 5 text .number ≡ 0 → ⊥ = λ z. n (sym number-is ∙ z) in
+      file-first (reading 5 text) (pick-no _ _ _ (and-no-l _ _ (ne-eqb (reading 5 text .number) 0 m))) m
 
-  pub run-early : reading 5 text .number ≡ 0 → (reading 5 text .progress .stage ≡ 3 → ⊥) → runFile text room ≡ refusal 3 0
-  unfolding whole runReading
-  run-early h s =
-      run-file
-      ∙ pick-yes _ _ _ (and-i _ _ (eq-eqb (reading 5 text .number) 0 h) (not-i (ne-eqb (reading 5 text .progress .stage) 3 s)))
+  module _ (z : file .number ≡ 0) where
+    accepted : eqb (reading 5 text .number) 0 ≡ true
+    accepted = eq-eqb (reading 5 text .number) 0 (number-is ∙ z)
 
-  pub run-whole : reading 5 text .progress .stage ≡ 3 → runFile text room ≡ reading 5 text
-  unfolding whole runReading
-  run-whole s = run-file ∙ pick-no _ _ _ (and-no-r _ _ (not-yes (eq-eqb (reading 5 text .progress .stage) 3 s)))
+    pub run-early : (file .progress .stage ≡ 3 → ⊥) → runFile text room ≡ refusal 3 0
+    unfolding whole runReading
+    run-early s =
+        file-first (refusal 3 0)
+        (pick-yes _ _ _ (and-i _ _ accepted (not-i (ne-eqb (reading 5 text .progress .stage) 3 (λ y. s (sym stage-is ∙ y)))))) (λ y. omega arith)
+
+    module _ (s : file .progress .stage ≡ 3) where
+      whole-is : runReading text ≡ reading 5 text
+      unfolding whole runReading
+      whole-is = pick-no _ _ _ (and-no-r _ _ (not-yes (eq-eqb (reading 5 text .progress .stage) 3 (stage-is ∙ s))))
+
+      pub run-whole : room ≡ 16000 → runFile text room ≡ reading 5 text
+      run-whole fits = run-file text room fits ∙ whole-is
+
+      pub wrong-room : (room ≡ 16000 → ⊥) → runFile text room ≡ refusal 12 0
+      unfolding runFile
+      wrong-room n =
+          pick-yes _ _ _ (and-i _ _ (ap (λ (r : Reading). eqb (r .number) 0) whole-is ∙ accepted) (not-i (ne-eqb room 16000 n)))
 
 -- what a caller gets of a file that was found to be this one
 pub answered : (r : FileRead) (before last : List ℕ) (file found : Reading) → file ≡ found → r ≡ fileRead found → last ≡ wordsRead found before

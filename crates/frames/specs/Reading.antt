@@ -4,7 +4,7 @@ use mathlib.Core.Bool.{Bool, not}
 use mathlib.Core.List.{List, [], _∷_}
 use lib.Dec.{eqb, leb, ltb}
 use lib.ListN.{length, getD, set, replicate}
-use Rattle.sets.specs.Tests.{_and_, _or_, pick}
+use Rattle.sets.specs.Tests.{_and_, pick}
 use Rattle.sets.specs.Sets.{mem, with}
 use Rattle.quorum.specs.Quorum.{inRange}
 use Rattle.plan.specs.declared.Plan.{Plan}
@@ -12,7 +12,7 @@ use Rattle.plan.specs.Plan.{heardBy, hears}
 use Rattle.faults.specs.Check.{faultCauseOf}
 use Rattle.lines.specs.declared.Frame.{Frame}
 use Rattle.lines.specs.declared.Frame.the-variants.{Foreign, Unknown, Head, Link, FaultSet, Start, Message}
-use Rattle.lines.specs.Frames.{frameOf}
+use Rattle.lines.specs.Frames.{frameOf, numberOf}
 use Rattle.frames.specs.declared.Progress.{Progress}
 use Rattle.frames.specs.declared.FileRead.{FileRead}
 use Rattle.frames.specs.Lines.{Line, ended, cut, linesFrom}
@@ -62,8 +62,8 @@ messageCause p words round from to value =
     3
 
 unfoldable pub causeIn : Progress → List ℕ → Frame → ℕ
-causeIn p words Foreign = 1
-causeIn p words Unknown = 2
+causeIn p words Foreign = numberOf Foreign
+causeIn p words Unknown = numberOf Unknown
 causeIn p words (Head n source f) = headCause p n source f
 causeIn p words (Link from to) = linkCause p from to
 causeIn p words (FaultSet s) = faultSetCause p s
@@ -140,9 +140,10 @@ runReading text = whole (reading 5 text)
 abbrev pub fileRead : Reading → FileRead
 fileRead r = record { number = r .number; line = r .line; progress = r .progress }
 
--- the reader of run files is lent a list for the words: one of the wrong length is refused 12, and a refused call leaves it as it was
+-- the reader of run files is lent a list for the words: where the file is accepted, one of the wrong length is refused 12
 unfoldable pub runFile : List ℕ → ℕ → Reading
-runFile text room = pick (eqb room 16000) (runReading text) (refusal 12 0)
+runFile text room = pick (eqb (runReading text .number) 0 and not (eqb room 16000)) (refusal 12 0) (runReading text)
 
+-- the list afterwards: a refused call leaves it as it was
 unfoldable pub wordsRead : Reading → List ℕ → List ℕ
 wordsRead r before = pick (eqb (r .number) 0) (r .words) before

@@ -117,9 +117,6 @@ fn copy_words(from: &[u16], to: &mut [u16])
 pub fn read_run(text: &[u8], words: &mut [u16]) -> FileRead
     ensures { λ r. ⌜ (r ≡ fileRead (runFile (now (text .entry)) (length (now (words .entry))))) × (now (words .exit) ≡ wordsRead (runFile (now (text .entry)) (length (now (words .entry)))) (now (words .entry))) ⌝ }
 {
-    if words.len() != 16000 {
-        return refusal(12, 0);
-    }
     let mut local = [0u16; 16000];
     let file = read(5, text, &mut local);
     if file.number != 0 {
@@ -127,6 +124,9 @@ pub fn read_run(text: &[u8], words: &mut [u16]) -> FileRead
     }
     if file.progress.stage != 3 {
         return refusal(3, 0);
+    }
+    if words.len() != 16000 {
+        return refusal(12, 0);
     }
     copy_words(&local, words);
     file

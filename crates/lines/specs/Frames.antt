@@ -8,6 +8,16 @@ use Rattle.lines.specs.declared.Frame.{Frame}
 use Rattle.lines.specs.declared.Frame.the-variants.{Foreign, Unknown, Head, Link, FaultSet, Start, Message}
 use Rattle.lines.specs.Digits.{byteAt, wellFormed}
 
+-- document 01's number of a line that is no frame, 0 for a frame
+abbrev pub numberOf : Frame → ℕ
+numberOf Foreign = 1
+numberOf Unknown = 2
+numberOf (Head n source f) = 0
+numberOf (Link from to) = 0
+numberOf (FaultSet s) = 0
+numberOf (Start value rounds) = 0
+numberOf (Message round from to value) = 0
+
 -- larger numbers have their high byte first
 unfoldable pub pairAt : List ℕ → ℕ → ℕ
 pairAt line i = 256 * byteAt line i + byteAt line (i + 1)

@@ -8,6 +8,7 @@ use native.Mathlib.Omega.{arith}
 use lib.Dec.{eqb, leb}
 use lib.ListN.{length, take, length-append, length-take}
 use borrow.Author.Tests.{eqb-true, leb-true, le-leb}
+use Rattle.sets.specs.Tests.{pick}
 use Rattle.sets.specs.Sets.{mem}
 use Rattle.sets.proofs.Bools.{pick-yes, pick-case}
 use Rattle.terminal.specs.declared.State.{State}
@@ -15,25 +16,25 @@ use Rattle.terminal.specs.declared.State.the-variants.{Waiting, Taken}
 use Rattle.partition.specs.Answer.{Answer, answerOf}
 use Rattle.lines.specs.Digits.{hexByte}
 use Rattle.frames.specs.declared.Progress.{Progress}
-use Rattle.frames.specs.Reading.{planReading, runReading}
+use Rattle.frames.specs.declared.FileRead.{FileRead}
+use Rattle.frames.specs.Reading.{planReading, runReading, fileRead}
 use Rattle.output.specs.declared.Written.{Written}
-use Rattle.writer.specs.Written.{planText}
 use Rattle.writer.proofs.Laws.{text-short}
 use Rattle.output.specs.Lines.{hexPair, hexTriple, refusalLine, verdictLine, terminalLine}
-use Rattle.output.specs.Texts.{answerText, verdictText, writtenOf, rewrittenText}
-use Rattle.output.specs.Site.{goodLine, stateLine, siteLines, ranText, runText}
+use Rattle.output.specs.Texts.{answerText, textOn, verdictOn, verdictText, writtenOf, rewrittenOn, rewrittenText}
+use Rattle.output.specs.Site.{goodLine, stateLine, siteLines, ranText, ranOn, runText}
 use Rattle.output.proofs.SiteLaws.{run-playable}
 
-written-within : (text : List ℕ) (room : ℕ) → writtenOf text room .len ≤ room
+written-within : (r : FileRead) (text : List ℕ) (room : ℕ) → writtenOf r text room .len ≤ room
 unfolding writtenOf
-written-within text room =
-    pick-case (λ (w : Written). w .len ≤ room) (leb (length text) room) (record { number = 0; len = length text }) (record { number = 12; len = 0 })
-    (λ h. leb-true (length text) room h) (λ h. omega arith)
+written-within r text room =
+    pick-case (λ (w : Written). w .len ≤ room) (leb (length text) room) (record { number = r .number; line = r .line; len = length text })
+    (record { number = pick (eqb (r .number) 0) 12 (r .number); line = r .line; len = 0 }) (λ h. leb-true (length text) room h) (λ h. omega arith)
 
 -- of a call that was lent a list of this room: the count lies within the list that came back, and so the part of that many bytes has as many
-module _ (w : Written) (text : List ℕ) (room : ℕ) (after : List ℕ) (e : w ≡ writtenOf text room) (k : length after ≡ room) where
+module _ (w : Written) (r : FileRead) (text : List ℕ) (room : ℕ) (after : List ℕ) (e : w ≡ writtenOf r text room) (k : length after ≡ room) where
   pub written-fits : w .len ≤ length after
-  written-fits = omega (arith, ap (λ (x : Written). x .len) e, written-within text room)
+  written-fits = omega (arith, ap (λ (x : Written). x .len) e, written-within r text room)
 
   pub written-part : w .len ≡ length (take (w .len) after)
   written-part = omega (arith, written-fits, length-take (w .len) after)
@@ -54,13 +55,16 @@ answer-length a =
     pick-case (λ (t : List ℕ). length t ≤ 23) (eqb (a .number) 0) (verdictLine (a .failed) (a .f) (a .l) (a .r)) (refusalLine (a .number) 0)
     (λ h. omega (arith, verdict-length (a .failed) (a .f) (a .l) (a .r))) (λ h. omega (arith, refusal-length (a .number) 0))
 
+-- the text on a file has at most so many bytes, where what is said of an accepted one has, and nine fit
+on-length : (r : FileRead) (said : List ℕ) (most : ℕ) → 9 ≤ most → (r .number ≡ 0 → length said ≤ most) → length (textOn r said) ≤ most
+unfolding textOn
+on-length r said most k s =
+    pick-case (λ (t : List ℕ). length t ≤ most) (eqb (r .number) 0) said (refusalLine (r .number) (r .line)) (λ h. s (eqb-true (r .number) 0 h))
+    (λ h. omega (arith, refusal-length (r .number) (r .line)))
+
 pub verdict-short : (file : List ℕ) → length (verdictText file) ≤ 23
-unfolding verdictText
-verdict-short file =
-    pick-case (λ (t : List ℕ). length t ≤ 23) (eqb (planReading file .number) 0) (answerText (answerOf (planReading file .progress .plan)))
-    (refusalLine (planReading file .number) (planReading file .line))
-    (λ h. answer-length (answerOf (planReading file .progress .plan)))
-    (λ h. omega (arith, refusal-length (planReading file .number) (planReading file .line)))
+unfolding verdictText verdictOn
+verdict-short file = on-length (fileRead (planReading file)) _ 23 (omega arith) (λ z. answer-length (answerOf (planReading file .progress .plan)))
 
 -- ---- the lines of a run have at most 260 bytes: 13 for each of 20 terminals
 
@@ -90,35 +94,30 @@ unfolding ranText
 ran-length p words = site-length (p .plan .n) (p .faulty) _
 
 pub run-short : (file : List ℕ) → length (runText file) ≤ 260
-unfolding runText
+unfolding runText ranOn
 run-short file =
-    pick-case (λ (t : List ℕ). length t ≤ 260) (eqb (runReading file .number) 0) (ranText (runReading file .progress) (runReading file .words))
-    (refusalLine (runReading file .number) (runReading file .line))
-    (λ h.
-    let play = run-playable file (eqb-true (runReading file .number) 0 h) in
-    let n : runReading file .progress .plan .n ≤ 20 = play .twenty in
-    omega (arith, ran-length (runReading file .progress) (runReading file .words)))
-    (λ h. omega (arith, refusal-length (runReading file .number) (runReading file .line)))
+    on-length (fileRead (runReading file)) _ 260 (omega arith)
+    (λ z. omega (arith, run-playable file z .twenty, ran-length (runReading file .progress) (runReading file .words)))
 
 pub rewritten-short : (file : List ℕ) → length (rewrittenText file) ≤ 2809
-unfolding rewrittenText
-rewritten-short file =
-    pick-case (λ (t : List ℕ). length t ≤ 2809) (eqb (planReading file .number) 0) (planText (planReading file .progress .plan))
-    (refusalLine (planReading file .number) (planReading file .line)) (λ h. text-short (planReading file .progress .plan))
-    (λ h. omega (arith, refusal-length (planReading file .number) (planReading file .line)))
+unfolding rewrittenText rewrittenOn
+rewritten-short file = on-length (fileRead (planReading file)) _ 2809 (omega arith) (λ z. text-short (planReading file .progress .plan))
 
--- ---- so these lists have room for every answer
+-- ---- so these lists have room for every answer: what comes back is the file's number and line, and the text's length
 
-room-for : (text : List ℕ) (room : ℕ) → length text ≤ room → writtenOf text room ≡ record { number = 0; len = length text }
-unfolding writtenOf
-room-for text room h = pick-yes _ _ _ (le-leb (length text) room h)
+module _ (file : List ℕ) (room : ℕ) where
+  abbrev Whole-text : FileRead → List ℕ → Type 0
+  Whole-text r text = writtenOf r text room ≡ record { number = r .number; line = r .line; len = length text }
 
-pub verdict-fits : (file : List ℕ) (room : ℕ) → 23 ≤ room → writtenOf (verdictText file) room ≡ record { number = 0; len = length (verdictText file) }
-verdict-fits file room h = room-for (verdictText file) room (omega (arith, verdict-short file))
+  room-for : (r : FileRead) (text : List ℕ) → length text ≤ room → Whole-text r text
+  unfolding writtenOf
+  room-for r text h = pick-yes _ _ _ (le-leb (length text) room h)
 
-pub run-fits : (file : List ℕ) (room : ℕ) → 260 ≤ room → writtenOf (runText file) room ≡ record { number = 0; len = length (runText file) }
-run-fits file room h = room-for (runText file) room (omega (arith, run-short file))
+  pub verdict-fits : 23 ≤ room → Whole-text (fileRead (planReading file)) (verdictText file)
+  verdict-fits h = room-for (fileRead (planReading file)) (verdictText file) (omega (arith, verdict-short file))
 
-pub rewritten-fits : (file : List ℕ) (room : ℕ) → 2809 ≤ room
-    → writtenOf (rewrittenText file) room ≡ record { number = 0; len = length (rewrittenText file) }
-rewritten-fits file room h = room-for (rewrittenText file) room (omega (arith, rewritten-short file))
+  pub run-fits : 260 ≤ room → Whole-text (fileRead (runReading file)) (runText file)
+  run-fits h = room-for (fileRead (runReading file)) (runText file) (omega (arith, run-short file))
+
+  pub rewritten-fits : 2809 ≤ room → Whole-text (fileRead (planReading file)) (rewrittenText file)
+  rewritten-fits h = room-for (fileRead (planReading file)) (rewrittenText file) (omega (arith, rewritten-short file))

@@ -3,10 +3,8 @@ use Prim.Native.Nat.{ℕ, _≤_, _<_, _^_}
 use mathlib.Core.Path.{_≡_, sym, ap, _∙_, subst}
 use mathlib.Core.List.{List}
 use native.Mathlib.Omega.{arith}
-use lib.Dec.{eqb}
 use lib.Pow.{pow-mono}
 use borrow.Author.Tests.{eq-eqb, ne-eqb}
-use Rattle.sets.specs.Tests.{pick}
 use Rattle.sets.proofs.Bools.{and-l, pick-yes, pick-no}
 use Rattle.plan.specs.declared.Plan.{Plan}
 use Rattle.plan.proofs.Laws.{sound}
@@ -19,10 +17,9 @@ use Rattle.partition.specs.declared.Judgement.the-variants.{Pass, Fail, WrongRa
 use Rattle.partition.specs.Answer.{Answer, told, answerOf}
 use Rattle.partition.proofs.Laws.{Failed, answer-fails}
 use Rattle.frames.specs.declared.FileRead.{FileRead}
-use Rattle.frames.specs.Reading.{Reading, planReading, fileRead}
 use Rattle.output.specs.declared.text.Text.{Text}
 use Rattle.output.specs.Lines.{refusalLine, verdictLine}
-use Rattle.output.specs.Texts.{Holds, answerText, verdictText}
+use Rattle.output.specs.Texts.{Holds, answerText, textOn, verdictOn}
 
 -- ---- F, L and R fit three bytes
 below : (n s : ℕ) → n ≤ 20 → s < 2 ^ n → s < 16777216
@@ -60,27 +57,24 @@ module _ (j found : Judgement) (t : Text) (e : j ≡ found) where
 
 -- ---- a file that is refused, or that has an answer
 
-module _ (r : Reading) (read : FileRead) (e : read ≡ fileRead r) (answer : List ℕ) (t : Text) where
-  same-number : r .number ≡ read .number
-  same-number = sym (ap (λ (r : FileRead). r .number) e)
+module _ (read : FileRead) (answer : List ℕ) where
+  pub refused-is : (read .number ≡ 0 → ⊥) → textOn read answer ≡ refusalLine (read .number) (read .line)
+  unfolding textOn
+  refused-is n = pick-no _ _ _ (ne-eqb (read .number) 0 n)
 
-  pub text-refused : (read .number ≡ 0 → ⊥) → Holds t (refusalLine (read .number) (read .line))
-      → Holds t (pick (eqb (r .number) 0) answer (refusalLine (r .number) (r .line)))
-  text-refused n =
-      subst (Holds t)
-      (ap (λ (r : FileRead). refusalLine (r .number) (r .line)) e ∙ sym (pick-no _ _ _ (ne-eqb (r .number) 0 (λ z. n (sym same-number ∙ z)))))
+  pub answered-is : read .number ≡ 0 → textOn read answer ≡ answer
+  unfolding textOn
+  answered-is z = pick-yes _ _ _ (eq-eqb (read .number) 0 z)
 
-  pub text-answered : read .number ≡ 0 → Holds t answer → Holds t (pick (eqb (r .number) 0) answer (refusalLine (r .number) (r .line)))
-  text-answered z = subst (Holds t) (sym (pick-yes _ _ _ (eq-eqb (r .number) 0 (same-number ∙ z))))
+module _ (read : FileRead) (t : Text) where
+  pub text-refused : (answer : List ℕ) → (read .number ≡ 0 → ⊥) → Holds t (refusalLine (read .number) (read .line)) → Holds t (textOn read answer)
+  text-refused answer n = subst (Holds t) (sym (refused-is read answer n))
 
--- the line on a plan file
-module _ (file : List ℕ) (read : FileRead) (e : read ≡ fileRead (planReading file)) (t : Text) where
-  pub verdict-refused : (read .number ≡ 0 → ⊥) → Holds t (refusalLine (read .number) (read .line)) → Holds t (verdictText file)
-  unfolding verdictText
-  verdict-refused = text-refused (planReading file) read e (answerText (answerOf (planReading file .progress .plan))) t
+  -- the line on a plan file
+  pub verdict-refused : (read .number ≡ 0 → ⊥) → Holds t (refusalLine (read .number) (read .line)) → Holds t (verdictOn read)
+  unfolding verdictOn
+  verdict-refused = text-refused (answerText (answerOf (read .progress .plan)))
 
-  pub verdict-told : (a : Answer) → read .number ≡ 0 → a ≡ answerOf (read .progress .plan) → Holds t (answerText a) → Holds t (verdictText file)
-  unfolding verdictText
-  verdict-told a z q h =
-      text-answered (planReading file) read e (answerText (answerOf (planReading file .progress .plan))) t z
-      (subst (Holds t) (ap answerText (q ∙ ap (λ (r : FileRead). answerOf (r .progress .plan)) e)) h)
+  pub verdict-told : (a : Answer) → read .number ≡ 0 → a ≡ answerOf (read .progress .plan) → Holds t (answerText a) → Holds t (verdictOn read)
+  unfolding verdictOn
+  verdict-told a z e = subst (Holds t) (ap answerText e ∙ sym (answered-is read _ z))

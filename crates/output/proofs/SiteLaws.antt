@@ -1,6 +1,7 @@
 -- The terminals' lines one after the other, and what `run` prints on a file that is accepted: the run that it asks for is never refused. Assumes nothing.
 use Prim.Native.Nat.{ℕ, zero, suc, _+_, _*_, _≤_, _<_}
-use mathlib.Core.Path.{_≡_, refl, sym, ap, _∙_, subst}
+use mathlib.Core.Path.{_≡_, refl, sym, ap, ap₂, _∙_, subst}
+use mathlib.Core.Logic.{⊎-elim}
 use mathlib.Core.Bool.{Bool, true, false}
 use mathlib.Core.List.{List, _++_, map}
 use native.Mathlib.Nat.{mul-le-mul}
@@ -11,6 +12,7 @@ use lib.Seq.{length-take-le}
 use borrow.Author.Tests.{eq-eqb, leb-true}
 use Rattle.sets.specs.Sets.{mem}
 use Rattle.sets.proofs.Bools.{and-r, and-i, pick-yes, pick-no}
+use Rattle.sets.proofs.Laws.{equal-or-not}
 use Rattle.terminal.specs.declared.State.{State}
 use Rattle.terminal.specs.declared.Record.{Record}
 use Rattle.terminal.specs.Rule.{start}
@@ -28,8 +30,8 @@ use Rattle.frames.proofs.FileLaws.{run-file, words-read}
 use Rattle.output.specs.declared.text.Text.{Text}
 use Rattle.output.specs.Lines.{refusalLine, terminalLine}
 use Rattle.output.specs.Texts.{Holds}
-use Rattle.output.specs.Site.{goodLine, stateLine, siteLines, scriptRead, ranText, runText, Playable}
-use Rattle.output.proofs.LineLaws.{text-refused, text-answered}
+use Rattle.output.specs.Site.{goodLine, stateLine, siteLines, scriptRead, ranText, ranOn, runText, Playable}
+use Rattle.output.proofs.LineLaws.{refused-is, answered-is, text-refused}
 
 -- ---- one terminal's line
 
@@ -110,12 +112,8 @@ words-room = length-replicate {A = ℕ} 16000 0
 
 module _ (file : List ℕ) (read : FileRead) (words : List ℕ) (e : read ≡ fileRead (runFile file (length noWords)))
     (w : words ≡ wordsRead (runFile file (length noWords)) noWords) where
-  read-is : read ≡ fileRead (runReading file)
+  pub read-is : read ≡ fileRead (runReading file)
   read-is = e ∙ ap fileRead (run-file file (length noWords) words-room)
-
-  pub run-refused : (t : Text) → (read .number ≡ 0 → ⊥) → Holds t (refusalLine (read .number) (read .line)) → Holds t (runText file)
-  unfolding runText
-  run-refused = text-refused (runReading file) read read-is (ranText (runReading file .progress) (runReading file .words))
 
   module _ (z : read .number ≡ 0) where
     read-number : runReading file .number ≡ 0
@@ -128,8 +126,20 @@ module _ (file : List ℕ) (read : FileRead) (words : List ℕ) (e : read ≡ fi
     words-are =
         w ∙ ap (λ (r : Reading). wordsRead r noWords) (run-file file (length noWords) words-room) ∙ sym (words-read (runReading file) noWords read-number)
 
-    pub run-told : (t : Text) → Holds t (ranText (read .progress) words) → Holds t (runText file)
-    unfolding runText
-    run-told t h =
-        text-answered (runReading file) read read-is (ranText (runReading file .progress) (runReading file .words)) t z
-        (rw (ap (λ (r : FileRead). r .progress) read-is, words-are) at h)
+  -- a refused file's words are not looked at
+  pub ran-is : ranOn read words ≡ runText file
+  unfolding ranOn runText
+  ran-is =
+      ⊎-elim (λ z. ap₂ ranOn read-is (words-are z))
+      (λ n. refused-is read _ n ∙ ap (λ (r : FileRead). refusalLine (r .number) (r .line)) read-is ∙ sym (refused-is (fileRead (runReading file)) _ (λ z. n (ap (λ (r : FileRead). r .number) read-is ∙ z))))
+      (equal-or-not (read .number) 0)
+
+-- the lines on a file that was read so
+module _ (read : FileRead) (words : List ℕ) (t : Text) where
+  pub run-refused : (read .number ≡ 0 → ⊥) → Holds t (refusalLine (read .number) (read .line)) → Holds t (ranOn read words)
+  unfolding ranOn
+  run-refused = text-refused read t (ranText (read .progress) words)
+
+  pub run-told : read .number ≡ 0 → Holds t (ranText (read .progress) words) → Holds t (ranOn read words)
+  unfolding ranOn
+  run-told z = subst (Holds t) (sym (answered-is read _ z))

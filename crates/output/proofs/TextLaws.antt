@@ -5,10 +5,14 @@ use mathlib.Core.List.{List, [], _∷_, _++_}
 use native.Mathlib.Nat.{zero-add}
 use native.Mathlib.Numerals.{add-one}
 use native.Mathlib.Omega.{arith}
+use lib.Dec.{eqb}
 use lib.ListN.{length, getD, take, drop, set, length-append, length-take, length-set}
 use lib.Seq.{take-suc-set, sets-eq, paste, paste-suc}
 use borrow.Author.Tests.{lt-ltb, le-ltb, le-leb, lt-leb}
+use Rattle.sets.specs.Tests.{pick}
 use Rattle.sets.proofs.Bools.{pick-yes, pick-no}
+use Rattle.frames.specs.declared.FileRead.{FileRead}
+use Rattle.output.specs.declared.Written.{Written}
 use Rattle.output.specs.declared.text.Text.{Text}
 use Rattle.lines.specs.Digits.{hexDigit}
 use Rattle.output.specs.Texts.{Holds, writtenOf, putInto}
@@ -54,14 +58,17 @@ module _ (t : Text) (xs : List ℕ) (h : Holds t xs) where
   pub held-short : t .len ≤ length (t .bytes)
   held-short = omega (arith, h .count, sym (length-take (length xs) (t .bytes)) ∙ ap length (h .front))
 
-  pub written : (room : ℕ) → t .len ≤ room → record { number = 0; len = t .len } ≡ writtenOf xs room
+  pub written : (r : FileRead) (room : ℕ) → t .len ≤ room → record { number = r .number; line = r .line; len = t .len } ≡ writtenOf r xs room
   unfolding writtenOf
-  written room k =
-      ap (λ (n : ℕ). record { number = 0; len = n }) (h .count) ∙ sym (pick-yes _ _ _ (le-leb (length xs) room (omega (arith, h .count))))
+  written r room k =
+      ap (λ (n : ℕ). record { number = r .number; line = r .line; len = n }) (h .count)
+      ∙ sym (pick-yes _ _ _ (le-leb (length xs) room (omega (arith, h .count))))
 
-  pub unwritten : (room : ℕ) → room < t .len → record { number = 12; len = 0 } ≡ writtenOf xs room
+  pub unwritten : (r : FileRead) (room number : ℕ) → room < t .len → number ≡ pick (eqb (r .number) 0) 12 (r .number)
+      → record { number = number; line = r .line; len = 0 } ≡ writtenOf r xs room
   unfolding writtenOf
-  unwritten room k = sym (pick-no _ _ _ (lt-leb (length xs) room (omega (arith, h .count))))
+  unwritten r room number k e =
+      ap (λ (n : ℕ). record { number = n; line = r .line; len = 0 }) e ∙ sym (pick-no _ _ _ (lt-leb (length xs) room (omega (arith, h .count))))
 
   pub put-in : (out : List ℕ) → t .len ≤ length out → paste out 0 (t .bytes) (t .len) ≡ putInto xs out
   unfolding putInto
@@ -75,3 +82,8 @@ module _ (t : Text) (xs : List ℕ) (h : Holds t xs) where
   pub kept : (out : List ℕ) → length out < t .len → out ≡ putInto xs out
   unfolding putInto
   kept out k = sym (pick-no _ _ _ (lt-leb (length xs) (length out) (omega (arith, h .count))))
+
+-- what was put holds of the file and of the text that they were found to be
+pub put-as : (w : Written) (last out : List ℕ) (read file : FileRead) (text said : List ℕ) → read ≡ file → text ≡ said → w ≡ writtenOf read text (length out)
+    → last ≡ putInto text out → (w ≡ writtenOf file said (length out)) × (last ≡ putInto said out)
+put-as w last out read file text said e t a b = rw (← e, ← t) (a, b)

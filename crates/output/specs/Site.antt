@@ -3,7 +3,6 @@ use Prim.Native.Nat.{ℕ, zero, suc, _*_, _≤_}
 use mathlib.Core.Bool.{Bool, true}
 use mathlib.Core.List.{List, [], _++_}
 use mathlib.Core.Path.{_≡_}
-use lib.Dec.{eqb}
 use lib.ListN.{take}
 use Rattle.sets.specs.Tests.{pick}
 use Rattle.sets.specs.Sets.{mem}
@@ -14,8 +13,10 @@ use Rattle.faults.specs.Check.{faultCauseOf}
 use Rattle.simulation.specs.Turns.{scriptOf}
 use Rattle.simulation.specs.Answer.{startSound}
 use Rattle.frames.specs.declared.Progress.{Progress}
-use Rattle.frames.specs.Reading.{runReading}
-use Rattle.output.specs.Lines.{refusalLine, terminalLine}
+use Rattle.frames.specs.declared.FileRead.{FileRead}
+use Rattle.frames.specs.Reading.{runReading, fileRead}
+use Rattle.output.specs.Lines.{terminalLine}
+use Rattle.output.specs.Texts.{textOn}
 
 -- a good terminal's line: round and value are zero where it has not taken
 unfoldable pub goodLine : ℕ → State → List ℕ
@@ -40,11 +41,12 @@ unfoldable pub ranText : Progress → List ℕ → List ℕ
 ranText p words =
     siteLines (p .plan .n) (p .faulty) (λ b. site (p .plan) (p .faulty) (p .value) (scriptRead p words) (p .rounds) b .state)
 
--- what `run` prints: the terminals after the run that the file asks for, or why the file is refused
+-- what `run` prints: the terminals after the run that the file asks for
+unfoldable pub ranOn : FileRead → List ℕ → List ℕ
+ranOn r words = textOn r (ranText (r .progress) words)
+
 unfoldable pub runText : List ℕ → List ℕ
-runText file =
-    pick (eqb (runReading file .number) 0) (ranText (runReading file .progress) (runReading file .words))
-    (refusalLine (runReading file .number) (runReading file .line))
+runText file = ranOn (fileRead (runReading file)) (runReading file .words)
 
 -- what the run needs of what was read, so that it is not refused; every accepted file has it (proofs/SiteLaws.antt)
 pub record Playable (p : Progress) : Type 0 where

@@ -7,7 +7,8 @@ use lib.ListN.{length, take}
 use lib.Seq.{sets}
 use Rattle.sets.specs.Tests.{pick}
 use Rattle.partition.specs.Answer as partition
-use Rattle.frames.specs.Reading.{planReading}
+use Rattle.frames.specs.declared.FileRead.{FileRead}
+use Rattle.frames.specs.Reading.{planReading, fileRead}
 use Rattle.writer.specs.Written.{planText}
 use Rattle.output.specs.declared.Written.{Written}
 use Rattle.output.specs.declared.text.Text.{Text}
@@ -17,23 +18,32 @@ use Rattle.output.specs.Lines.{refusalLine, verdictLine}
 unfoldable pub answerText : partition.Answer → List ℕ
 answerText a = pick (eqb (a .number) 0) (verdictLine (a .failed) (a .f) (a .l) (a .r)) (refusalLine (a .number) 0)
 
--- what `verdict` prints: the verdict on the file's plan, or why the file is refused
+-- the text on a file: what is said where it is accepted, or why it is refused
+unfoldable pub textOn : FileRead → List ℕ → List ℕ
+textOn r said = pick (eqb (r .number) 0) said (refusalLine (r .number) (r .line))
+
+-- what `verdict` prints: the verdict on the file's plan
+unfoldable pub verdictOn : FileRead → List ℕ
+verdictOn r = textOn r (answerText (partition.answerOf (r .progress .plan)))
+
 unfoldable pub verdictText : List ℕ → List ℕ
-verdictText file =
-    pick (eqb (planReading file .number) 0) (answerText (partition.answerOf (planReading file .progress .plan)))
-    (refusalLine (planReading file .number) (planReading file .line))
+verdictText file = verdictOn (fileRead (planReading file))
 
--- what `rewrite` prints: the file's plan written anew, or why the file is refused
+-- what `rewrite` prints: the file's plan written anew
+unfoldable pub rewrittenOn : FileRead → List ℕ
+rewrittenOn r = textOn r (planText (r .progress .plan))
+
 unfoldable pub rewrittenText : List ℕ → List ℕ
-rewrittenText file =
-    pick (eqb (planReading file .number) 0) (planText (planReading file .progress .plan))
-    (refusalLine (planReading file .number) (planReading file .line))
+rewrittenText file = rewrittenOn (fileRead (planReading file))
 
--- a text put into a lent list: the text's length, or 12 where the list is shorter than the text
-unfoldable pub writtenOf : List ℕ → ℕ → Written
-writtenOf text room = pick (leb (length text) room) (record { number = 0; len = length text }) (record { number = 12; len = 0 })
+-- a text on a file put into a lent list: the file's number and line, and the length of what was put. A list shorter than the text gets nothing,
+-- and is refused 12 where the file is accepted
+unfoldable pub writtenOf : FileRead → List ℕ → ℕ → Written
+writtenOf r text room =
+    pick (leb (length text) room) (record { number = r .number; line = r .line; len = length text })
+    (record { number = pick (eqb (r .number) 0) 12 (r .number); line = r .line; len = 0 })
 
--- the list afterwards: bytes after the text stay, and a refused call changes nothing
+-- the list afterwards: bytes after the text stay, and a list shorter than the text is as it was
 unfoldable pub putInto : List ℕ → List ℕ → List ℕ
 putInto text out = pick (leb (length text) (length out)) (sets out 0 text) out
 

@@ -2,9 +2,10 @@
 ghost use Prim.Native.Nat.{_<_};
 ghost use Rattle.partition.specs.Answer.{told};
 ghost use Rattle.output.specs.Lines.{refusalLine, verdictLine};
-ghost use Rattle.output.specs.Texts.{Holds, answerText, verdictText};
+ghost use Rattle.output.specs.Texts.{Holds, answerText, verdictOn};
 use super::text;
 use super::text::Text;
+use frames::FileRead;
 use partition::Judgement;
 
 // ff: why a file or a plan is refused.
@@ -42,10 +43,9 @@ fn answer(j: Judgement) -> Text
 }
 
 // The one line on a plan file.
-pub(crate) fn of_plan(file: &[u8]) -> Text
-    ensures { λ r. ⌜ Holds r (verdictText (now (file .entry))) ⌝ }
+pub(crate) fn of_plan(read: FileRead) -> Text
+    ensures { λ r. ⌜ Holds r (verdictOn read) ⌝ }
 {
-    let read = frames::read_plan(file);
     if read.number != 0 {
         return refusal(read.number, read.line);
     }

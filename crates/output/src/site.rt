@@ -6,10 +6,11 @@ ghost use lib.ListN.{length, getD};
 ghost use Rattle.terminal.specs.Rule.{start};
 ghost use Rattle.output.specs.Lines.{terminalLine};
 ghost use Rattle.output.specs.Texts.{Holds};
-ghost use Rattle.output.specs.Site.{goodLine, stateLine, siteLines, ranText, runText, Playable};
+ghost use Rattle.output.specs.Site.{goodLine, stateLine, siteLines, ranText, ranOn, Playable};
 use super::line;
 use super::text;
 use super::text::Text;
+use frames::FileRead;
 use frames::Progress;
 use terminal::Record;
 use terminal::State;
@@ -81,14 +82,13 @@ fn ran(p: Progress, words: &[u16]) -> Text
 }
 
 // The lines on a run file.
-pub(crate) fn of_run(file: &[u8]) -> Text
-    ensures { λ r. ⌜ Holds r (runText (now (file .entry))) ⌝ }
+pub(crate) fn of_run(read: FileRead, words: &[u16]) -> Text
+    requires { ⌜ (read .number ≡ 0 → Playable (read .progress)) × (length (now words) ≡ 16000) ⌝ }
+    ensures { λ r. ⌜ Holds r (ranOn read (now (words .entry))) ⌝ }
 {
-    let mut words = [0u16; 16000];
-    let read = frames::read_run(file, &mut words);
     if read.number != 0 {
         return line::refusal(read.number, read.line);
     }
     let p = read.progress;
-    ran(p, &words)
+    ran(p, words)
 }

@@ -2,12 +2,15 @@
 ghost use mathlib.Core.Path.{_≡_};
 ghost use mathlib.Core.List.{List, [], _∷_, _++_};
 ghost use Prim.Native.Nat.{ℕ, _+_, _<_, _≤_};
+ghost use lib.Dec.{eqb};
 ghost use lib.ListN.{length};
 ghost use lib.Seq.{paste};
+ghost use Rattle.sets.specs.Tests.{pick};
 ghost use Rattle.lines.specs.Digits.{hexDigit, hexByte};
 ghost use Rattle.output.specs.Lines.{hexPair, hexTriple};
 ghost use Rattle.output.specs.Texts.{Holds, writtenOf, putInto};
 use super::Written;
+use frames::FileRead;
 
 pub(crate) struct Text {
     pub bytes: [u8; 272],
@@ -44,6 +47,16 @@ fn copy(from: &[u8], n: usize, to: &mut [u8])
         to[i] = from[i];
         i += 1;
     }
+}
+
+// The number where a text has no room: a refused file's own, else 12.
+fn no_room(number: u8) -> u8
+    ensures { λ r. ⌜ r ≡ pick (eqb number 0) 12 number ⌝ }
+{
+    if number == 0 {
+        return 12;
+    }
+    number
 }
 
 impl Text {
@@ -86,18 +99,26 @@ impl Text {
         self.byte((v / 65536) as u8).pair((v % 65536) as u16)
     }
 
-    // The text at the front of the list, or 12 where it has no room.
-    pub(crate) fn put(self, out: &mut [u8]) -> Written
+    // The text on a file at the front of the list, if it has room.
+    pub(crate) fn put(self, read: FileRead, out: &mut [u8]) -> Written
         requires { ⌜ self .len ≤ length (self .bytes) ⌝ }
-        ensures { λ r. ⌜ ((xs : List ℕ) → Holds self xs → r ≡ writtenOf xs (length (now (out .entry)))) ⌝ }
+        ensures { λ r. ⌜ ((xs : List ℕ) → Holds self xs → r ≡ writtenOf read xs (length (now (out .entry)))) ⌝ }
         ensures { λ r. ⌜ ((xs : List ℕ) → Holds self xs → now (out .exit) ≡ putInto xs (now (out .entry))) ⌝ }
     {
         let n = self.len;
         if out.len() < n {
-            return Written { number: 12, len: 0 };
+            return Written {
+                number: no_room(read.number),
+                line: read.line,
+                len: 0,
+            };
         }
         let bytes = self.bytes;
         copy(&bytes, n, out);
-        Written { number: 0, len: n }
+        Written {
+            number: read.number,
+            line: read.line,
+            len: n,
+        }
     }
 }

@@ -23,14 +23,9 @@ use Rattle.lines.specs.declared.Frame.the-variants.{Foreign, Unknown, Head, Lin
 use Rattle.lines.specs.Frames.{frameOf}
 use Rattle.frames.specs.declared.Progress.{Progress}
 use Rattle.frames.specs.Lines.{Line, ended, cut, linesFrom}
-use Rattle.frames.specs.Reading.{nothingRead, noWords, causeIn, linked, after, wordsAfter, Reading, refusal, told, reading, planReading}
+use Rattle.frames.specs.Reading.{nothingRead, noWords, causeIn, linked, after, wordsAfter, Reading, refusal, told, reading}
 use Rattle.frames.proofs.Accepted.{Whole, head-accepted, link-accepted, frame-stage, frame-whole}
-
--- some line is the link frame from a to b
-abbrev pub Tells : ℕ → ℕ → ℕ → List Line → Type 0
-Tells kinds a b [] = ⊥
-Tells kinds a b (cut line ∷ rest) = Tells kinds a b rest
-Tells kinds a b (ended line ∷ rest) = (frameOf kinds line ≡ Link a b) ⊎ Tells kinds a b rest
+use Rattle.writer.specs.RoundTrip.{Tells}
 
 -- a set with one terminal more
 mem-with : (w s i j : ℕ) → s < 2 ^ w → i < w → mem j (with w s i) ≡ mem j s or eqb j i
@@ -149,6 +144,7 @@ told-links kinds p words k (ended line ∷ rest) r =
 nothing-ready : Ready nothingRead
 nothing-ready = record { begun = λ n. absurd (n refl); empty = λ z a b. no-link 0 0 0 a b }
 
+-- b hears a exactly if some line of the file is the link from a to b
 pub reading-links : (kinds : ℕ) (text : List ℕ) → reading kinds text .number ≡ 0 → (a b : ℕ)
     → (hears (reading kinds text .progress .plan) b a ≡ true) ↔ Tells kinds a b (linesFrom [] text)
 unfolding reading Says
@@ -160,9 +156,3 @@ reading-links kinds text =
     let g = told-links kinds nothingRead noWords 1 (linesFrom [] text) nothing-ready z a b in
     (λ h. ⊎-elim (λ x. clash x (no-link 0 0 0 a b)) (λ x. x) (g .0 h), λ x. g .1 (inr x)))
     (λ e z. absurd (omega arith))
-
--- b hears a exactly if some line of the file is the link from a to b
-pub same-links : (text : List ℕ) → planReading text .number ≡ 0 → (a b : ℕ)
-    → (hears (planReading text .progress .plan) b a ≡ true) ↔ Tells 2 a b (linesFrom [] text)
-unfolding planReading
-same-links text h a b = reading-links 2 text h a b

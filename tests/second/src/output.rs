@@ -58,14 +58,16 @@ pub fn refusal_line(refusal: Refusal) -> Vec<u8> {
     line(&[0xff, refusal.cause.number(), high, low])
 }
 
+/// The verdict's line on a file, or why the file is refused.
+pub fn verdict_answer(text: &[u8], fault: Fault) -> Result<Vec<u8>, Refusal> {
+    let plan = read_plan(text, fault)?;
+    let answer = verdict(&plan, fault).map_err(|cause| Refusal { cause, line: 0 })?;
+    Ok(verdict_line(&answer, fault))
+}
+
 /// All of the program `verdict`, from text to text.
 pub fn verdict_text(text: &[u8], fault: Fault) -> Vec<u8> {
-    let answer = read_plan(text, fault)
-        .and_then(|plan| verdict(&plan, fault).map_err(|cause| Refusal { cause, line: 0 }));
-    match answer {
-        Ok(answer) => verdict_line(&answer, fault),
-        Err(refusal) => refusal_line(refusal),
-    }
+    verdict_answer(text, fault).unwrap_or_else(refusal_line)
 }
 
 /// All of the program `rewrite`, from text to text.
@@ -76,17 +78,17 @@ pub fn rewritten_text(text: &[u8], fault: Fault) -> Vec<u8> {
     }
 }
 
+/// The terminals' lines of the run that a file asks for, or why the file is refused.
+pub fn run_answer(text: &[u8], fault: Fault) -> Result<Vec<u8>, Refusal> {
+    let file = read_run(text, fault)?;
+    let records = run_file(&file, fault).map_err(|cause| Refusal { cause, line: 0 })?;
+    let lines = (0..)
+        .zip(&records)
+        .flat_map(|(number, record)| terminal_line(number, file.bad.contains(&number), record));
+    Ok(lines.collect())
+}
+
 /// All of the program `run`, from text to text.
 pub fn run_text(text: &[u8], fault: Fault) -> Vec<u8> {
-    let answer = read_run(text, fault).and_then(|file| {
-        let records = run_file(&file, fault).map_err(|cause| Refusal { cause, line: 0 })?;
-        Ok((file, records))
-    });
-    match answer {
-        Ok((file, records)) => (0..)
-            .zip(&records)
-            .flat_map(|(number, record)| terminal_line(number, file.bad.contains(&number), record))
-            .collect(),
-        Err(refusal) => refusal_line(refusal),
-    }
+    run_answer(text, fault).unwrap_or_else(refusal_line)
 }

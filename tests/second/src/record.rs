@@ -5,10 +5,10 @@
 
 use crate::faults::Fault;
 use crate::generate::{case, step_case, Kind, StepCase};
-use crate::output::{digits, run_text, verdict_text};
+use crate::output::{digits, refusal_line, run_answer, verdict_answer};
 use crate::plan::{number_of, set_of, write_plan, Cause, Plan, Set};
 use crate::plans::{deep_plan, random_plan, strong_plan, weak_plan};
-use crate::reader::{read_run, RunFile};
+use crate::reader::{read_run, Refusal, RunFile};
 use crate::rng::Rng;
 use crate::run::{run, Order};
 use crate::step::{step, Record, State};
@@ -101,18 +101,36 @@ fn rng_for(seed: u64, kind: u8, index: u64) -> Rng {
 
 // ---- lent lists of bytes
 
-/// The number, the text's length, and the whole list after the call.
-fn written(text: Result<Vec<u8>, Cause>, room: usize) -> Vec<u8> {
+/// Puts the text into a list of so many places, if it has room, and returns the whole list.
+fn put(text: &[u8], room: usize) -> (Result<usize, Cause>, Vec<u8>) {
     let mut list = vec![MARK; room];
-    let answer = text.and_then(|text| match list.get_mut(..text.len()) {
+    let length = match list.get_mut(..text.len()) {
         Some(front) => {
-            front.copy_from_slice(&text);
+            front.copy_from_slice(text);
             Ok(text.len())
         }
         None => Err(Cause::Length),
-    });
-    let length = answer.unwrap_or(0) as u16;
-    [&[number(answer.map(|_| ()))], &pair(length)[..], &list].concat()
+    };
+    (length, list)
+}
+
+/// The number, the text's length, and the whole list after the call.
+fn written(number: u8, length: usize, list: &[u8]) -> Vec<u8> {
+    [&[number], &pair(length as u16)[..], list].concat()
+}
+
+/// A wrong file's number is the lowest; its line of text is put where there is room for it.
+fn answered(answer: Result<Vec<u8>, Refusal>, room: usize) -> Vec<u8> {
+    let file = answer
+        .as_ref()
+        .map_or_else(|refusal| refusal.cause.number(), |_| 0);
+    let (length, list) = put(&answer.unwrap_or_else(refusal_line), room);
+    let short = number(length.map(|_| ()));
+    written(
+        if file > 0 { file } else { short },
+        length.unwrap_or(0),
+        &list,
+    )
 }
 
 /// A list that just has room, is one short, is empty, or is longer than the text.
@@ -122,40 +140,49 @@ fn room_for(rng: &mut Rng, text: usize, most: usize) -> usize {
     room.min(most)
 }
 
-fn text_call(kind: u8, seed: u64, index: u64, file: Vec<u8>, text: Vec<u8>) -> Call {
-    let lent = room_for(&mut rng_for(seed, kind, index), text.len(), 400);
+fn text_call(
+    kind: u8,
+    seed: u64,
+    index: u64,
+    file: Vec<u8>,
+    answer: Result<Vec<u8>, Refusal>,
+) -> Call {
+    let text = answer
+        .as_ref()
+        .map_or_else(|&refusal| refusal_line(refusal).len(), Vec::len);
+    let lent = room_for(&mut rng_for(seed, kind, index), text, 400);
     Call {
         kind,
         lent,
         body: file,
-        line: written(Ok(text), lent),
+        line: answered(answer, lent),
     }
 }
 
 fn verdict_call(seed: u64, index: u64) -> Call {
     let file = case(Kind::Verdict, seed, index);
-    let text = verdict_text(&file, Fault::None);
-    text_call(b'v', seed, index, file, text)
+    let answer = verdict_answer(&file, Fault::None);
+    text_call(b'v', seed, index, file, answer)
 }
 
 fn run_call(seed: u64, index: u64) -> Call {
     let file = case(Kind::Run, seed, index);
-    let text = run_text(&file, Fault::None);
-    text_call(b'r', seed, index, file, text)
+    let answer = run_answer(&file, Fault::None);
+    text_call(b'r', seed, index, file, answer)
 }
 
 fn write_call(seed: u64, index: u64) -> Call {
     let mut rng = rng_for(seed, b'p', index);
     let plan = some_plan(&mut rng, if index.is_multiple_of(20) { 20 } else { 7 });
-    let mut list = vec![0; LONGEST_TEXT];
-    let text = write_plan(&plan, &mut list).map(|length| list[..length].to_vec());
-    let length = text.as_ref().map_or(9, Vec::len);
+    let length = write_plan(&plan, &mut [0; LONGEST_TEXT]).unwrap_or(9);
     let lent = room_for(&mut rng, length, LONGEST_TEXT);
+    let mut list = vec![MARK; lent];
+    let answer = write_plan(&plan, &mut list);
     Call {
         kind: b'p',
         lent,
         body: plan_bytes(&plan),
-        line: written(text, lent),
+        line: written(number(answer.map(|_| ())), answer.unwrap_or(0), &list),
     }
 }
 
@@ -173,13 +200,11 @@ fn read_call(seed: u64, index: u64) -> Call {
     } else {
         WORD_PLACES
     };
-    let line = if lent == WORD_PLACES {
-        match read_run(&body, Fault::None) {
-            Ok(file) => accepted_file(&file),
-            Err(refusal) => refused_file(refusal.cause, refusal.line, lent),
-        }
-    } else {
-        refused_file(Cause::Length, 0, lent)
+    // The lowest number: a file's own causes are all below that of the list's length.
+    let line = match read_run(&body, Fault::None) {
+        Err(refusal) => refused_file(refusal.cause, refusal.line, lent),
+        Ok(_) if lent != WORD_PLACES => refused_file(Cause::Length, 0, lent),
+        Ok(file) => accepted_file(&file),
     };
     Call {
         kind: b'f',

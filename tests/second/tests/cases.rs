@@ -110,8 +110,8 @@ fn recorded_calls_reach_every_answer() {
         of_kind.map(|call| call.line[0]).collect()
     };
     let expected: [(u8, &[u8]); 8] = [
-        (b'v', &[0, 12]),
-        (b'r', &[0, 12]),
+        (b'v', &[0, 1, 2, 3, 4, 5, 6, 12]),
+        (b'r', &[0, 1, 2, 3, 4, 5, 6, 7, 8, 9, 10, 11, 12]),
         (b'f', &[0, 1, 2, 3, 4, 5, 6, 7, 8, 9, 10, 11, 12]),
         (b'p', &[0, 4, 5, 12]),
         (b's', &[0, 4, 5, 12, 13]),
@@ -123,4 +123,26 @@ fn recorded_calls_reach_every_answer() {
         let answers: BTreeSet<u8> = answers.iter().copied().collect();
         assert_eq!(numbers(kind), answers, "kind {}", kind as char);
     }
+}
+
+/// A wrong file beside a list of the wrong length: the file's number, for a reader and for a text.
+#[test]
+fn recorded_calls_have_a_wrong_file_and_a_wrong_list() {
+    let calls = record::calls(record::SEED);
+    let number = |call: &record::Call| call.line[0];
+    let both = |kind: u8, wrong_list: fn(&record::Call) -> bool| {
+        let wrong = calls
+            .iter()
+            .filter(|call| call.kind == kind && wrong_list(call));
+        let (list, file): (Vec<_>, Vec<_>) = wrong.partition(|call| number(call) == 12);
+        assert!(
+            !list.is_empty() && !file.is_empty(),
+            "kind {}",
+            kind as char
+        );
+        assert!(file.iter().all(|call| (1..12).contains(&number(call))));
+    };
+    both(b'f', |call| call.lent != 16_000);
+    both(b'v', |call| call.lent < 9);
+    both(b'r', |call| call.lent < 9);
 }

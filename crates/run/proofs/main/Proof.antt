@@ -23,10 +23,10 @@ run-text-requires : tie.Need-run-text-requires
 run-text-requires c κs = search needs
 
 array-share-prefix-out : tie.Need-array-share-prefix-out
-array-share-prefix-out c = written-fits _ _ _ (c .before .run-text .last .1 .0) (c .before .run-text .ensures .0) (c .before .run-text .kept .1 .0)
+array-share-prefix-out c = written-fits _ _ _ _ (c .before .run-text .last .1 .0) (c .before .run-text .ensures .0) (c .before .run-text .kept .1 .0)
 
 slice-aggregate-write-all : tie.Need-slice-aggregate-write-all
-slice-aggregate-write-all c = written-part _ _ _ (c .before .before .run-text .last .1 .0) (c .before .before .run-text .ensures .0) (c .before .before .run-text .kept .1 .0)
+slice-aggregate-write-all c = written-part _ _ _ _ (c .before .before .run-text .last .1 .0) (c .before .before .run-text .ensures .0) (c .before .before .run-text .kept .1 .0)
 
 write-all-requires : tie.Need-write-all-requires
 write-all-requires c κs = search needs

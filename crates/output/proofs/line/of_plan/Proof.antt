@@ -4,14 +4,11 @@ use Rattle.output.proofs.LineLaws.{answer-small, verdict-refused, verdi
 use Rattle.output.proofs.line.of_plan.Statement.{statement}
 use Rattle.output.proofs.line.of_plan.Tie as tie
 
-read-plan-requires : tie.Need-read-plan-requires
-read-plan-requires c κs = search needs
-
 refusal-requires : tie.Need-refusal-requires
 refusal-requires c κs = search needs
 
 returns : tie.Need-returns
-returns c = verdict-refused _ _ (c .before .before .before .read-plan .ensures) _ (c .before .if1 .taken) (c .refusal .ensures)
+returns c = verdict-refused _ _ (c .before .if1 .taken) (c .refusal .ensures)
 
 verdict-requires : tie.Need-verdict-requires
 verdict-requires c κs = search needs
@@ -20,15 +17,8 @@ answer-requires : tie.Need-answer-requires
 answer-requires c κs = answer-small _ (c .verdict .result) (c .verdict .ensures .0)
 
 returns-2 : tie.Need-returns-2
-returns-2 c = verdict-told _ _ (c .before .before .before .before .read-plan .ensures) _ _ (c .before .before .if1 .left) (c .before .verdict .ensures .0) (c .answer .ensures)
+returns-2 c = verdict-told _ _ _ (c .before .before .if1 .left) (c .before .verdict .ensures .0) (c .answer .ensures)
 
 pub of-plan-spec : {M : Type 1} → statement M
 of-plan-spec =
-    tie.close
-    (tie.spec
-    read-plan-requires
-    refusal-requires
-    returns
-    verdict-requires
-    answer-requires
-    returns-2)
+    tie.close (tie.spec refusal-requires returns verdict-requires answer-requires returns-2)
