@@ -4,12 +4,10 @@ ghost use Prim.Native.Nat.{_<_, _≤_};
 ghost use lib.Dec.{eqb};
 ghost use lib.ListN.{length, set};
 ghost use Rattle.sets.specs.Tests.{pick};
-ghost use Rattle.faults.specs.Check.{faultNumberOf};
 ghost use Rattle.lines.specs.declared.Frame.the-variants.{Head, Link, FaultSet, Start};
 ghost use Rattle.frames.specs.Reading.{placeOf, headCause, linkCause, faultSetCause, startCause, isWord, messageCause, causeIn, linked, after, wordsAfter};
 use super::Progress;
 use lines::Frame;
-use faults::FaultSetCheck;
 use plan::Plan;
 
 // The cause that refuses a frame, 0 for none; and what is known after it where it is accepted.
@@ -113,18 +111,6 @@ fn link(p: Progress, from: usize, to: usize) -> Told
     }
 }
 
-fn fault_number(c: FaultSetCheck) -> u8
-    ensures { λ r. ⌜ r ≡ faultNumberOf c ⌝ }
-{
-    match c {
-        FaultSetCheck::Sound => 0,
-        FaultSetCheck::WrongRange => 4,
-        FaultSetCheck::WrongLink => 5,
-        FaultSetCheck::WrongMember => 7,
-        FaultSetCheck::OverBound => 8,
-    }
-}
-
 fn fault_set(p: Progress, s: u32) -> Told
     ensures { λ r. ⌜ (r .cause ≡ faultSetCause p s) × (r .cause ≡ 0 → r .progress ≡ after p (FaultSet s)) ⌝ }
 {
@@ -135,7 +121,7 @@ fn fault_set(p: Progress, s: u32) -> Told
             progress: p,
         };
     }
-    let cause = fault_number(faults::check_fault_set(plan, s));
+    let cause = faults::number(faults::check_fault_set(plan, s));
     if cause != 0 {
         return Told {
             cause: cause,

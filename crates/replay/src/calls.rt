@@ -1,7 +1,6 @@
 // The calls on values: the step, the two checks of sets, the run.
 use super::said;
 use super::say;
-use faults::FaultSetCheck;
 use partition::WitnessCheck;
 use simulation::Outcome as Run;
 use terminal::Outcome as Step;
@@ -64,21 +63,11 @@ pub(crate) fn witness(body: &[u8], line: &mut [u8]) -> usize {
     say::byte(line, 0, witness_number(checked))
 }
 
-fn fault_number(c: FaultSetCheck) -> u8 {
-    match c {
-        FaultSetCheck::Sound => 0,
-        FaultSetCheck::WrongRange => 4,
-        FaultSetCheck::WrongLink => 5,
-        FaultSetCheck::WrongMember => 7,
-        FaultSetCheck::OverBound => 8,
-    }
-}
-
 // A plan and a set.
 pub(crate) fn fault_set(body: &[u8], line: &mut [u8]) -> usize {
     let p = said::plan(body);
     let checked = faults::check_fault_set(p, said::quad(body, 83));
-    say::byte(line, 0, fault_number(checked))
+    say::byte(line, 0, faults::number(checked))
 }
 
 pub(crate) fn run_number(o: Run) -> u8 {

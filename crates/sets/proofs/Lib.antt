@@ -1,5 +1,6 @@
 -- The laws that this crate's proofs and the layers above cite.
 pub mod Bools
+pub mod Causes
 pub mod Digits
 pub mod Laws
 pub mod Masks

@@ -1,0 +1,24 @@
+-- The laws of a table of causes. Assumes nothing.
+use Prim.Native.Nat.{ℕ}
+use mathlib.Core.Path.{_≡_, refl}
+use mathlib.Core.Bool.{Bool, true, false}
+use mathlib.Core.List.{List, _∷_}
+use Rattle.sets.specs.Tests.{pick}
+use Rattle.sets.specs.Causes.{Cause, _gives_, firstCause}
+use Rattle.sets.proofs.Bools.{pick-yes, pick-no}
+
+-- a row whose test holds decides, one whose test fails is passed over
+pub cause-here : (test : Bool) (number : ℕ) (rest : List Cause) → test ≡ true → firstCause (test gives number ∷ rest) ≡ number
+unfolding firstCause
+cause-here test number rest h = pick-yes _ _ _ h
+
+pub cause-later : (test : Bool) (number : ℕ) (rest : List Cause) → test ≡ false → firstCause (test gives number ∷ rest) ≡ firstCause rest
+unfolding firstCause
+cause-later test number rest h = pick-no _ _ _ h
+
+-- where there is no cause, no row applies
+pub cause-none : (test : Bool) (number : ℕ) (rest : List Cause) → (number ≡ 0 → ⊥) → firstCause (test gives number ∷ rest) ≡ 0
+    → (test ≡ false) × (firstCause rest ≡ 0)
+unfolding firstCause pick
+cause-none true number rest z h = absurd (z h)
+cause-none false number rest z h = (refl, h)
