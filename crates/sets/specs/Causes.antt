@@ -5,7 +5,7 @@ use mathlib.Core.List.{List, [], _∷_}
 use Rattle.sets.specs.Tests.{pick}
 
 -- a row of the table: where the test holds, the call is refused by the number
-infix 22 _gives_
+infix 90 _gives_
 pub data Cause : Type 0 where
   _gives_ : (test : Bool) (number : ℕ) → Cause
 
