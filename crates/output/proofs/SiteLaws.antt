@@ -17,8 +17,7 @@ use Rattle.terminal.specs.declared.State.{State}
 use Rattle.terminal.specs.declared.Record.{Record}
 use Rattle.terminal.specs.Rule.{start}
 use Rattle.plan.proofs.Laws.{sound}
-use Rattle.propagation.specs.Run.{site}
-use Rattle.simulation.specs.Turns.{scriptOf}
+use Rattle.propagation.specs.Run.{site, scriptOf}
 use Rattle.simulation.specs.Answer.{startSound, runCause, arrayAfter}
 use Rattle.simulation.proofs.Causes.{cause-played}
 use Rattle.simulation.proofs.Promise.{array-at}

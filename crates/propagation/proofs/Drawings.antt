@@ -2,6 +2,7 @@
 use mathlib.Core.Path.{_≡_, refl}
 use mathlib.Core.List.{map}
 use Rattle.sets.specs.Tests.{_and_, _or_, _implies_, pick}
+use Rattle.sets.specs.Causes.{firstCause}
 use Rattle.sets.specs.Sets.{mem, count, all, mask, within, size}
 use Rattle.quorum.specs.Quorum.{enough, inRange, hearsSoundly}
 use Rattle.terminal.specs.Rule.{firstWord, noted, hasNoted, certified, lesser, least, candidate, choice, taking, stepFrom, step}
@@ -15,5 +16,5 @@ use Rattle.propagation.specs.Drawings.{linked, rowsFrom, drawing, setOf,
 
 -- the definitions answer every row as the document does
 pub drawings : map (λ (r : Row). answer (r .asked)) rows ≡ map (λ (r : Row). r .told) rows
-unfolding _and_ _or_ _implies_ pick mem count all mask enough within size firstWord noted hasNoted certified lesser least candidate choice taking stepFrom step inRange hearsSoundly heardBy hears rowSound linksSound causeOf hearsEnough isBounded isFaultSet joins grow reachedAfter reached rest cutOff defeats better bestBelow verdictOf verdict judged answerOf table startRecord saysIn heardFrom recordIn played sites site linked rowsFrom drawing setOf ofAnswer ofState answer linksF linksH chain rows
+unfolding _and_ _or_ _implies_ pick firstCause mem count all mask enough within size firstWord noted hasNoted certified lesser least candidate choice taking stepFrom step inRange hearsSoundly heardBy hears rowSound linksSound causeOf hearsEnough isBounded isFaultSet joins grow reachedAfter reached rest cutOff defeats better bestBelow verdictOf verdict judged answerOf table startRecord saysIn heardFrom recordIn played sites site linked rowsFrom drawing setOf ofAnswer ofState answer linksF linksH chain rows
 drawings = refl

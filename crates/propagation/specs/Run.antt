@@ -1,6 +1,6 @@
 -- The run by the rules (document 01, "The run"), for any number of rounds. A script is a function of round, sender and hearer: what the terminals of
 -- the fault set say, 0 for silence. Assumes nothing.
-use Prim.Native.Nat.{ℕ, zero, suc, _+_, _≤_, _<_}
+use Prim.Native.Nat.{ℕ, zero, suc, _+_, _-_, _*_, _≤_, _<_}
 use mathlib.Core.Path.{_≡_}
 use mathlib.Core.Bool.{true}
 use mathlib.Core.List.{List, [], _∷_}
@@ -17,6 +17,10 @@ use Rattle.plan.specs.Plan.{heardBy, hears}
 
 abbrev pub Script : Type 0
 Script = (round : Round) (sender hearer : Terminal) → Layout
+
+-- the script that a lent list of words stands for: round 1 first, then by sender, then by hearer; 0 past its end
+unfoldable pub scriptOf : (n : ℕ) (words : List Layout) → Script
+scriptOf n words round sender hearer = getD words ((round - 1) * (n * n) + sender * n + hearer) 0
 
 abbrev pub silence : Script
 silence round sender hearer = 0

@@ -18,15 +18,15 @@ use Rattle.plan.specs.declared.Plan.{Plan}
 use Rattle.plan.specs.Plan.{causeOf}
 use Rattle.plan.proofs.Laws.{sound}
 use Rattle.closure.specs.FaultSet.{isFaultSet}
-use Rattle.propagation.specs.Run.{Silent, table, sites, site}
+use Rattle.propagation.specs.Run.{Silent, table, sites, site, scriptOf}
 use Rattle.closure.specs.Verdict.{verdict}
 use Rattle.propagation.proofs.Demand3.{demand3}
 use Rattle.closure.proofs.Witness.{accepts-e}
 use Rattle.propagation.proofs.Rounds.{table-at}
 use Rattle.faults.proofs.Laws.{fault-is}
 use Rattle.simulation.specs.declared.Turn.{Turn}
-use Rattle.simulation.specs.Turns.{scriptOf, firstTurn, playedAfter, CanPlay, leftAfter}
-use Rattle.simulation.specs.Answer.{startSound, runCause, turnsOf, recordsAfter, arrayAfter, Demand3Holds, Defeated, noWords}
+use Rattle.simulation.specs.Turns.{firstTurn, playedAfter, CanPlay, leftAfter}
+use Rattle.simulation.specs.Answer.{startSound, listsFit, runCause, turnsOf, recordsAfter, arrayAfter, Demand3Holds, Defeated, noWords}
 use Rattle.simulation.proofs.Causes.{cause-played, accepted-run, turns-played, turns-refused}
 use Rattle.simulation.proofs.Walk.{walk-is, walk-array, turn-placed}
 
@@ -163,7 +163,7 @@ module _ (p : Plan) (c : causeOf p ≡ 0) (value : ℕ) (v : 1 ≤ value) (faile
   quiet round sender hearer first last k m = zeros ((p .n - 1) * (p .n * p .n)) _
 
   called : runCause p listed value (p .n - 1) (length words) (length before) ≡ 0
-  unfolding startSound
+  unfolding startSound listsFit
   called =
       sym
       (cause-played p listed value (p .n - 1) (length words) (length before) (fault-is p listed c (accepts-e p listed (verdict p .l) (verdict p .r) (demand3 p c .witness failed) .fault))

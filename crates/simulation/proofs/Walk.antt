@@ -20,31 +20,26 @@ use Rattle.terminal.specs.declared.State.{State}
 use Rattle.terminal.specs.declared.State.the-variants.{Waiting, Taken}
 use Rattle.terminal.specs.declared.Record.{Record}
 use Rattle.terminal.specs.Rule.{start, step}
-use Rattle.terminal.specs.Answer.{stateSound, recordSound, causeOf, recordAfter}
+use Rattle.terminal.specs.Answer.{causeOf, recordAfter}
+use Rattle.terminal.proofs.Laws.{not-refused}
 use Rattle.plan.specs.declared.Plan.{Plan}
 use Rattle.plan.specs.Plan as plan
 use Rattle.plan.specs.Plan.{heardBy, hears}
 use Rattle.plan.proofs.Laws.{sound, tests, row-of}
 use Rattle.closure.specs.FaultSet.{isFaultSet}
-use Rattle.propagation.specs.Run.{Script, table, startRecord, saysIn, heardFrom, sites, site}
+use Rattle.propagation.specs.Run.{Script, table, startRecord, saysIn, heardFrom, sites, site, scriptOf}
 use Rattle.propagation.proofs.Rounds.{table-length, table-at, at, word, at-start, at-next, at-faulty, sites-length}
 use Rattle.propagation.proofs.Safety.{safe, not-both}
 use Rattle.propagation.proofs.Liveness.{source-taken}
 use Rattle.simulation.specs.declared.Turn.{Turn}
 use Rattle.simulation.specs.declared.Made.{Made}
-use Rattle.simulation.specs.Turns.{scriptOf, heardIn, listOf, recordOf, nextTurn, madeOf, Played, playOne, playedAfter, firstTurn, Ready}
+use Rattle.simulation.specs.Turns.{heardIn, listOf, recordOf, nextTurn, madeOf, Played, playOne, playedAfter, firstTurn, Ready}
 use Rattle.simulation.proofs.Lists.{list-length, list-at}
 
 pub played-add : (words : List ℕ) (s : Played) (a b : ℕ) → playedAfter words s (a + b) ≡ playedAfter words (playedAfter words s a) b
 unfolding playedAfter
 played-add words s a zero = ap (playedAfter words s) (add-zero a)
 played-add words s a (suc b) = ap (playedAfter words s) (add-suc a b) ∙ ap (playOne words) (played-add words s a b)
-
-state-sound : (s : State) (isSource : Bool) (round : ℕ) → (s ≡ Waiting → isSource ≡ false) → ((t v : ℕ) → s ≡ Taken t v → (t ≤ round) × (v ≡ 0 → ⊥))
-    → stateSound s isSource round ≡ true
-unfolding stateSound
-state-sound Waiting isSource round w t = not-i (w refl)
-state-sound (Taken a v) isSource round w t = let h = t a v refl in and-i _ _ (le-leb a round (h .0)) (not-i (ne-eqb v 0 (h .1)))
 
 module _ (p : Plan) (checked : plan.causeOf p ≡ 0) (faulty value : ℕ) (layout : value ≡ 0 → ⊥) (words : List ℕ) (fault : isFaultSet p faulty ≡ true) where
   abbrev script : Script
@@ -56,19 +51,13 @@ module _ (p : Plan) (checked : plan.causeOf p ≡ 0) (faulty value : ℕ) (layou
   -- no step of a good terminal is refused before round 40
   cause-none : (q b m : ℕ) → q < 40 → b < p .n → mem b faulty ≡ false → m ≡ p .n
       → causeOf (p .n) (p .source) (p .f) b (heardBy p b) (here q b) m ≡ 0
-  unfolding causeOf recordSound
   cause-none q b m h k g e =
       let s = safe p (sound p checked) faulty value script fault q b k g in
       let rd : here q b .round ≡ q = s .round-is in
-      pick-yes _ _ _ (tests p checked .0)
-      ∙ pick-yes _ _ _ (row-of p (tests p checked .1) b k (sound p checked .twenty))
-      ∙ pick-yes _ _ _
-      (and-i _ _ (lt-ltb (here q b .round) 40 (omega arith))
-      (and-i _ _ (lt-ltb b (p .n) k)
-      (state-sound (here q b .state) (eqb b (p .source)) (here q b .round)
-      (λ w. ne-eqb b (p .source) (λ y. not-both (subst (λ (x : ℕ). here q x .state ≡ Waiting) y w) (source-taken p (sound p checked) faulty value layout script fault q)))
-      (λ t v w. let u = s .taken t v w in ((let l : t ≤ q = u .1 in omega arith), λ z. layout (sym (u .0) ∙ z))))))
-      ∙ pick-yes _ _ _ (eq-eqb m (p .n) e)
+      not-refused (p .n) (p .source) (p .f) b (heardBy p b) (here q b) m (tests p checked .0) (row-of p (tests p checked .1) b k (sound p checked .twenty))
+      (omega arith) k
+      (λ w y. not-both (subst (λ (x : ℕ). here q x .state ≡ Waiting) y w) (source-taken p (sound p checked) faulty value layout script fault q))
+      (λ t v w. let u = s .taken t v w in ((let l : t ≤ q = u .1 in omega arith), λ z. layout (sym (u .0) ∙ z))) e
 
   -- what the terminal hears in its turn is what the rules say it hears
   heard-is : (t : Turn) (q b : ℕ) → t .plan ≡ p → t .faulty ≡ faulty → t .round ≡ suc q → t .at ≡ b → b < p .n

@@ -11,13 +11,9 @@ use Rattle.terminal.specs.Rule.{start}
 use Rattle.terminal.specs.Answer.{recordAfter}
 use Rattle.plan.specs.declared.Plan.{Plan}
 use Rattle.plan.specs.Plan.{heardBy, hears}
-use Rattle.propagation.specs.Run.{Script, startRecord, saysIn}
+use Rattle.propagation.specs.Run.{scriptOf, startRecord, saysIn}
 use Rattle.simulation.specs.declared.Turn.{Turn}
 use Rattle.simulation.specs.declared.Made.{Made}
-
--- the script that a list of words stands for: round 1 first, then by sender, then by hearer
-unfoldable pub scriptOf : ℕ → List ℕ → Script
-scriptOf n words round sender hearer = getD words ((round - 1) * (n * n) + sender * n + hearer) 0
 
 -- what the terminal whose turn it is hears from terminal j this round
 unfoldable pub heardIn : Turn → List ℕ → ℕ → ℕ

@@ -2,13 +2,11 @@
 mod playing;
 
 ghost use mathlib.Core.Path.{_≡_};
-ghost use Prim.Native.Nat.{_*_, _≤_};
+ghost use Prim.Native.Nat.{_≤_};
 ghost use lib.ListN.{length};
-ghost use lib.Dec.{eqb};
-ghost use Rattle.sets.specs.Tests.{_and_};
 ghost use Rattle.faults.specs.Check.{faultNumberOf};
 ghost use Rattle.simulation.specs.Turns.{firstTurn, CanPlay, leftAfter};
-ghost use Rattle.simulation.specs.Answer.{numberOf, startSound, runCause, turnsOf, recordsAfter, arrayAfter, Demand3Holds};
+ghost use Rattle.simulation.specs.Answer.{numberOf, startSound, listsFit, runCause, turnsOf, recordsAfter, arrayAfter, Demand3Holds};
 use faults::FaultSetCheck;
 use plan::Plan;
 use terminal::Record;
@@ -91,10 +89,11 @@ fn start_sound(value: u16, rounds: u8) -> bool
 }
 
 // The lists fit: a word for each round, sender and hearer, and a record for each terminal.
-fn lists_fit(n: usize, rounds: u8, words: usize, places: usize) -> bool
-    requires { ⌜ (n ≤ 20) × (rounds ≤ 40) ⌝ }
-    ensures { λ r. ⌜ r ≡ eqb words (rounds * (n * n)) and eqb places n ⌝ }
+fn lists_fit(p: Plan, rounds: u8, words: usize, places: usize) -> bool
+    requires { ⌜ (p .n ≤ 20) × (rounds ≤ 40) ⌝ }
+    ensures { λ r. ⌜ r ≡ listsFit p rounds words places ⌝ }
 {
+    let n = p.n;
     if words == (rounds as usize) * (n * n) {
         return places == n;
     }
@@ -108,7 +107,7 @@ fn judge(p: Plan, faulty: u32, value: u16, rounds: u8, words: usize, places: usi
     let fault = refused(faults::check_fault_set(p, faulty));
     if let Outcome::Played = fault {
         if start_sound(value, rounds) {
-            if lists_fit(p.n, rounds, words, places) {
+            if lists_fit(p, rounds, words, places) {
                 return Outcome::Played;
             }
             return Outcome::WrongLength;

@@ -1,8 +1,8 @@
 // One turn: a terminal's record, by value, and the turn that follows.
 ghost use mathlib.Core.Path.{_≡_};
 ghost use Prim.Native.Nat.{_+_, _<_, _≤_};
-ghost use Rattle.propagation.specs.Run.{startRecord, saysIn};
-ghost use Rattle.simulation.specs.Turns.{scriptOf, heardIn, listOf, recordOf, nextTurn, madeOf};
+ghost use Rattle.propagation.specs.Run.{startRecord, saysIn, scriptOf};
+ghost use Rattle.simulation.specs.Turns.{heardIn, listOf, recordOf, nextTurn, madeOf};
 use super::Made;
 use super::Turn;
 use terminal::Record;

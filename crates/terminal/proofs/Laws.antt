@@ -8,11 +8,13 @@ use mathlib.Core.List.{List}
 use native.Mathlib.Nat.{lt-of-lt-of-le}
 use native.Mathlib.Omega.{arith}
 use lib.Dec.{eqb, ltb, leb}
+use borrow.Author.Tests.{lt-ltb, le-leb, eq-eqb, ne-eqb}
 use lib.ListN.{length, getD, replicate, length-replicate}
 use Rattle.sets.specs.Tests.{_and_, pick}
 use Rattle.sets.specs.Sets.{mem}
 use Rattle.quorum.specs.Quorum.{enough, inRange, hearsSoundly}
-use Rattle.sets.proofs.Bools.{clash, no-by, and-no-r, pick-yes, pick-no}
+use Rattle.sets.proofs.Bools.{clash, no-by, and-i, and-no-r, not-i, not-yes}
+use Rattle.sets.proofs.Causes.{cause-here, cause-later, cause-last}
 use Rattle.terminal.specs.declared.State.{State}
 use Rattle.terminal.specs.declared.State.the-variants.{Waiting, Taken}
 use Rattle.terminal.specs.declared.Record.{Record}
@@ -71,7 +73,28 @@ pub source-start-zero : (n source f own heard words : ℕ) → inRange n source 
     → causeOf n source f own heard (sourceStart 0) words ≡ 13
 unfolding causeOf recordSound stateSound
 source-start-zero n source f own heard words r h =
-    pick-yes _ _ _ r ∙ pick-yes _ _ _ h ∙ pick-no _ _ _ (and-no-r (ltb 0 40) _ (and-no-r (ltb own n) _ (and-no-r (leb 0 0) (not (eqb 0 0)) refl)))
+    cause-later _ 4 _ (not-yes r) ∙ cause-later _ 5 _ (not-yes h)
+    ∙ cause-here _ 13 _ (not-i (and-no-r (ltb 0 40) _ (and-no-r (ltb own n) _ (and-no-r (leb 0 0) (not (eqb 0 0)) refl))))
+
+-- ---- a step that is not refused
+
+state-sound : (s : State) (isSource : Bool) (round : ℕ) → (s ≡ Waiting → isSource ≡ false) → ((t v : ℕ) → s ≡ Taken t v → (t ≤ round) × (v ≡ 0 → ⊥))
+    → stateSound s isSource round ≡ true
+unfolding stateSound
+state-sound Waiting isSource round w t = not-i (w refl)
+state-sound (Taken a v) isSource round w t = let h = t a v refl in and-i _ _ (le-leb a round (h .0)) (not-i (ne-eqb v 0 (h .1)))
+
+pub not-refused : (n source f own heard : ℕ) (r : Record) (words : ℕ) → inRange n source f ≡ true → hearsSoundly n own heard ≡ true
+    → r .round < 40 → own < n → (r .state ≡ Waiting → own ≡ source → ⊥) → ((t v : ℕ) → r .state ≡ Taken t v → (t ≤ r .round) × (v ≡ 0 → ⊥))
+    → words ≡ n → causeOf n source f own heard r words ≡ 0
+unfolding causeOf recordSound
+not-refused n source f own heard r words range hears early placed waiting taken fit =
+    cause-later _ 4 _ (not-yes range) ∙ cause-later _ 5 _ (not-yes hears)
+    ∙ cause-later _ 13 _
+    (not-yes
+    (and-i _ _ (lt-ltb (r .round) 40 early)
+    (and-i _ _ (lt-ltb own n placed) (state-sound (r .state) (eqb own source) (r .round) (λ w. ne-eqb own source (waiting w)) taken))))
+    ∙ cause-last _ 12 (not-yes (eq-eqb words n fit))
 
 -- ---- the step: `notes` stands for the notes before it
 

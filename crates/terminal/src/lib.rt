@@ -29,6 +29,19 @@ pub enum Outcome {
     WrongRecord,
 }
 
+// Document 01's number of the outcome, 0 where nothing is refused.
+pub fn number(o: Outcome) -> u8
+    ensures { λ r. ⌜ r ≡ numberOf o ⌝ }
+{
+    match o {
+        Outcome::Accepted => 0,
+        Outcome::WrongRange => 4,
+        Outcome::WrongLink => 5,
+        Outcome::WrongLength => 12,
+        Outcome::WrongRecord => 13,
+    }
+}
+
 // The record after the step; where it is refused, the record that went in.
 pub struct Stepped {
     pub outcome: Outcome,
