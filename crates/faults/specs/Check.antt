@@ -24,8 +24,8 @@ faultNumberOf OverBound = 8
 unfoldable pub faultCauseOf : Plan → Set → ℕ
 faultCauseOf p s =
     firstCause (
-      given (causeOf p)
-          ∷ not (within (p .n) s and not (mem (p .source) s)) gives 7
-          ∷ not (isFaultSet p s) gives 8
-          ∷ []
+    given (causeOf p)
+    ∷ not (within (p .n) s and not (mem (p .source) s)) gives 7
+    ∷ not (isFaultSet p s) gives 8
+    ∷ []
     )

@@ -13,7 +13,7 @@ use Rattle.plan.specs.declared.Plan.{Plan}
 use Rattle.plan.specs.Plan.{causeOf}
 use Rattle.plan.proofs.Laws.{Sound, sound}
 use Rattle.closure.specs.FaultSet.{hearsEnough, isFaultSet}
-use Rattle.closure.specs.Closure.{reached, rest, cutOff}
+use Rattle.closure.specs.Closure.{reached, cutOff}
 use Rattle.closure.specs.Verdict.{Ahead, defeats, Found, none, found, bestBelow, verdictOf, verdict, accepts}
 use Rattle.closure.proofs.Witness.{IsBest, best-below, verdict-pass, verdict-fail, witness-accepted}
 use Rattle.partition.specs.declared.Judgement.the-variants.{Pass, Fail}
@@ -36,7 +36,7 @@ memory-passes p s best (found b) h l =
 pub memory-fails : (p : Plan) (best : Best) (x : Found) → StandsFor (p .n) best x → best .members ≤ 20
     → (l r : ℕ) → l ≡ reached p (best .set) → r ≡ mask (p .n) (λ b. not (mem b (best .set)) and not (mem b l))
     → told (Fail (record { f = best .set; l = l; r = r })) ≡ judged (verdictOf p x)
-unfolding StandsFor judged verdictOf pick cutOff rest
+unfolding StandsFor judged verdictOf pick cutOff
 memory-fails p best none h m l r e q = absurd (omega arith)
 memory-fails p best (found b) h m l r e q = same l r e q (h .0)
   where
@@ -106,16 +106,6 @@ answer-fails p =
     })
     (λ e h. absurd (omega arith))
 
--- what a passed answer says: no fault set leaves a terminal cut off
-pub answer-passes : (p : Plan) → answerOf p .number ≡ 0 → answerOf p .failed ≡ 0 → (s : ℕ) → isFaultSet p s ≡ true → cutOff p s ≡ 0
-unfolding answerOf judged
-answer-passes p =
-    pick-case (λ (a : Answer). a .number ≡ 0 → a .failed ≡ 0 → (s : ℕ) → isFaultSet p s ≡ true → cutOff p s ≡ 0) (eqb (causeOf p) 0)
-    (judged (verdict p)) (refused (causeOf p))
-    (λ e n h s i. verdict-pass p (pick-zero (verdict p .passed) h) s i)
-    (λ e n h s i. clash (eq-eqb (causeOf p) 0 n) e)
-
--- the verdict's promise: the answer, and that the check accepts what a fail lists
 pub with-check : (p : Plan) (a : Answer) → a ≡ answerOf p → (a ≡ answerOf p) × (a .failed ≡ 1 → accepts p (a .f) (a .l) (a .r) ≡ true)
 with-check p a e =
     (e, subst (λ (x : Answer). x .failed ≡ 1 → accepts p (x .f) (x .l) (x .r) ≡ true) (sym e) (λ h. answer-fails p h .checked))

@@ -18,10 +18,6 @@ use Rattle.partition.specs.declared.search.Best.{Best}
 unfoldable pub direct : List ℕ → ℕ → ℕ
 direct rows source = over rows 0 (singleton 32 source)
 
--- the terminals of n outside two sets
-abbrev pub outside : ℕ → ℕ → ℕ → ℕ
-outside n a b = mask n (λ i. not (mem i a) and not (mem i b))
-
 -- the search's memory stands for the best set found: more than 20 members for none
 unfoldable pub StandsFor : ℕ → Best → Found → Type 0
 StandsFor n best none = best .members ≡ 21

@@ -18,7 +18,7 @@ fn is_partition(n: usize, f: u32, l: u32, r: u32) -> bool
     if sets::within(f, n) {
         if sets::within(l, n) {
             if f & l == 0 {
-                return search::left_out(n, f, l) == r;
+                return search::outside(n, f, l) == r;
             }
         }
     }

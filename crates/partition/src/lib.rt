@@ -47,7 +47,7 @@ fn judge(p: Plan) -> Judgement
     }
     let f = best.set;
     let l = search::reach(p, hearers, f);
-    let r = search::left_out(p.n, f, l);
+    let r = search::outside(p.n, f, l);
     Judgement::Fail(Witness { f: f, l: l, r: r })
 }
 

@@ -42,7 +42,7 @@ listsFit p rounds words places = eqb words (rounds * (p .n * p .n)) and eqb plac
 unfoldable pub runCause : Plan → (faulty : Set) (value : Layout) (rounds words places : ℕ) → ℕ
 runCause p faulty value rounds words places =
     firstCause (
-      given (faultCauseOf p faulty) ∷ not (startSound value rounds) gives 9 ∷ not (listsFit p rounds words places) gives 12 ∷ []
+    given (faultCauseOf p faulty) ∷ not (startSound value rounds) gives 9 ∷ not (listsFit p rounds words places) gives 12 ∷ []
     )
 
 -- the turns that the run is played in: one for each terminal in round 0 and in each round after it; none where the call is refused

@@ -100,11 +100,11 @@ module _ (n source f own heard : ℕ) where
   number-same a b e said other s =
       (λ i.
       firstCause (
-        not (inRange n source f) gives 4
-            ∷ not (hearsSoundly n own heard) gives 5
-            ∷ not (ltb (e .round i) 40 and ltb own n and stateSound (e .state i) (eqb own source) (e .round i)) gives 13
-            ∷ not (eqb (s .long i) n) gives 12
-            ∷ []
+      not (inRange n source f) gives 4
+      ∷ not (hearsSoundly n own heard) gives 5
+      ∷ not (ltb (e .round i) 40 and ltb own n and stateSound (e .state i) (eqb own source) (e .round i)) gives 13
+      ∷ not (eqb (s .long i) n) gives 12
+      ∷ []
       ))
 
   after-same : (a b : Record) → SameRecord heard a b → (said other : List ℕ) → SameHeard heard said other

@@ -40,11 +40,11 @@ recordSound n source own r = ltb (r .round) mostRounds and ltb own n and stateSo
 unfoldable pub causeOf : (n : ℕ) (source : Terminal) (f : ℕ) (own : Terminal) (heard : Set) → Record → (words : ℕ) → ℕ
 causeOf n source f own heard r words =
     firstCause (
-      not (inRange n source f) gives 4
-          ∷ not (hearsSoundly n own heard) gives 5
-          ∷ not (recordSound n source own r) gives 13
-          ∷ not (eqb words n) gives 12
-          ∷ []
+    not (inRange n source f) gives 4
+    ∷ not (hearsSoundly n own heard) gives 5
+    ∷ not (recordSound n source own r) gives 13
+    ∷ not (eqb words n) gives 12
+    ∷ []
     )
 
 -- the record that comes back: the stepped one, or where the step is refused the one that went in
