@@ -18,14 +18,14 @@ use Rattle.closure.specs.Verdict.{Ahead, defeats, Found, none, found, bestBelow
 use Rattle.closure.proofs.Witness.{IsBest, best-below, verdict-pass, verdict-fail, witness-accepted}
 use Rattle.partition.specs.declared.Judgement.the-variants.{Pass, Fail}
 use Rattle.partition.specs.declared.search.Best.{Best}
-use Rattle.partition.specs.Answer.{Answer, refused, told, judged, answerOf, Reply, replyOf}
+use Rattle.partition.specs.Answer.{Answer, refused, answered, judged, answerOf, Reply, replyOf}
 use Rattle.faults.specs.Check.{faultCauseOf}
 use Rattle.partition.specs.Search.{StandsFor}
 
 -- ---- the search's memory read as a verdict
 
 pub memory-passes : (p : Plan) → Sound p → (best : Best) (x : Found) → StandsFor (p .n) best x → 20 < best .members
-    → told Pass ≡ judged (verdictOf p x)
+    → answered Pass ≡ judged (verdictOf p x)
 unfolding StandsFor judged verdictOf pick size
 memory-passes p s best none h l = refl
 memory-passes p s best (found b) h l =
@@ -35,13 +35,13 @@ memory-passes p s best (found b) h l =
 
 pub memory-fails : (p : Plan) (best : Best) (x : Found) → StandsFor (p .n) best x → best .members ≤ 20
     → (l r : ℕ) → l ≡ reached p (best .set) → r ≡ mask (p .n) (λ b. not (mem b (best .set)) and not (mem b l))
-    → told (Fail (record { f = best .set; l = l; r = r })) ≡ judged (verdictOf p x)
+    → answered (Fail (record { f = best .set; l = l; r = r })) ≡ judged (verdictOf p x)
 unfolding StandsFor judged verdictOf pick cutOff
 memory-fails p best none h m l r e q = absurd (omega arith)
 memory-fails p best (found b) h m l r e q = same l r e q (h .0)
   where
     same : (l r : ℕ) → l ≡ reached p (best .set) → r ≡ mask (p .n) (λ b. not (mem b (best .set)) and not (mem b l)) → best .set ≡ b
-        → told (Fail (record { f = best .set; l = l; r = r })) ≡ judged (verdictOf p (found b))
+        → answered (Fail (record { f = best .set; l = l; r = r })) ≡ judged (verdictOf p (found b))
     same l r e q z =
         let e′ : l ≡ reached p b = e ∙ ap (reached p) z in
         let q′ : r ≡ cutOff p b =

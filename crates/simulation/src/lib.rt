@@ -101,7 +101,7 @@ fn lists_fit(p: Plan, rounds: u8, words: usize, places: usize) -> bool
 }
 
 // The first cause that applies.
-fn judge(p: Plan, faulty: u32, value: u16, rounds: u8, words: usize, places: usize) -> Outcome
+fn first_cause(p: Plan, faulty: u32, value: u16, rounds: u8, words: usize, places: usize) -> Outcome
     ensures { λ r. ⌜ numberOf r ≡ runCause p faulty value rounds words places ⌝ }
 {
     let fault = refused(faults::check_fault_set(p, faulty));
@@ -121,7 +121,7 @@ fn judge(p: Plan, faulty: u32, value: u16, rounds: u8, words: usize, places: usi
 fn begin(p: Plan, faulty: u32, value: u16, rounds: u8, words: usize, places: usize) -> Begun
     ensures { λ r. ⌜ (numberOf (r .outcome) ≡ runCause p faulty value rounds words places) × (r .turn ≡ firstTurn p faulty value) × (r .turns ≡ turnsOf p faulty value rounds words places) ⌝ }
 {
-    let outcome = judge(p, faulty, value, rounds, words, places);
+    let outcome = first_cause(p, faulty, value, rounds, words, places);
     let turn = first_turn(p, faulty, value);
     if let Outcome::Played = outcome {
         return Begun {

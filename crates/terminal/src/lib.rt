@@ -155,7 +155,7 @@ fn record_sound(n: usize, source: usize, own: usize, before: Record) -> bool
 }
 
 // The first cause that applies. A record that cannot be stepped comes before a wrong length.
-fn judge(
+fn first_cause(
     n: usize,
     source: usize,
     f: usize,
@@ -207,7 +207,7 @@ pub fn step(
 ) -> Stepped
     ensures { λ r. ⌜ (numberOf (r .outcome) ≡ causeOf n source f own heard before (length (now (said .entry)))) × (r .after ≡ recordAfter n source f own heard before (now (said .entry))) ⌝ }
 {
-    let outcome = judge(n, source, f, own, heard, before, said.len());
+    let outcome = first_cause(n, source, f, own, heard, before, said.len());
     if let Outcome::Accepted = outcome {
         return Stepped {
             outcome: Outcome::Accepted,

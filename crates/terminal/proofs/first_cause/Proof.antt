@@ -1,12 +1,12 @@
--- `judge` meets its contract: it asks the causes in the order in which `causeOf` picks the first. Assumes nothing.
+-- `first_cause` meets its contract: it asks the causes in the order in which `causeOf` picks the first. Assumes nothing.
 use mathlib.Core.Path.{sym, _∙_}
 use borrow.Author.Tests.{eq-eqb, ne-eqb}
 use borrow.Author.Needs.{needs}
 use Rattle.sets.specs.Tests.{pick}
 use Rattle.sets.specs.Causes.{firstCause}
 use Rattle.terminal.specs.Answer.{causeOf}
-use Rattle.terminal.proofs.judge.Statement.{statement}
-use Rattle.terminal.proofs.judge.Tie as tie
+use Rattle.terminal.proofs.first_cause.Statement.{statement}
+use Rattle.terminal.proofs.first_cause.Tie as tie
 
 in-range-requires : tie.Need-in-range-requires
 in-range-requires c κs = search needs
@@ -58,8 +58,8 @@ returns-5 : tie.Need-returns-5
 unfolding causeOf firstCause pick
 returns-5 c = simp (sym (c .before .in-range .ensures) ∙ c .if1 .left)
 
-pub judge-spec : {M : Type 1} → statement M
-judge-spec =
+pub first-cause-spec : {M : Type 1} → statement M
+first-cause-spec =
     tie.close
     (tie.spec
     in-range-requires
