@@ -11,7 +11,8 @@ use Rattle.closure.specs.FaultSet.{hearsEnough, isBounded, isFaultSet}
 use Rattle.closure.specs.Closure.{joins, grow, reachedAfter, reached, cutOff}
 use Rattle.closure.specs.Verdict.{defeats, better, bestBelow, verdictOf, verdict}
 use Rattle.closure.specs.Answer.{judged, answerOf}
-use Rattle.propagation.specs.Run.{table, startRecord, saysIn, heardFrom, recordIn, played, sites, site}
+use Rattle.propagation.specs.Run.{startRecord, saysIn, heardFrom, recordIn, played, sites, site}
+use Rattle.sets.specs.Tables.{table}
 use Rattle.propagation.specs.Drawings.{linked, rowsFrom, drawing, setOf, ofAnswer, ofState, answer, linksF, linksH, chain, rows, Row}
 
 -- the definitions answer every row as the document does

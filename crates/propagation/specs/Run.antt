@@ -3,10 +3,11 @@
 use Prim.Native.Nat.{ℕ, zero, suc, _+_, _-_, _*_, _≤_, _<_}
 use mathlib.Core.Path.{_≡_}
 use mathlib.Core.Bool.{true}
-use mathlib.Core.List.{List, [], _∷_}
+use mathlib.Core.List.{List}
 use lib.Dec.{eqb}
 use lib.ListN.{getD}
 use Rattle.sets.specs.Tests.{pick}
+use Rattle.sets.specs.Tables.{table}
 use Rattle.sets.specs.Sets.{Terminal, Set, mem}
 use Rattle.terminal.specs.declared.State.{State}
 use Rattle.terminal.specs.declared.State.the-variants.{Waiting, Taken}
@@ -24,11 +25,6 @@ scriptOf n words round sender hearer = getD words ((round - 1) * (n * n) + sende
 
 abbrev pub silence : Script
 silence round sender hearer = 0
-
--- the records of the terminals below n, one after the other
-unfoldable pub table : (n : ℕ) (one : Terminal → Record) → List Record
-table zero one = []
-table (suc n) one = one 0 ∷ table n (λ b. one (suc b))
 
 -- the source starts as taken in round 0 with its value, all others start waiting
 unfoldable pub startRecord : Plan → (value : Layout) (b : Terminal) → Record

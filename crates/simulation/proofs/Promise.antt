@@ -18,11 +18,12 @@ use Rattle.plan.specs.declared.Plan.{Plan}
 use Rattle.plan.specs.Plan.{causeOf}
 use Rattle.plan.proofs.Laws.{sound}
 use Rattle.closure.specs.FaultSet.{isFaultSet}
-use Rattle.propagation.specs.Run.{Silent, table, sites, site, scriptOf}
+use Rattle.propagation.specs.Run.{Silent, sites, site, scriptOf}
+use Rattle.sets.specs.Tables.{table}
 use Rattle.closure.specs.Verdict.{verdict}
 use Rattle.propagation.proofs.Demand3.{demand3}
 use Rattle.closure.proofs.Witness.{accepts-e}
-use Rattle.propagation.proofs.Rounds.{table-at}
+use Rattle.sets.proofs.Tables.{table-at}
 use Rattle.faults.proofs.Laws.{fault-is}
 use Rattle.simulation.specs.declared.Turn.{Turn}
 use Rattle.simulation.specs.Turns.{firstTurn, playedAfter, CanPlay, leftAfter}
@@ -109,7 +110,7 @@ module _ (p : Plan) (faulty value rounds : ℕ) (words : List ℕ) where
   array-at e records q b k =
       let t = sound p (accepted-run p faulty value rounds (length words) (p .n) e .0) .twenty in
       ap (λ (l : List Record). getD l b start) (q ∙ pick-yes _ _ _ (eq-eqb _ _ e))
-      ∙ table-at 20 (site p faulty value (scriptOf (p .n) words) rounds) b (omega arith)
+      ∙ table-at 20 (site p faulty value (scriptOf (p .n) words) rounds) start b (omega arith)
 
   pub array-promised : runCause p faulty value rounds (length words) (p .n) ≡ 0 → (records : List Record)
       → records ≡ arrayAfter p faulty value rounds words → Demand3Holds p faulty value rounds words records

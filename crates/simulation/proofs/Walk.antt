@@ -27,14 +27,15 @@ use Rattle.plan.specs.Plan as plan
 use Rattle.plan.specs.Plan.{heardBy, hears}
 use Rattle.plan.proofs.Laws.{sound, tests, row-of}
 use Rattle.closure.specs.FaultSet.{isFaultSet}
-use Rattle.propagation.specs.Run.{Script, table, startRecord, saysIn, heardFrom, sites, site, scriptOf}
-use Rattle.propagation.proofs.Rounds.{table-length, table-at, at, word, at-start, at-next, at-faulty, sites-length}
+use Rattle.propagation.specs.Run.{Script, startRecord, saysIn, heardFrom, sites, site, scriptOf}
+use Rattle.sets.specs.Tables.{table}
+use Rattle.propagation.proofs.Rounds.{at, word, at-start, at-next, at-faulty, sites-length}
+use Rattle.sets.proofs.Tables.{table-length, table-at}
 use Rattle.propagation.proofs.Safety.{safe, not-both}
 use Rattle.propagation.proofs.Liveness.{source-taken}
 use Rattle.simulation.specs.declared.Turn.{Turn}
 use Rattle.simulation.specs.declared.Made.{Made}
-use Rattle.simulation.specs.Turns.{heardIn, listOf, recordOf, nextTurn, madeOf, Played, playOne, playedAfter, firstTurn, Ready}
-use Rattle.simulation.proofs.Lists.{list-length, list-at}
+use Rattle.simulation.specs.Turns.{heardIn, recordOf, nextTurn, madeOf, Played, playOne, playedAfter, firstTurn, Ready}
 
 pub played-add : (words : List ℕ) (s : Played) (a b : ℕ) → playedAfter words s (a + b) ≡ playedAfter words (playedAfter words s a) b
 unfolding playedAfter
@@ -62,18 +63,18 @@ module _ (p : Plan) (checked : plan.causeOf p ≡ 0) (faulty value : ℕ) (layou
   -- what the terminal hears in its turn is what the rules say it hears
   heard-is : (t : Turn) (q b : ℕ) → t .plan ≡ p → t .faulty ≡ faulty → t .round ≡ suc q → t .at ≡ b → b < p .n
       → ((j : ℕ) → j < p .n → getD (t .spoken) j 0 ≡ saysIn (suc q) (here q j .state))
-      → (j : ℕ) → getD (take (p .n) (listOf 20 (heardIn t words))) j 0 ≡ word p faulty value script q b j
+      → (j : ℕ) → getD (take (p .n) (table 20 (heardIn t words))) j 0 ≡ word p faulty value script q b j
   unfolding heardIn heardFrom site
   heard-is t q b e f r a k spoken j =
       ⊎-elim
       (λ l.
       let l20 : j < 20 = let u = sound p checked .twenty in omega arith in
-      getD-take (p .n) (listOf 20 (heardIn t words)) j 0 l ∙ list-at 20 (heardIn t words) j l20
+      getD-take (p .n) (table 20 (heardIn t words)) j 0 l ∙ table-at 20 (heardIn t words) 0 j l20
       ∙ same l)
       (λ l.
-      List·getD-eq-default (take (p .n) (listOf 20 (heardIn t words))) 0
-      (let u : length (take (p .n) (listOf 20 (heardIn t words))) ≡ p .n =
-      length-take-le (p .n) (listOf 20 (heardIn t words)) (let v = sound p checked .twenty in omega (arith, list-length 20 (heardIn t words))) in
+      List·getD-eq-default (take (p .n) (table 20 (heardIn t words))) 0
+      (let u : length (take (p .n) (table 20 (heardIn t words))) ≡ p .n =
+      length-take-le (p .n) (table 20 (heardIn t words)) (let v = sound p checked .twenty in omega (arith, table-length 20 (heardIn t words))) in
       omega arith)
       ∙ sym (pick-no _ _ _ (no-by (λ h. let v = sound p checked .heard-below b j k h in absurd (omega arith)))))
       (below-or-not j (p .n))
@@ -116,20 +117,20 @@ module _ (p : Plan) (checked : plan.causeOf p ≡ 0) (faulty value : ℕ) (layou
       before = ap (λ (x : ℕ). getD (s .records) x start) (a .at-is) ∙ a .waiting q refl b (omega arith) k
 
       heard : List ℕ
-      heard = take (p .n) (listOf 20 (heardIn (s .turn) words))
+      heard = take (p .n) (table 20 (heardIn (s .turn) words))
 
       stepped : mem b faulty ≡ false
           → recordAfter (s .turn .plan .n) (s .turn .plan .source) (s .turn .plan .f) (s .turn .at) (heardBy (s .turn .plan) (s .turn .at))
-          (getD (s .records) (s .turn .at) start) (take (s .turn .plan .n) (listOf 20 (heardIn (s .turn) words)))
+          (getD (s .records) (s .turn .at) start) (take (s .turn .plan .n) (table 20 (heardIn (s .turn) words)))
           ≡ step (p .n) (p .source) (p .f) (heardBy p b) (word p faulty value script q b) (here q b)
       stepped g =
           (λ i.
           recordAfter (a .plan-is i .n) (a .plan-is i .source) (a .plan-is i .f) (a .at-is i) (heardBy (a .plan-is i) (a .at-is i)) (before i)
-          (take (a .plan-is i .n) (listOf 20 (heardIn (s .turn) words))))
+          (take (a .plan-is i .n) (table 20 (heardIn (s .turn) words))))
           ∙ pick-yes _ _ _
           (eq-eqb _ _
           (cause-none q b (length heard) (omega arith) k g
-          (length-take-le (p .n) (listOf 20 (heardIn (s .turn) words)) (let v = sound p checked .twenty in omega (arith, list-length 20 (heardIn (s .turn) words))))))
+          (length-take-le (p .n) (table 20 (heardIn (s .turn) words)) (let v = sound p checked .twenty in omega (arith, table-length 20 (heardIn (s .turn) words))))))
           ∙ ap (λ (w : ℕ → ℕ). step (p .n) (p .source) (p .f) (heardBy p b) w (here q b))
           (fun-ext (heard-is (s .turn) q b (a .plan-is) (a .faulty-is) (a .round-is) (a .at-is) k (a .spoken-is q refl)))
 
@@ -343,7 +344,7 @@ module _ (p : Plan) (checked : plan.causeOf p ≡ 0) (faulty value : ℕ) (layou
       a .beyond b m ∙ getD-replicate 20 b start start kb
       ∙ sym (List·getD-eq-default (sites p faulty value script r) start (let e = sites-length p faulty value script r in omega arith)))
       (below-or-not b (p .n))
-      ∙ sym (table-at 20 (site p faulty value script r) b kb))
+      ∙ sym (table-at 20 (site p faulty value script r) start b kb))
 
 -- one turn of the loop
 pub turn-on : (words : List ℕ) (s₀ : Played) (k : ℕ) (t : Turn) (records : List Record) (made : Made)

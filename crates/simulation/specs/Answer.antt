@@ -15,7 +15,8 @@ use Rattle.terminal.specs.Answer.{mostRounds}
 use Rattle.plan.specs.declared.Plan.{Plan}
 use Rattle.faults.specs.Check.{faultCauseOf}
 use Rattle.closure.specs.Verdict.{verdict}
-use Rattle.propagation.specs.Run.{Silent, table, sites, site, scriptOf}
+use Rattle.propagation.specs.Run.{Silent, sites, site, scriptOf}
+use Rattle.sets.specs.Tables.{table}
 use Rattle.propagation.specs.Demand3.{Good}
 use Rattle.simulation.specs.declared.Outcome.{Outcome}
 use Rattle.simulation.specs.declared.Outcome.the-variants.{Played, WrongRange, WrongLink, WrongMember, OverBound, WrongStart, WrongLength}
