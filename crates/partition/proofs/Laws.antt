@@ -5,21 +5,19 @@ use mathlib.Core.Bool.{Bool, true, false, not}
 use native.Mathlib.Omega.{arith}
 use lib.Dec.{eqb}
 use borrow.Author.Tests.{eqb-true, eq-eqb, ne-eqb}
-use Rattle.sets.specs.Tests.{_and_, _implies_, pick}
-use Rattle.sets.specs.Sets.{mem, all, mask, size, within}
-use Rattle.sets.proofs.Bools.{clash, and-l, and-r, and-i, and-no-r, pick-yes, pick-no, pick-case}
+use Rattle.sets.specs.Tests.{_and_, pick}
+use Rattle.sets.specs.Sets.{mem, mask, size}
+use Rattle.sets.proofs.Bools.{pick-yes, pick-no, pick-case}
 use Rattle.sets.proofs.Laws.{count-le}
 use Rattle.plan.specs.declared.Plan.{Plan}
 use Rattle.plan.specs.Plan.{causeOf}
 use Rattle.plan.proofs.Laws.{Sound, sound}
-use Rattle.closure.specs.FaultSet.{hearsEnough, isFaultSet}
 use Rattle.closure.specs.Closure.{reached, cutOff}
 use Rattle.closure.specs.Verdict.{Ahead, defeats, Found, none, found, bestBelow, verdictOf, verdict, accepts}
-use Rattle.closure.proofs.Witness.{IsBest, best-below, verdict-pass, verdict-fail, witness-accepted}
+use Rattle.closure.proofs.Witness.{IsBest, best-below, verdict-fail, witness-accepted}
 use Rattle.partition.specs.declared.Judgement.the-variants.{Pass, Fail}
 use Rattle.partition.specs.declared.search.Best.{Best}
 use Rattle.partition.specs.Answer.{Answer, refused, answered, judged, answerOf, Reply, replyOf}
-use Rattle.faults.specs.Check.{faultCauseOf}
 use Rattle.partition.specs.Search.{StandsFor}
 
 -- ---- the search's memory read as a verdict

@@ -1,11 +1,10 @@
 -- What the search's own functions compute, on a plan's rows. No caller sees these. Assumes nothing.
 use Prim.Native.Nat.{ℕ, _+_, _*_, _^_, _≤_, _<_}
-use mathlib.Core.Bool.{true, false, not}
+use mathlib.Core.Bool.{true, false}
 use mathlib.Core.Logic.{_⊎_}
 use mathlib.Core.List.{List}
 use mathlib.Core.Path.{_≡_}
-use Rattle.sets.specs.Tests.{_and_}
-use Rattle.sets.specs.Sets.{mem, mask, size, singleton}
+use Rattle.sets.specs.Sets.{mem, size, singleton}
 use Rattle.plan.specs.declared.Plan.{Plan}
 use Rattle.plan.specs.Plan.{causeOf}
 use Rattle.closure.specs.FaultSet.{hearsEnough, isFaultSet}

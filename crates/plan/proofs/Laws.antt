@@ -7,10 +7,9 @@ use native.Mathlib.Nat.{lt-of-lt-of-le}
 use native.Mathlib.Omega.{arith}
 use lib.Dec.{eqb, ltb}
 use borrow.Author.Tests.{leb-true, ltb-true, eqb-true, lt-ltb, le-ltb}
-use Rattle.sets.specs.Tests.{_and_}
 use Rattle.sets.specs.Causes.{_gives_}
 use Rattle.sets.specs.Sets.{mem, within}
-use Rattle.sets.proofs.Bools.{and-l, and-r, not-e, pick-yes, pick-no, pick-case, not-yes, not-no}
+use Rattle.sets.proofs.Bools.{and-l, and-r, not-e, pick-yes, pick-no, not-yes, not-no}
 use Rattle.sets.proofs.Causes.{cause-later, cause-last, cause-none}
 use Rattle.sets.proofs.Laws.{all-at, mem-below}
 use Rattle.quorum.specs.Quorum.{inRange, hearsSoundly}

@@ -8,7 +8,6 @@ use types.Run.{OneOf, miss}
 use denote.Enum.Declared.{tagOf}
 use lib.Dec.{eqb}
 use borrow.Author.Tests.{eqb-true, eqb-false, leb-true, eq-eqb}
-use Rattle.sets.specs.Tests.{_and_}
 use Rattle.sets.proofs.Bools.{and-l, and-r, not-i, not-e, not-yes, not-no, pick-yes, pick-no}
 use Rattle.sets.proofs.Causes.{cause-here, cause-later, cause-last, cause-none, given-passes, given-decides, given-none}
 use Rattle.plan.specs.declared.Plan.{Plan}

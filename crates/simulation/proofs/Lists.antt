@@ -1,18 +1,16 @@
 -- The list of a function's values, and a loop that fills it. Assumes nothing.
-use Prim.Native.Nat.{ℕ, zero, suc, _+_, _<_}
-use mathlib.Core.Path.{_≡_, refl, sym, ap, _∙_, subst}
+use Prim.Native.Nat.{ℕ, _+_, _<_}
+use mathlib.Core.Path.{_≡_, ap, _∙_}
 use mathlib.Core.List.{List}
-use native.Mathlib.Nat.{le-of-suc-le-suc, not-suc-le-zero}
 use native.Mathlib.Omega.{arith}
 use lib.ListN.{length, getD, set}
-use lib.Seq.{ext-getD, getD-set-same, getD-set-other}
+use lib.Seq.{getD-set-same, getD-set-other}
 use borrow.Author.Count.{below-more}
 use Rattle.terminal.specs.declared.Record.{Record}
 use Rattle.propagation.specs.Run.{saysIn}
 use Rattle.simulation.specs.declared.Turn.{Turn}
 use Rattle.simulation.specs.declared.Made.{Made}
 use Rattle.simulation.specs.Turns.{recordOf, nextTurn, madeOf}
-use Rattle.sets.specs.Tables.{table}
 
 -- a turn that fills place j
 pub filled-more : (g : ℕ → ℕ) (l : List ℕ) (j v : ℕ) → j < length l → v ≡ g j → ((i : ℕ) → i < j → getD l i 0 ≡ g i)

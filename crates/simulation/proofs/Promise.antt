@@ -29,7 +29,7 @@ use Rattle.simulation.specs.declared.Turn.{Turn}
 use Rattle.simulation.specs.Turns.{firstTurn, playedAfter, CanPlay, leftAfter}
 use Rattle.simulation.specs.Answer.{startSound, listsFit, runCause, turnsOf, recordsAfter, arrayAfter, Demand3Holds, Defeated, noWords}
 use Rattle.simulation.proofs.Causes.{cause-played, accepted-run, turns-played, turns-refused}
-use Rattle.simulation.proofs.Walk.{walk-is, walk-array, turn-placed}
+use Rattle.simulation.proofs.Meaning.{walk-is, walk-array, turn-placed}
 
 -- records that are, terminal by terminal, those of the rules have demand 3
 pub promised : (p : Plan) → causeOf p ≡ 0 → (faulty value rounds : ℕ) → isFaultSet p faulty ≡ true → 1 ≤ value → (words : List ℕ) (records : List Record)

@@ -11,7 +11,7 @@ use Rattle.sets.specs.Tests.{_and_, pick}
 use Rattle.sets.specs.Causes.{_gives_, firstCause}
 use Rattle.sets.specs.Sets.{mem}
 use Rattle.quorum.specs.Quorum.{enough, inRange, hearsSoundly}
-use Rattle.sets.proofs.Bools.{clash, decide, and-no-l, pick-yes, pick-no, pick-case}
+use Rattle.sets.proofs.Bools.{clash, decide, and-no-l, pick-no, pick-case}
 use Rattle.terminal.specs.declared.State.{State}
 use Rattle.terminal.specs.declared.State.the-variants.{Waiting, Taken}
 use Rattle.terminal.specs.declared.Record.{Record}

@@ -1,7 +1,7 @@
 -- Each fold of the rule taken one terminal further, from the lowest up, as the loops take it; and what the step's answer says of its parts. Assumes nothing.
 use Prim.Native.Nat.{ℕ, zero, suc, _+_, _≤_, _<_, min}
 use mathlib.Core.Path.{_≡_, refl, sym, ap, _∙_}
-use mathlib.Core.Bool.{Bool, true, false}
+use mathlib.Core.Bool.{Bool, false}
 use mathlib.Core.List.{List, [], _∷_}
 use native.Mathlib.Nat.{not-suc-le-zero}
 use native.Mathlib.Numerals.{add-one}
@@ -9,7 +9,6 @@ use native.Mathlib.Omega.{arith}
 use lib.Dec.{eqb}
 use lib.ListN.{length, getD, set}
 use borrow.Author.Tests.{ltb-true, leb-true, eqb-true, eq-eqb}
-use Rattle.sets.specs.Tests.{pick}
 use Rattle.sets.specs.Sets.{bit, count}
 use Rattle.sets.proofs.Bools.{and-l, and-r, pick-yes, pick-no, not-no}
 use Rattle.sets.proofs.Causes.{cause-none}
@@ -19,7 +18,7 @@ use Rattle.terminal.specs.declared.State.the-variants.{Taken}
 use Rattle.terminal.specs.declared.Record.{Record}
 use Rattle.terminal.specs.Rule.{firstWord, noted, lesser, least, taking, step}
 use Rattle.terminal.specs.Answer.{recordSound, causeOf, recordAfter}
-use Rattle.quorum.specs.Quorum.{inRange, hearsSoundly}
+use Rattle.quorum.specs.Quorum.{inRange}
 
 -- ---- the lesser of two values, where 0 is none
 
