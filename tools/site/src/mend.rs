@@ -1,0 +1,141 @@
+//! What to add to a plan that fails: the fewest links, or a repeater. What is printed can be put
+//! under the plan's text: the first way as lines, the others as comments.
+
+use crate::ask::Programs;
+use crate::document::Document;
+use crate::frames::{Answer, Plan};
+use crate::search::{clear_progress, Link, Mends, Search, LIMIT};
+use crate::shown;
+use crate::Trouble;
+use std::collections::BTreeSet;
+
+const MOST_TERMINALS: u8 = 20;
+/// How many further ways are listed.
+const WAYS: usize = 20;
+
+pub fn mend(document: &Document, programs: &Programs) -> Result<String, Trouble> {
+    let plan = accepted(document, programs)?;
+    if !programs.verdict(&plan.to_frames())?.fails {
+        return Ok("# this plan passes: nothing to mend\n".into());
+    }
+    let text = links(&plan, programs)? + &repeater(&plan, programs)?;
+    clear_progress();
+    Ok(text)
+}
+
+/// The plan, once a proved program has accepted its file.
+pub fn accepted(document: &Document, programs: &Programs) -> Result<Plan, Trouble> {
+    let program = if document.is_run() { "run" } else { "rewrite" };
+    match programs.ask(program, document.frames())?.1 {
+        Answer::Refused(refusal) => Err(document.refused(program, &refusal)),
+        _ => Ok(document.plan()),
+    }
+}
+
+/// The links of the first way that is found; empty for a plan that passes.
+pub fn first_way(plan: &Plan, programs: &Programs) -> Result<Vec<Link>, Trouble> {
+    if !programs.verdict(&plan.to_frames())?.fails {
+        return Ok(Vec::new());
+    }
+    let mut search = Search::new(programs, plan, missing(plan));
+    let mends = search.fewest()?;
+    let way = match mends.sets.into_iter().next() {
+        Some(way) => Some(way),
+        None => search.enough()?,
+    };
+    clear_progress();
+    Ok(way.unwrap_or_default())
+}
+
+fn missing(plan: &Plan) -> BTreeSet<Link> {
+    let all = (0..plan.terminals).flat_map(|from| (0..plan.terminals).map(move |to| (from, to)));
+    all.filter(|link| link.0 != link.1 && !plan.links.contains(link))
+        .collect()
+}
+
+fn links(plan: &Plan, programs: &Programs) -> Result<String, Trouble> {
+    let mut search = Search::new(programs, plan, missing(plan));
+    let mends = search.fewest()?;
+    let Some((first, others)) = mends.sets.split_first() else {
+        let some = search.enough()?.unwrap_or_default();
+        let more = if mends.none_of == 0 {
+            String::new()
+        } else {
+            format!("no {} is enough; ", up_to(mends.none_of))
+        };
+        let head = format!("# {more}not found within {LIMIT} calls of the verdict: the fewest. These {} are enough, and none of them can be left out:\n", some.len());
+        return Ok(head + &shown::links(&some));
+    };
+    let are = if first.len() == 1 {
+        "link is"
+    } else {
+        "links are"
+    };
+    let mut text = format!(
+        "# {} new {are} enough, and no fewer (asked {} times{})\n",
+        first.len(),
+        search.calls,
+        ways(&mends)
+    );
+    text += &shown::links(first);
+    for way in others.iter().take(WAYS) {
+        text += &format!("# or {}\n", commas(way));
+    }
+    if others.len() > WAYS {
+        text += &format!("# and {} more ways\n", others.len() - WAYS);
+    }
+    Ok(text)
+}
+
+fn up_to(links: usize) -> String {
+    match links {
+        1 => "single link".into(),
+        more => format!("set of {more} links"),
+    }
+}
+
+fn ways(mends: &Mends) -> String {
+    match (mends.sets.len(), mends.complete) {
+        (1, true) => "; the only way".into(),
+        (all, true) => format!("; {all} ways in all"),
+        (_, false) => "; there may be more ways".into(),
+    }
+}
+
+fn commas(links: &[Link]) -> String {
+    let words: Vec<String> = links
+        .iter()
+        .map(|(from, to)| format!("{from} > {to}"))
+        .collect();
+    words.join(", ")
+}
+
+/// One more terminal, and links from and to it alone.
+fn repeater(plan: &Plan, programs: &Programs) -> Result<String, Trouble> {
+    let own = plan.terminals;
+    if own == MOST_TERMINALS {
+        return Ok("# a repeater would be terminal 20, and 0 to 19 are the most\n".into());
+    }
+    let plan = Plan {
+        terminals: own + 1,
+        ..plan.clone()
+    };
+    let pool = (0..own).flat_map(|other| [(other, own), (own, other)]);
+    let mut search = Search::new(programs, &plan, pool.collect());
+    let Some(some) = search.enough()? else {
+        return Ok("# no repeater is enough, wherever it stands\n".into());
+    };
+    let mends = search.fewest()?;
+    let (way, fewest) = match mends.sets.first() {
+        Some(way) => (way, "no fewer"),
+        None => (&some, "none of them can be left out"),
+    };
+    let head = format!(
+        "# or a repeater, terminal {own}: {} links are enough, and {fewest} (asked {} times)\n",
+        way.len(),
+        search.calls
+    );
+    let lines = format!("terminals {}\n{}", plan.terminals, shown::links(way));
+    let lines = lines.lines().map(|line| format!("#   {line}\n"));
+    Ok(head + &lines.collect::<String>())
+}
