@@ -2,6 +2,7 @@
 //! others clockwise.
 
 use crate::document::Extras;
+use crate::frames::Plan;
 use crate::shapes::Point;
 use crate::text::measure;
 use std::f64::consts::TAU;
@@ -23,14 +24,16 @@ pub struct Layout {
     pub height: f64,
 }
 
-pub fn layout(terminals: u8, extras: &Extras) -> Layout {
+pub fn layout(plan: &Plan, extras: &Extras) -> Layout {
     if extras.places.is_empty() {
-        return circle(terminals);
+        return circle(plan.terminals);
     }
-    let spots = placed(terminals, extras);
+    let spots = placed(plan.terminals, extras);
     let reach = |along: fn(&Point) -> f64| spots.iter().map(along).fold(0.0, f64::max);
     Layout {
-        outwards: vec![Point { x: 0.0, y: 1.0 }; spots.len()],
+        outwards: (0..plan.terminals)
+            .map(|terminal| freest(plan, &spots, terminal))
+            .collect(),
         size: (nearest(&spots) * 0.36).clamp(8.0, 20.0),
         width: reach(|spot| spot.x),
         height: reach(|spot| spot.y),
@@ -97,6 +100,37 @@ fn placed(terminals: u8, extras: &Extras) -> Vec<Point> {
             }
         })
         .collect()
+}
+
+/// The way from a terminal, of eight, that is farthest from its links; down where it has none.
+fn freest(plan: &Plan, spots: &[Point], terminal: u8) -> Point {
+    let here = spots[usize::from(terminal)];
+    let ways: Vec<Point> = plan
+        .links
+        .iter()
+        .filter(|(from, to)| *from == terminal || *to == terminal)
+        .map(|(from, to)| {
+            let other = if *from == terminal { to } else { from };
+            here.towards(spots[usize::from(*other)])
+        })
+        .collect();
+    // The closer a link's direction, the greater the product; the nearest link counts.
+    let closeness = |way: &Point| {
+        let products = ways.iter().map(|link| link.x * way.x + link.y * way.y);
+        products.fold(-1.0, f64::max)
+    };
+    let eighth = |turn: i32| Point {
+        x: (TAU * f64::from(turn) / 8.0).sin(),
+        y: (TAU * f64::from(turn) / 8.0).cos(),
+    };
+    // Down, up, then the sides: of ways as free as each other the first stays.
+    let mut best = eighth(0);
+    for way in [4, 2, 6, 1, 7, 3, 5].map(eighth) {
+        if closeness(&way) < closeness(&best) - 0.05 {
+            best = way;
+        }
+    }
+    best
 }
 
 /// The distance of the two that stand closest.

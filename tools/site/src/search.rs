@@ -51,7 +51,7 @@ impl<'a> Search<'a> {
 
     pub fn ask(&mut self, added: &BTreeSet<Link>) -> Result<Verdict, Trouble> {
         self.calls += 1;
-        if self.calls % 20 == 0 && io::stderr().is_terminal() {
+        if self.calls.is_multiple_of(20) && io::stderr().is_terminal() {
             eprint!("\rasked {} of at most {LIMIT} times ", self.calls);
             drop(io::stderr().flush());
         }

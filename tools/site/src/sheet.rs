@@ -39,7 +39,7 @@ pub struct Sheet<'a> {
 
 impl<'a> Sheet<'a> {
     pub fn new(plan: &'a Plan, document: &'a Document, told: Told, new: Vec<Link>) -> Sheet<'a> {
-        let layout = places::layout(plan.terminals, &document.extras);
+        let layout = places::layout(plan, &document.extras);
         let mut sheet = Sheet {
             plan,
             document,

@@ -5,6 +5,7 @@ use crate::document::Document;
 use crate::frames::{Answer, Run, State};
 use crate::words;
 use crate::Trouble;
+use std::collections::BTreeMap;
 
 /// The states after each round, from round 0.
 type Course = Vec<Vec<(u8, State)>>;
@@ -59,30 +60,31 @@ fn story(document: &Document, run: &Run, course: &Course) -> String {
     for (round, states) in course.iter().enumerate() {
         let mut events = lies(document, run, round);
         let before = round.checked_sub(1).map(|last| &course[last]);
-        events.extend(takes(document, states, before));
-        if events.is_empty() {
-            events.push("nobody takes".into());
+        match takes(document, states, before) {
+            none if none.is_empty() => events.push("nobody takes".into()),
+            takes => events.extend(takes),
         }
         text += &format!("round {round}: {}\n", events.join("; "));
     }
     text + &summary(document, run, &course[course.len() - 1])
 }
 
+/// What the bad ones say, words alike together.
 fn lies(document: &Document, run: &Run, round: usize) -> Vec<String> {
-    let said = run
-        .words
-        .iter()
-        .filter(|word| usize::from(word.round) == round);
-    let called = |terminal| document.extras.called(terminal);
-    said.map(|word| {
-        format!(
-            "bad {} says {} to {}",
-            called(word.from),
-            word.value,
-            called(word.to)
-        )
-    })
-    .collect()
+    let mut said: BTreeMap<(u8, u16), Vec<u8>> = BTreeMap::new();
+    for word in &run.words {
+        if usize::from(word.round) == round {
+            let hearers = said.entry((word.from, word.value)).or_default();
+            hearers.push(word.to);
+        }
+    }
+    let extras = &document.extras;
+    said.into_iter()
+        .map(|((from, value), hearers)| {
+            let (from, hearers) = (extras.called(from), extras.listed(&hearers));
+            format!("bad {from} says {value} to {hearers}")
+        })
+        .collect()
 }
 
 /// Who has a layout now and had none before; at the start that is the source.
