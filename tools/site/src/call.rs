@@ -64,9 +64,19 @@ impl Call {
 
     pub fn answer(&self, programs: &Programs) -> Result<Told, Trouble> {
         if let [file] = self.files.as_slice() {
-            return self.answer_of(&opened(file)?, programs);
+            return self.answer_of_file(file, programs);
         }
         Ok(self.answers(programs))
+    }
+
+    /// What a file may have meant otherwise is said where it is not refused.
+    fn answer_of_file(&self, file: &str, programs: &Programs) -> Result<Told, Trouble> {
+        let (document, warnings) = document::read(file)?;
+        let answer = self.answer_of(&document, programs)?;
+        for warning in warnings {
+            tell(&warning);
+        }
+        Ok(answer)
     }
 
     fn answer_of(&self, document: &Document, programs: &Programs) -> Result<Told, Trouble> {
@@ -89,7 +99,7 @@ impl Call {
     fn answers(&self, programs: &Programs) -> Told {
         let mut all = plainly(String::new());
         for file in &self.files {
-            let answer = opened(file).and_then(|document| self.answer_of(&document, programs));
+            let answer = self.answer_of_file(file, programs);
             let (line, status) = match answer {
                 Ok(told) => (told.text.trim_end().replace('\n', " "), told.status),
                 Err(trouble) => (trouble.words().to_string(), trouble.status()),
@@ -106,14 +116,6 @@ impl Call {
         }
         all
     }
-}
-
-fn opened(file: &str) -> Result<Document, Trouble> {
-    let (document, warnings) = document::read(file)?;
-    for warning in warnings {
-        tell(&warning);
-    }
-    Ok(document)
 }
 
 /// What the program prints, as it stands; of a text that it refuses, where in the text and why.

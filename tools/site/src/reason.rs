@@ -151,6 +151,13 @@ fn first_foreign(digits: &[u8]) -> Option<Reason> {
     }
 }
 
+fn counted(bytes: usize) -> String {
+    match bytes {
+        1 => "1 byte".into(),
+        more => format!("{more} bytes"),
+    }
+}
+
 fn rounds(count: u8) -> String {
     match count {
         0 => "the run has no round".into(),
@@ -180,7 +187,7 @@ impl Scene<'_> {
         }
         let wanted: Vec<String> = lengths.iter().map(usize::to_string).collect();
         because(
-            format!("kind {kind:02x} with {found} bytes after it"),
+            format!("kind {kind:02x} with {} after it", counted(found)),
             format!("a {name} has {} ({holds})", wanted.join(" or ")),
         )
     }
