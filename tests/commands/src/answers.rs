@@ -98,50 +98,68 @@ fn one_word(checks: &mut Checks) {
     }
 }
 
+/// The names that a row's words and lines stand for.
+const FILES: [(&str, &str); 4] = [
+    ("good", "01020000\n020001\n"),
+    ("failing", TEXT),
+    ("refused", "01150001\n"),
+    ("missing", ""),
+];
+
+/// Words, status and lines, without the folder of the files.
+const MANY: [(&[&str], i32, &[&str]); 5] = [
+    (
+        &["verdict", "good", "failing"],
+        0,
+        &[
+            "good: 8100000000000000000000",
+            "failing: 8101000002000005000008",
+        ],
+    ),
+    (
+        &["verdict", "refused", "good"],
+        1,
+        &["refused: ff040001", "good: 8100000000000000000000"],
+    ),
+    (
+        &["check", "good", "failing"],
+        3,
+        &["good: pass", "failing: fail"],
+    ),
+    (
+        &["check", "refused", "failing"],
+        1,
+        &[
+            "refused: refused, line 1 (01150001): n 21: 2 to 20 terminals are allowed (cause 4)",
+            "failing: fail",
+        ],
+    ),
+    (
+        &["check", "missing", "refused"],
+        2,
+        &[
+            "missing: there is no file 'missing'",
+            "refused: refused, line 1 (01150001): n 21: 2 to 20 terminals are allowed (cause 4)",
+        ],
+    ),
+];
+
 fn many_files(checks: &mut Checks) {
-    let run = lines(&[&EXAMPLE[..], &RUN[..]].concat());
-    let good = checks.file("good.hex", b"01020000\n020001\n");
-    let failing = checks.file("failing.txt", TEXT.as_bytes());
-    let refused = checks.file("refused.hex", b"01150001\n");
-    let played = checks.file("played.hex", run.as_bytes());
-    let missing = checks.room.join("missing").display().to_string();
-    let pass = "8100000000000000000000";
-    let (fail, states) = (VERDICT.trim(), STATES.join(" "));
-    let why = "refused, line 1 (01150001): n 21: 2 to 20 terminals are allowed (cause 4)";
-    let table = [
-        (
-            vec!["verdict", &good, &failing],
-            0,
-            format!("{good}: {pass}\n{failing}: {fail}\n"),
-        ),
-        (
-            vec!["verdict", &refused, &good],
-            1,
-            format!("{refused}: ff040001\n{good}: {pass}\n"),
-        ),
-        (
-            vec!["run", &played, &played],
-            0,
-            format!("{played}: {states}\n{played}: {states}\n"),
-        ),
-        (
-            vec!["check", &good, &failing],
-            3,
-            format!("{good}: pass\n{failing}: fail\n"),
-        ),
-        (
-            vec!["check", &refused, &failing],
-            1,
-            format!("{refused}: {why}\n{failing}: fail\n"),
-        ),
-        (
-            vec!["check", &missing, &refused],
-            2,
-            format!("{missing}: there is no file '{missing}'\n{refused}: {why}\n"),
-        ),
-    ];
-    for (words, status, wanted) in table {
-        let done = checks.call(&words);
-        checks.ends(&format!("{words:?}"), &done, status, &wanted, "");
+    for (name, text) in FILES.into_iter().filter(|(_, text)| !text.is_empty()) {
+        checks.file(name, text.as_bytes());
     }
+    let beside = |words: &[&str]| {
+        let mut command = Command::new(checks.top.join("hulmayek"));
+        command.args(words).current_dir(&checks.room);
+        done(command, b"")
+    };
+    let answers = MANY.map(|(words, _, _)| beside(words));
+    for ((words, status, wanted), done) in MANY.into_iter().zip(answers) {
+        checks.ends(&format!("{words:?}"), &done, status, &lines(wanted), "");
+    }
+    let run = lines(&[&EXAMPLE[..], &RUN[..]].concat());
+    let played = checks.file("played.hex", run.as_bytes());
+    let line = format!("{played}: {}\n", STATES.join(" "));
+    let done = checks.call(&["run", &played, &played]);
+    checks.ends("run of two files", &done, 0, &line.repeat(2), "");
 }

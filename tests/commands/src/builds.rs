@@ -3,7 +3,7 @@
 use crate::checks::{done, read, Checks};
 use crate::standins::Copy;
 use std::fs;
-use std::process::{Command, Stdio};
+use std::process::{Command, Output, Stdio};
 use std::thread::sleep;
 use std::time::{Duration, Instant};
 
@@ -172,39 +172,16 @@ fn interrupted(checks: &mut Checks, copy: &Copy) {
     for (signal, status) in [("TERM", 143), ("INT", 130), ("HUP", 129)] {
         copy.write("crates/low/src/lib.rt", signal);
         copy.write("endless", "");
-        let mut call = copy.command(&["verdict", "-"]);
-        let call = call
-            .stdin(Stdio::null())
-            .stdout(Stdio::piped())
-            .stderr(Stdio::piped());
-        let call = call.spawn().expect("the command");
-        let child = copy.place.join("child");
-        let began = Instant::now();
-        while fs::read_to_string(&child).unwrap_or_default().is_empty()
-            && began.elapsed() < Duration::from_secs(10)
-        {
-            sleep(Duration::from_millis(20));
-        }
-        let prover = read(&child).trim().to_string();
-        let kill = Command::new("kill")
-            .args([format!("-{signal}"), call.id().to_string()])
-            .status();
-        checks.holds(
-            "the signal was sent",
-            kill.is_ok_and(|status| status.success()),
-        );
-        let output = call.wait_with_output().expect("it ends");
+        let (output, prover) = stopped_by(signal, copy);
+        let code = output.status.code().unwrap_or(-1);
         checks.same(
             &format!("{signal}: status"),
             &status.to_string(),
-            &output.status.code().unwrap_or(-1).to_string(),
+            &code.to_string(),
         );
         let said = String::from_utf8_lossy(&output.stderr).into_owned();
-        checks.has_line(
-            &format!("{signal}: said"),
-            &said,
-            "hulmayek: stopped; nothing goes on in the background",
-        );
+        let line = "hulmayek: stopped; nothing goes on in the background";
+        checks.has_line(&format!("{signal}: said"), &said, line);
         checks.holds(&format!("{signal}: no prover goes on"), is_gone(&prover));
         for file in ["endless", "child"] {
             copy.remove(file);
@@ -219,6 +196,34 @@ fn interrupted(checks: &mut Checks, copy: &Copy) {
             &copy.calls(),
         );
     }
+}
+
+/// A call that is sent the signal once its prover runs; and the prover's own child.
+fn stopped_by(signal: &str, copy: &Copy) -> (Output, String) {
+    let mut call = copy.command(&["verdict", "-"]);
+    call.stdin(Stdio::null())
+        .stdout(Stdio::piped())
+        .stderr(Stdio::piped());
+    let call = call.spawn().expect("the command");
+    let child = copy.place.join("child");
+    let began = Instant::now();
+    while fs::read_to_string(&child).unwrap_or_default().is_empty() {
+        assert!(
+            began.elapsed() < Duration::from_secs(20),
+            "no prover was started"
+        );
+        sleep(Duration::from_millis(20));
+    }
+    let to = call.id().to_string();
+    let sent = Command::new("kill")
+        .args([&format!("-{signal}"), &to])
+        .status();
+    assert!(
+        sent.is_ok_and(|status| status.success()),
+        "the signal is sent"
+    );
+    let output = call.wait_with_output().expect("it ends");
+    (output, read(&child).trim().to_string())
 }
 
 /// Gone, or dead and not yet collected by its parent.

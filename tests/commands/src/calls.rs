@@ -33,19 +33,7 @@ fn help(checks: &mut Checks) {
             "1",
             &lines.count().to_string(),
         );
-        let own = checks.call(&[word, "--help"]);
-        checks.same(
-            &format!("{word} --help: status"),
-            "0",
-            &own.status.to_string(),
-        );
-        let first = own.out.lines().next().unwrap_or_default();
-        let starts = first.starts_with(&format!("./hulmayek {word}"));
-        checks.holds(&format!("{word} --help is about {word}"), starts);
-        let after_file = checks.call(&[word, "x", "-h"]);
-        checks.ends(&format!("{word} x -h"), &after_file, 0, &own.out, "");
-        let by_help = checks.call(&["help", word]);
-        checks.ends(&format!("help {word}"), &by_help, 0, &own.out, "");
+        help_on(checks, word);
     }
     for topic in ["frames", "text", "main"].into_iter().chain(WORDS) {
         let page = read(&checks.top.join(format!("docs/help/{topic}.txt")));
@@ -59,6 +47,23 @@ fn help(checks: &mut Checks) {
     frames_page(checks);
     let version = checks.call(&["--version"]);
     checks.ends("--version", &version, 0, "hulmayek 0.2.0\n", "");
+}
+
+/// The same page by each of the three ways to ask for it.
+fn help_on(checks: &mut Checks, word: &str) {
+    let own = checks.call(&[word, "--help"]);
+    checks.same(
+        &format!("{word} --help: status"),
+        "0",
+        &own.status.to_string(),
+    );
+    let first = own.out.lines().next().unwrap_or_default();
+    let starts = first.starts_with(&format!("./hulmayek {word}"));
+    checks.holds(&format!("{word} --help is about {word}"), starts);
+    let after_file = checks.call(&[word, "x", "-h"]);
+    checks.ends(&format!("{word} x -h"), &after_file, 0, &own.out, "");
+    let by_help = checks.call(&["help", word]);
+    checks.ends(&format!("help {word}"), &by_help, 0, &own.out, "");
 }
 
 /// Document 01's table of kinds and its limits.
@@ -77,6 +82,37 @@ fn frames_page(checks: &mut Checks) {
     }
 }
 
+/// Calls that no file can mend.
+const WRONG: [(&[&str], &str); 9] = [
+    (
+        &["judge"],
+        "unknown word 'judge'; './hulmayek help' lists the words",
+    ),
+    (
+        &["help", "judge"],
+        "there is no help on 'judge'; './hulmayek help' lists the words",
+    ),
+    (
+        &["help", "a", "b"],
+        "'help' takes one word after it, and 2 were given",
+    ),
+    (&["--version", "2"], "'--version' takes nothing after it"),
+    (&["test", "me"], "'test' takes nothing after it"),
+    (
+        &["draw", "--csv", "plans/a.txt"],
+        "'draw' has no option '--csv'",
+    ),
+    (&["verdict", "--mend"], "'verdict' has no option '--mend'"),
+    (
+        &["with-bad", "plans/a.txt"],
+        "'with-bad' wants a file and terminals, as in: with-bad FILE 4 7",
+    ),
+    (
+        &["with-bad", "plans/a.txt", "x"],
+        "'x' is no terminal: they are 0 to 19 at most",
+    ),
+];
+
 fn wrong_calls(checks: &mut Checks) {
     let none = checks.call(&[]);
     checks.same(
@@ -84,62 +120,32 @@ fn wrong_calls(checks: &mut Checks) {
         "2 ",
         &format!("{} {}", none.status, none.out),
     );
-    let room = checks.room.display().to_string();
-    let missing = format!("{room}/not there");
-    let mut table: Vec<(Vec<&str>, String)> = vec![
-        (
-            vec!["judge"],
-            "unknown word 'judge'; './hulmayek help' lists the words".into(),
-        ),
-        (
-            vec!["help", "judge"],
-            "there is no help on 'judge'; './hulmayek help' lists the words".into(),
-        ),
-        (
-            vec!["help", "a", "b"],
-            "'help' takes one word after it, and 2 were given".into(),
-        ),
-        (
-            vec!["--version", "2"],
-            "'--version' takes nothing after it".into(),
-        ),
-        (vec!["test", "me"], "'test' takes nothing after it".into()),
-        (
-            vec!["draw", "--csv", "plans/a.txt"],
-            "'draw' has no option '--csv'".into(),
-        ),
-        (
-            vec!["verdict", "--mend"],
-            "'verdict' has no option '--mend'".into(),
-        ),
-        (
-            vec!["with-bad", "plans/a.txt"],
-            "'with-bad' wants a file and terminals, as in: with-bad FILE 4 7".into(),
-        ),
-        (
-            vec!["with-bad", "plans/a.txt", "x"],
-            "'x' is no terminal: they are 0 to 19 at most".into(),
-        ),
-    ];
+    for (words, why) in WRONG {
+        let done = checks.call(words);
+        checks.tells(&format!("{words:?}"), &done, 2, why);
+    }
     for word in ONE_FILE {
-        table.push((
-            vec![word, "a", "b"],
-            format!("'{word}' takes one file, and 2 were given"),
-        ));
+        let done = checks.call(&[word, "a", "b"]);
+        let why = format!("'{word}' takes one file, and 2 were given");
+        checks.tells(&format!("{word} of two files"), &done, 2, &why);
     }
     for word in WORDS.into_iter().filter(|word| *word != "test") {
-        let more: &[&str] = if word == "with-bad" { &["1"] } else { &[] };
-        for (file, why) in [
-            (missing.as_str(), format!("there is no file '{missing}'")),
-            ("", "there is no file ''".to_string()),
-            (room.as_str(), format!("'{room}' is a folder, not a file")),
-        ] {
-            table.push(([&[word, file], more].concat(), why));
-        }
+        wrong_files(checks, word);
     }
-    for (words, why) in table {
-        let done = checks.call(&words);
-        checks.tells(&format!("{words:?}"), &done, 2, &why);
+}
+
+fn wrong_files(checks: &mut Checks, word: &str) {
+    let more: &[&str] = if word == "with-bad" { &["1"] } else { &[] };
+    let room = checks.room.display().to_string();
+    let missing = format!("{room}/not there");
+    let table = [
+        (missing.as_str(), format!("there is no file '{missing}'")),
+        ("", "there is no file ''".to_string()),
+        (room.as_str(), format!("'{room}' is a folder, not a file")),
+    ];
+    for (file, why) in table {
+        let done = checks.call(&[&[word, file], more].concat());
+        checks.tells(&format!("{word} of '{file}'"), &done, 2, &why);
     }
 }
 

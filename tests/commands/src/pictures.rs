@@ -89,7 +89,7 @@ fn link_of(at: &BTreeMap<u8, Spot>, corners: &[Spot]) -> (u8, u8) {
 fn roles(all: &[Element], at: &BTreeMap<u8, Spot>) -> BTreeMap<u8, String> {
     let mut roles = BTreeMap::new();
     for (place, group) in all.iter().enumerate().filter(|(_, one)| one.is("terminal")) {
-        let outline = all.iter().filter(|one| one.group == Some(place)).next_back();
+        let outline = all.iter().rfind(|one| one.group == Some(place));
         let outline = outline.expect("an outline");
         let (shape, middle) = match outline.tag.as_str() {
             "circle" => ("circle", (outline.number("cx"), outline.number("cy"))),
@@ -152,17 +152,19 @@ fn texts(shown: &Shown, class: &str) -> String {
         .join("|")
 }
 
+/// Name, what it says, F, L, R and the number of lines.
+const VERDICTS: [(&str, &str, [&str; 3], usize); 6] = [
+    ("h", FAILS, ["1 3", "0 2 4", "5 6"], 9),
+    ("a", "This plan passes", ["", "", ""], 1),
+    ("b", FAILS, ["", "0", "1"], 0),
+    ("i", "This plan passes", ["", "", ""], 9),
+    ("quarry", FAILS, ["6", "0 1 2 3 4 5 7", "8 9 10 11"], 29),
+    ("port", FAILS, ["0 5", "1 2 3 4", "6 7 8 9 10 11"], 24),
+];
+const FAILS: &str = "This plan fails";
+
 fn verdicts(checks: &mut Checks) {
-    let fails = "This plan fails";
-    let table = [
-        ("h", fails, "1 3", "0 2 4", "5 6", 9),
-        ("a", "This plan passes", "", "", "", 1),
-        ("b", fails, "", "0", "1", 0),
-        ("i", "This plan passes", "", "", "", 9),
-        ("quarry", fails, "6", "0 1 2 3 4 5 7", "8 9 10 11", 29),
-        ("port", fails, "0 5", "1 2 3 4", "6 7 8 9 10 11", 24),
-    ];
-    for (name, says, bad, reached, cut, lines) in table {
+    for (name, says, sets, lines) in VERDICTS {
         let file = format!("plans/{name}.hex");
         let shown = drawn(checks, &[&file], "");
         let wanted = links_of(&read(&checks.top.join(&file)));
@@ -173,19 +175,15 @@ fn verdicts(checks: &mut Checks) {
             &shown.lines.to_string(),
         );
         checks.same(&format!("{name} says"), says, &texts(&shown, "says"));
-        let mark = if says == fails {
+        let mark = if says == FAILS {
             "mark fail"
         } else {
             "mark pass"
         };
-        let marks = shown
-            .all
-            .iter()
-            .filter(|one| one.get("class") == mark)
-            .count();
-        let all = shown.all.iter().filter(|one| one.is("mark")).count();
-        checks.same(&format!("mark of {name}"), "1 1", &format!("{marks} {all}"));
-        for (role, wanted) in [("bad", bad), ("reached", reached), ("cut-off", cut)] {
+        let marks = shown.all.iter().filter(|one| one.is("mark"));
+        let marks: Vec<&str> = marks.map(|one| one.get("class")).collect();
+        checks.same(&format!("mark of {name}"), mark, &marks.join("|"));
+        for (role, wanted) in ["bad", "reached", "cut-off"].into_iter().zip(sets) {
             checks.same(
                 &format!("{role} of {name}"),
                 wanted,
@@ -199,52 +197,39 @@ fn verdicts(checks: &mut Checks) {
 /// Labels come after all lines; the heading is above the terminals and the legend below; the source
 /// is named beside its terminal.
 fn nothing_covers(checks: &mut Checks, name: &str, shown: &Shown) {
-    let last_line = shown
-        .all
-        .iter()
-        .rposition(|one| one.group.is_none() && (one.is("link") || one.is("head")));
+    let is_arrow = |one: &Element| one.group.is_none() && (one.is("link") || one.is("head"));
+    let last_line = shown.all.iter().rposition(is_arrow);
     let first_label = shown.all.iter().position(|one| one.is("label"));
     checks.holds(
         &format!("{name}: labels over lines"),
         last_line < first_label,
     );
-    let high = shown
-        .at
-        .values()
-        .map(|spot| spot.1)
-        .fold(f64::MAX, f64::min);
-    let low = shown
-        .at
-        .values()
-        .map(|spot| spot.1)
-        .fold(f64::MIN, f64::max);
+    let heights = || shown.at.values().map(|spot| spot.1);
+    let (high, low) = (
+        heights().fold(f64::MAX, f64::min),
+        heights().fold(f64::MIN, f64::max),
+    );
     let heading = shown
         .all
         .iter()
         .filter(|one| one.is("facts") || one.is("why"));
     let heading = heading.map(|one| one.number("y")).fold(0.0, f64::max);
-    checks.holds(
-        &format!("{name}: heading above"),
-        heading > 0.0 && heading < high - 30.0,
-    );
+    let above = heading > 0.0 && heading < high - 30.0;
+    checks.holds(&format!("{name}: heading above"), above);
     let keys = shown.all.iter().filter(|one| one.is("key"));
-    let key = |one: &Element| {
-        one.get("transform")
-            .trim_end_matches(')')
-            .rsplit(' ')
-            .next()
-            .and_then(|y| y.parse::<f64>().ok())
-    };
-    let legend = keys.filter_map(key).fold(f64::MAX, f64::min);
-    checks.holds(
-        &format!("{name}: legend below"),
-        legend > low + 30.0 && legend < f64::MAX,
-    );
+    let legend = keys.filter_map(height_of_key).fold(f64::MAX, f64::min);
+    let below = legend > low + 30.0 && legend < f64::MAX;
+    checks.holds(&format!("{name}: legend below"), below);
     checks.same(
         &format!("{name}: the source"),
         "source",
         &texts(shown, "beside"),
     );
+}
+
+fn height_of_key(key: &Element) -> Option<f64> {
+    let place = key.get("transform").trim_end_matches(')');
+    place.rsplit(' ').next()?.parse().ok()
 }
 
 /// All 380 links: each line thin and pale, and every terminal's outline not.

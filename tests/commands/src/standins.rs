@@ -50,49 +50,40 @@ pub struct Copy {
     tools: PathBuf,
 }
 
+/// Each in a folder of its own making; 'other' is under no program.
+const SOURCES: [&str; 9] = [
+    "crates/low/src/lib.rt",
+    "crates/low/specs/Lib.antt",
+    "crates/low/proofs/f/Proof.antt",
+    "crates/verdict/src/main.rt",
+    "crates/run/src/main.rt",
+    "crates/rewrite/src/main.rt",
+    "crates/other/src/lib.rt",
+    "tools/site/src/main.rs",
+    "tools/site/Cargo.toml",
+];
+
 impl Copy {
     /// The script's folder has a blank in its name.
     pub fn new(checks: &Checks) -> Copy {
         let place = checks.room.join("a site");
         let tools = checks.room.join("tools");
-        for folder in [
-            "crates/low/src",
-            "crates/low/specs",
-            "crates/low/proofs/f",
-            "crates/verdict/src",
-            "crates/run/src",
-            "crates/rewrite/src",
-            "crates/other/src",
-            "tools/site/src",
-        ] {
-            fs::create_dir_all(place.join(folder)).expect("a folder");
-        }
         fs::create_dir_all(&tools).expect("a folder");
+        for source in SOURCES {
+            let source = place.join(source);
+            let folder = source.parent().expect("a folder");
+            fs::create_dir_all(folder).expect("a folder");
+            fs::write(source, "").expect("a source");
+        }
         fs::copy(checks.top.join("hulmayek"), place.join("hulmayek")).expect("the script");
         let copy = Copy { place, tools };
         copy.write("crates.txt", CRATES);
-        for file in [
-            "crates/low/src/lib.rt",
-            "crates/low/specs/Lib.antt",
-            "crates/low/proofs/f/Proof.antt",
-            "crates/verdict/src/main.rt",
-            "crates/run/src/main.rt",
-            "crates/rewrite/src/main.rt",
-            "crates/other/src/lib.rt",
-            "tools/site/src/main.rs",
-            "tools/site/Cargo.toml",
-        ] {
-            copy.write(file, "");
-        }
+        let path = std::env::var("PATH").unwrap_or_default();
         for tool in TOOLS {
-            let path = std::env::var("PATH").unwrap_or_default();
             let mut folders = path.split(':').map(|folder| Path::new(folder).join(tool));
             let found = folders.find(|path| path.is_file());
-            symlink(
-                found.unwrap_or_else(|| panic!("no {tool}")),
-                copy.tools.join(tool),
-            )
-            .expect("a link");
+            let found = found.unwrap_or_else(|| panic!("no {tool}"));
+            symlink(found, copy.tools.join(tool)).expect("a link");
         }
         copy
     }

@@ -5,7 +5,6 @@ use crate::checks::{lines, Checks};
 
 const HEAD: &str = "terminals 4\nsource 0\nbound 1\n";
 const RUN: &str = "terminals 4\nsource 0\nbound 1\n0 > 1 2\n1 > 3\n2 > 3\nbad 1\nvalue 7\n";
-const UNKNOWN: &str = "expected 'terminals', 'source', 'bound', a link 'A > B' or 'A - B', or a word of './hulmayek help text', found";
 
 pub fn check(checks: &mut Checks) {
     same_plan(checks);
@@ -43,181 +42,190 @@ fn same_plan(checks: &mut Checks) {
     checks.ends("each hears the other", &done, 0, &wanted, "");
 }
 
-/// This text is no plan: the tool's own words, on the text's own line.
+/// Texts that are no plan, after the head, and the tool's own words on the text's own line.
+const WRONG_AFTER_HEAD: [(&str, &str); 25] = [
+    (
+        "source 1",
+        "line 4: expected 'source' once, and line 2 has it",
+    ),
+    (
+        "0 >",
+        "line 4: expected a terminal after '>', found nothing",
+    ),
+    (
+        "0 -",
+        "line 4: expected a terminal after '-', found nothing",
+    ),
+    (
+        "> 1",
+        "line 4: expected one terminal before '>', found nothing",
+    ),
+    (
+        "0 1 > 2",
+        "line 4: expected one terminal before '>', found '0 1'",
+    ),
+    (
+        "0 > 1 > 2",
+        "line 4: expected a terminal after '>', found '>'",
+    ),
+    (
+        "0 - 1 > 2",
+        "line 4: expected a terminal after '-', found '>'",
+    ),
+    (
+        "# a note\n0 > 1 x",
+        "line 5: expected a terminal after '>', found 'x'",
+    ),
+    (
+        "name 4 \"gate\"",
+        "line 4: 'name 4', and the terminals are 0 to 3",
+    ),
+    (
+        "name 1 gate",
+        "line 4: expected a name in quotes, as \"east gate\", found 'gate'",
+    ),
+    (
+        "name 1 \"a\"b\"",
+        "line 4: expected a name without quotes and control characters in it",
+    ),
+    ("name 1 \" \"", "line 4: expected a name in the quotes"),
+    (
+        "name 1 \"a\"\nname 1 \"b\"",
+        "line 5: expected one name of 1",
+    ),
+    ("site \"a\"\nsite \"b\"", "line 5: expected 'site' once"),
+    ("at 1 2", "line 4: expected 'at TERMINAL ACROSS DOWN'"),
+    ("at 9 2 3", "line 4: 'at 9', and the terminals are 0 to 3"),
+    (
+        "at 1 2 nan",
+        "line 4: expected a number for the place, found 'nan'",
+    ),
+    ("at 1 2 3\nat 1 4 5", "line 5: expected one place of 1"),
+    ("at 1 2 3\nat 2 2.0 3", "line 5: 1 stands at 2.0 3 already"),
+    (
+        "bad",
+        "line 4: expected terminals or 'none' after 'bad', found nothing",
+    ),
+    (
+        "bad 1\nbad 2",
+        "line 5: expected 'bad' once, and line 4 has it",
+    ),
+    (
+        "bad 1",
+        "end of the file: expected 'value NUMBER', since it has a run",
+    ),
+    (
+        "value x",
+        "line 4: expected one layout after 'value', found 'x'",
+    ),
+    (
+        "round 2: 1 says 9",
+        "line 4: expected 'round NUMBER: TERMINAL says LAYOUT to TERMINAL'",
+    ),
+    (
+        "round 2: 1 says 9 to",
+        "line 4: expected a terminal after 'to', found nothing",
+    ),
+];
+
+/// The same of whole texts.
+const WRONG: [(&str, &str); 8] = [
+    ("terminal 4", "line 1: expected 'terminals', 'source', 'bound', a link 'A > B' or 'A - B', or a word of './hulmayek help text', found 'terminal 4'"),
+    (
+        "terminals 4\nsource",
+        "line 2: expected one number after 'source', found nothing",
+    ),
+    (
+        "terminals 4 5",
+        "line 1: expected one number after 'terminals', found '4 5'",
+    ),
+    (
+        "terminals 4\nsource 0\nbound -1",
+        "line 3: expected one number after 'bound', found '-1'",
+    ),
+    (
+        "terminals 4\nsource 0\n0 > 1",
+        "line 3: expected 'bound NUMBER' before the first link",
+    ),
+    (
+        "terminals 4\nsource 0\nname 1 \"a\"",
+        "line 3: expected 'bound NUMBER' before 'name'",
+    ),
+    (
+        "# nothing",
+        "end of the file: expected 'terminals NUMBER'",
+    ),
+    (
+        "source 0\nterminals 4",
+        "end of the file: expected 'bound NUMBER'",
+    ),
+];
+
 fn wrong_texts(checks: &mut Checks) {
-    let after_head = [
-        (
-            "source 1",
-            "line 4: expected 'source' once, and line 2 has it",
-        ),
-        (
-            "0 >",
-            "line 4: expected a terminal after '>', found nothing",
-        ),
-        (
-            "0 -",
-            "line 4: expected a terminal after '-', found nothing",
-        ),
-        (
-            "> 1",
-            "line 4: expected one terminal before '>', found nothing",
-        ),
-        (
-            "0 1 > 2",
-            "line 4: expected one terminal before '>', found '0 1'",
-        ),
-        (
-            "0 > 1 > 2",
-            "line 4: expected a terminal after '>', found '>'",
-        ),
-        (
-            "0 - 1 > 2",
-            "line 4: expected a terminal after '-', found '>'",
-        ),
-        (
-            "# a note\n0 > 1 x",
-            "line 5: expected a terminal after '>', found 'x'",
-        ),
-        (
-            "name 4 \"gate\"",
-            "line 4: 'name 4', and the terminals are 0 to 3",
-        ),
-        (
-            "name 1 gate",
-            "line 4: expected a name in quotes, as \"east gate\", found 'gate'",
-        ),
-        (
-            "name 1 \"a\"b\"",
-            "line 4: expected a name without quotes and control characters in it",
-        ),
-        ("name 1 \" \"", "line 4: expected a name in the quotes"),
-        (
-            "name 1 \"a\"\nname 1 \"b\"",
-            "line 5: expected one name of 1",
-        ),
-        ("site \"a\"\nsite \"b\"", "line 5: expected 'site' once"),
-        ("at 1 2", "line 4: expected 'at TERMINAL ACROSS DOWN'"),
-        ("at 9 2 3", "line 4: 'at 9', and the terminals are 0 to 3"),
-        (
-            "at 1 2 nan",
-            "line 4: expected a number for the place, found 'nan'",
-        ),
-        ("at 1 2 3\nat 1 4 5", "line 5: expected one place of 1"),
-        ("at 1 2 3\nat 2 2.0 3", "line 5: 1 stands at 2.0 3 already"),
-        (
-            "bad",
-            "line 4: expected terminals or 'none' after 'bad', found nothing",
-        ),
-        (
-            "bad 1\nbad 2",
-            "line 5: expected 'bad' once, and line 4 has it",
-        ),
-        (
-            "bad 1",
-            "end of the file: expected 'value NUMBER', since it has a run",
-        ),
-        (
-            "value x",
-            "line 4: expected one layout after 'value', found 'x'",
-        ),
-        (
-            "round 2: 1 says 9",
-            "line 4: expected 'round NUMBER: TERMINAL says LAYOUT to TERMINAL'",
-        ),
-        (
-            "round 2: 1 says 9 to",
-            "line 4: expected a terminal after 'to', found nothing",
-        ),
-    ];
-    let whole = [
-        ("terminal 4", format!("line 1: {UNKNOWN} 'terminal 4'")),
-        (
-            "terminals 4\nsource",
-            "line 2: expected one number after 'source', found nothing".into(),
-        ),
-        (
-            "terminals 4 5",
-            "line 1: expected one number after 'terminals', found '4 5'".into(),
-        ),
-        (
-            "terminals 4\nsource 0\nbound -1",
-            "line 3: expected one number after 'bound', found '-1'".into(),
-        ),
-        (
-            "terminals 4\nsource 0\n0 > 1",
-            "line 3: expected 'bound NUMBER' before the first link".into(),
-        ),
-        (
-            "terminals 4\nsource 0\nname 1 \"a\"",
-            "line 3: expected 'bound NUMBER' before 'name'".into(),
-        ),
-        (
-            "# nothing",
-            "end of the file: expected 'terminals NUMBER'".into(),
-        ),
-        (
-            "source 0\nterminals 4",
-            "end of the file: expected 'bound NUMBER'".into(),
-        ),
-    ];
-    let after_head = after_head.map(|(text, why)| (format!("{HEAD}{text}\n"), why.to_string()));
-    let whole = whole.map(|(text, why)| (format!("{text}\n"), why));
+    let after_head = WRONG_AFTER_HEAD.map(|(text, why)| (format!("{HEAD}{text}\n"), why));
+    let whole = WRONG.map(|(text, why)| (format!("{text}\n"), why));
     for (text, why) in after_head.into_iter().chain(whole) {
         for word in ["plan", "verdict"] {
             let done = checks.call_with(&[word], text.as_bytes());
-            checks.tells(&format!("{word} of {text:?}"), &done, 1, &why);
+            checks.tells(&format!("{word} of {text:?}"), &done, 1, why);
         }
     }
 }
 
-/// The proved reader refuses; the line is the text's.
+/// What the proved reader refuses: where in the text, and why.
+const REFUSED: [(&str, &str); 5] = [
+    (
+        "# wide\nterminals 21\nsource 0\nbound 1\n0 > 1",
+        "line 2 (terminals 21): 2 to 20 terminals are allowed (cause 4)",
+    ),
+    (
+        "source 0\nbound 0\nterminals 1",
+        "line 3 (terminals 1): 2 to 20 terminals are allowed (cause 4)",
+    ),
+    (
+        "terminals 99999999999999999999\nsource 0\nbound 1",
+        "line 1 (terminals 99999999999999999999): 2 to 20 terminals are allowed (cause 4)",
+    ),
+    (
+        "source 4\nterminals 4\nbound 4\n0 > 1",
+        "line 1 (source 4): 0 to 3 are allowed for 4 terminals (cause 4)",
+    ),
+    (
+        "terminals 4\nsource 3\nbound 256",
+        "line 3 (bound 256): 0 to 3 are allowed for 4 terminals (cause 4)",
+    ),
+];
+const REFUSED_AFTER_HEAD: [(&str, &str); 6] = [
+    (
+        "0 > 1 2 1",
+        "line 4 (0 > 1): line 4 has this link already (cause 6)",
+    ),
+    (
+        "1 > 2\n\n2 > 1\n1 > 3 2\n1 > 1",
+        "line 7 (1 > 2): line 4 has this link already (cause 6)",
+    ),
+    (
+        "0 - 1\n1 > 0",
+        "line 5 (1 > 0): line 4 has this link already (cause 6)",
+    ),
+    (
+        "0 > 1 2\n2 > 3 2",
+        "line 5 (2 > 2): a link from 2 to itself joins nobody (cause 5)",
+    ),
+    (
+        "0 > 3 4 5",
+        "line 4 (0 > 4): the terminals are 0 to 3 (cause 5)",
+    ),
+    (
+        "0 > 257",
+        "line 4 (0 > 257): the terminals are 0 to 3 (cause 5)",
+    ),
+];
+
 fn refused_texts(checks: &mut Checks) {
-    let terminals = "2 to 20 terminals are allowed (cause 4)";
-    let ends = "the terminals are 0 to 3 (cause 5)";
-    let mut table = vec![
-        (
-            "# wide\nterminals 21\nsource 0\nbound 1\n0 > 1".to_string(),
-            format!("line 2 (terminals 21): {terminals}"),
-        ),
-        (
-            "source 0\nbound 0\nterminals 1".into(),
-            format!("line 3 (terminals 1): {terminals}"),
-        ),
-        (
-            "terminals 99999999999999999999\nsource 0\nbound 1".into(),
-            format!("line 1 (terminals 99999999999999999999): {terminals}"),
-        ),
-        (
-            "source 4\nterminals 4\nbound 4\n0 > 1".into(),
-            "line 1 (source 4): 0 to 3 are allowed for 4 terminals (cause 4)".into(),
-        ),
-        (
-            "terminals 4\nsource 3\nbound 256".into(),
-            "line 3 (bound 256): 0 to 3 are allowed for 4 terminals (cause 4)".into(),
-        ),
-    ];
-    let after_head = [
-        (
-            "0 > 1 2 1",
-            "line 4 (0 > 1): line 4 has this link already (cause 6)".to_string(),
-        ),
-        (
-            "1 > 2\n\n2 > 1\n1 > 3 2\n1 > 1",
-            "line 7 (1 > 2): line 4 has this link already (cause 6)".into(),
-        ),
-        (
-            "0 - 1\n1 > 0",
-            "line 5 (1 > 0): line 4 has this link already (cause 6)".into(),
-        ),
-        (
-            "0 > 1 2\n2 > 3 2",
-            "line 5 (2 > 2): a link from 2 to itself joins nobody (cause 5)".into(),
-        ),
-        ("0 > 3 4 5", format!("line 4 (0 > 4): {ends}")),
-        ("0 > 257", format!("line 4 (0 > 257): {ends}")),
-    ];
-    table.extend(after_head.map(|(text, why)| (format!("{HEAD}{text}\n"), why)));
-    for (text, why) in table {
+    let after_head = REFUSED_AFTER_HEAD.map(|(text, why)| (format!("{HEAD}{text}\n"), why));
+    let whole = REFUSED.map(|(text, why)| (text.to_string(), why));
+    for (text, why) in whole.into_iter().chain(after_head) {
         for word in ["plan", "check"] {
             let done = checks.call_with(&[word], text.as_bytes());
             checks.tells(

@@ -81,19 +81,7 @@ pub fn find(
         line,
         line_of,
     };
-    match refusal.cause {
-        2 => scene.wrong_kind(program),
-        3 => scene.wrong_order(),
-        4 => scene.out_of_range(),
-        5 => scene.wrong_link(),
-        6 => scene.second_link(),
-        7 => scene.wrong_bad_set(),
-        8 => scene.too_many_bad(),
-        9 => scene.wrong_start(),
-        10 => scene.wrong_word(),
-        11 => scene.second_word(),
-        _ => None,
-    }
+    scene.reason(program, refusal.cause)
 }
 
 fn whole_file(file: &[u8], cause: u8) -> Option<Reason> {
@@ -167,6 +155,22 @@ fn rounds(count: u8) -> String {
 }
 
 impl Scene<'_> {
+    fn reason(&self, program: &str, cause: u8) -> Option<Reason> {
+        match cause {
+            2 => self.wrong_kind(program),
+            3 => self.wrong_order(),
+            4 => self.out_of_range(),
+            5 => self.wrong_link(),
+            6 => self.second_link(),
+            7 => self.wrong_bad_set(),
+            8 => self.too_many_bad(),
+            9 => self.wrong_start(),
+            10 => self.wrong_word(),
+            11 => self.second_word(),
+            _ => None,
+        }
+    }
+
     fn wrong_kind(&self, program: &str) -> Option<Reason> {
         let kind = *self.frame.first()?;
         let Some((name, lengths, holds)) = usize::from(kind)
