@@ -302,6 +302,14 @@ fn warnings(checks: &mut Checks) {
 }
 
 fn no_utf8(checks: &mut Checks) {
+    let latin = [HEAD.as_bytes(), b"# T\xf6r\nname 1 \"T\xf6r\"\n"].concat();
+    let done = checks.call_with(&["check"], &latin);
+    let why = "line 5: expected a name in UTF-8; save the file so";
+    checks.tells("a name in Latin-1", &done, 1, why);
+    let long = format!("{TEXT}{}", "# a note of no use\n".repeat(60_000));
+    let done = checks.call_with(&["check"], long.as_bytes());
+    let why = "the text is longer than any plan with a run needs: 1 MiB is read";
+    checks.tells("a text of more than 1 MiB", &done, 1, why);
     let wide = |units: &mut dyn Iterator<Item = [u8; 2]>| units.flatten().collect::<Vec<u8>>();
     let little = wide(&mut TEXT.encode_utf16().map(u16::to_le_bytes));
     let big = wide(&mut TEXT.encode_utf16().map(u16::to_be_bytes));

@@ -62,10 +62,10 @@ pub struct Document {
 pub fn bytes_of(file: &str) -> Result<Vec<u8>, Trouble> {
     let mut bytes = Vec::new();
     let read = if file == "-" {
-        io::stdin().take(LONGEST_INPUT).read_to_end(&mut bytes)
+        io::stdin().take(LONGEST_INPUT + 1).read_to_end(&mut bytes)
     } else {
         let opened = File::open(file).map_err(|error| no_file(file, &error))?;
-        opened.take(LONGEST_INPUT).read_to_end(&mut bytes)
+        opened.take(LONGEST_INPUT + 1).read_to_end(&mut bytes)
     };
     match read {
         Ok(_) => Ok(bytes),
@@ -91,6 +91,10 @@ pub fn read(file: &str) -> Result<(Document, Vec<String>), Trouble> {
     let text = bytes.strip_prefix(BYTE_ORDER_MARK).unwrap_or(&bytes);
     if !is_text(text) {
         return Ok((of_frames(file, bytes), Vec::new()));
+    }
+    if bytes.len() as u64 > LONGEST_INPUT {
+        let why = "the text is longer than any plan with a run needs: 1 MiB is read";
+        return Err(Trouble::Refused(why.into()));
     }
     let text = String::from_utf8_lossy(text);
     let draft = text::read(&text).map_err(Trouble::Refused)?;

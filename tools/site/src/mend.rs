@@ -57,14 +57,7 @@ fn links(plan: &Plan, programs: &Programs) -> Result<String, Trouble> {
     let mut search = Search::new(programs, plan, missing(plan));
     let mends = search.fewest()?;
     let Some((first, others)) = mends.sets.split_first() else {
-        let some = search.enough()?.unwrap_or_default();
-        let more = if mends.none_of == 0 {
-            String::new()
-        } else {
-            format!("no {} is enough; ", up_to(mends.none_of))
-        };
-        let head = format!("# {more}not found within {LIMIT} calls of the verdict: the fewest. These {} are enough, and none of them can be left out:\n", some.len());
-        return Ok(head + &shown::links(&some));
+        return Ok(some_links(&mends, &search.enough()?.unwrap_or_default()));
     };
     let are = if first.len() == 1 {
         "link is"
@@ -87,11 +80,18 @@ fn links(plan: &Plan, programs: &Programs) -> Result<String, Trouble> {
     Ok(text)
 }
 
-fn up_to(links: usize) -> String {
-    match links {
-        1 => "single link".into(),
-        more => format!("set of {more} links"),
-    }
+/// Where the limit came first.
+fn some_links(mends: &Mends, some: &[Link]) -> String {
+    let settled = match mends.none_of {
+        0 => String::new(),
+        1 => "no single link is enough; ".into(),
+        more => format!("no {more} links are enough; "),
+    };
+    let head = format!(
+        "# {settled}the fewest were not found within {LIMIT} calls of the verdict. These {} are enough, and none of them can be left out:\n",
+        some.len()
+    );
+    head + &shown::links(some)
 }
 
 fn ways(mends: &Mends) -> String {

@@ -15,6 +15,8 @@ pub type Link = (u8, u8);
 
 /// Calls of the verdict for one search.
 pub const LIMIT: usize = 4000;
+/// How wide its bar of progress is.
+const BAR: usize = 30;
 
 pub struct Search<'a> {
     programs: &'a Programs,
@@ -51,10 +53,7 @@ impl<'a> Search<'a> {
 
     pub fn ask(&mut self, added: &BTreeSet<Link>) -> Result<Verdict, Trouble> {
         self.calls += 1;
-        if self.calls.is_multiple_of(20) && io::stderr().is_terminal() {
-            eprint!("\rasked {} of at most {LIMIT} times ", self.calls);
-            drop(io::stderr().flush());
-        }
+        show_progress(self.calls);
         let mut plan = self.plan.clone();
         plan.links.extend(added);
         self.programs.verdict(&plan.to_frames())
@@ -140,9 +139,20 @@ impl<'a> Search<'a> {
     }
 }
 
+/// A bar on a terminal, every so many calls.
+fn show_progress(calls: usize) {
+    if !calls.is_multiple_of(20) || !io::stderr().is_terminal() {
+        return;
+    }
+    let done = (calls * BAR / LIMIT).min(BAR);
+    let (full, rest) = ("#".repeat(done), ".".repeat(BAR - done));
+    eprint!("\r[{full}{rest}] {calls} calls of at most {LIMIT}");
+    drop(io::stderr().flush());
+}
+
 /// A line of progress must not stay beside the answer.
 pub fn clear_progress() {
     if io::stderr().is_terminal() {
-        eprint!("\r{:40}\r", "");
+        eprint!("\r{:70}\r", "");
     }
 }

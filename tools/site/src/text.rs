@@ -345,6 +345,9 @@ fn quoted(text: &str) -> Result<String, String> {
         Some(name) if name.contains(['"']) || name.contains(char::is_control) => {
             Err("expected a name without quotes and control characters in it".into())
         }
+        Some(name) if name.contains(char::REPLACEMENT_CHARACTER) => {
+            Err("expected a name in UTF-8; save the file so".into())
+        }
         Some(name) if name.trim().is_empty() => Err("expected a name in the quotes".into()),
         Some(name) if name.chars().count() > LONGEST_NAME => {
             Err(format!("expected a name of at most {LONGEST_NAME} letters"))
