@@ -83,7 +83,15 @@ fn frames_page(checks: &mut Checks) {
 }
 
 /// Calls that no file can mend.
-const WRONG: [(&[&str], &str); 9] = [
+const WRONG: [(&[&str], &str); 11] = [
+    (
+        &["mend", "--calls=x", "plans/a.txt"],
+        "'--calls=x' has no number after the '='",
+    ),
+    (
+        &["trace", "--csv=1", "plans/a.txt"],
+        "'trace' has no option '--csv=1'",
+    ),
     (
         &["judge"],
         "unknown word 'judge'; './hulmayek help' lists the words",

@@ -164,6 +164,9 @@ fn beyond_the_limit(checks: &mut Checks) {
     let wanted = "# no 2 links are enough; the fewest were not found within 4000 calls of the verdict. These 19 are enough,";
     let said = head.starts_with(wanted);
     checks.holds(&format!("the limit is said: {head}"), said);
+    let fewer = checks.call_with(&["mend", "--calls=3"], bare.as_bytes());
+    let wanted = "# the fewest were not found within 3 calls of the verdict. These 19 are enough, and none of them can be left out:";
+    checks.has_line("another limit", &fewer.out, wanted);
     let mended = bare.to_string() + &done.out;
     let passes = checks.call_with(&["check"], mended.as_bytes());
     checks.same("and what is named is enough", "pass\n", &passes.out);

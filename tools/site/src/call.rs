@@ -3,17 +3,19 @@
 use crate::ask::Programs;
 use crate::document::{self, Document};
 use crate::frames::{self, Answer};
+use crate::search::LIMIT;
 use crate::{draw, mend, shown, silence, tell, trace, words, Told, Trouble};
 
 pub struct Call {
     word: String,
-    option: bool,
+    /// Given, and its number where it has one.
+    option: Option<usize>,
     files: Vec<String>,
     terminals: Vec<String>,
 }
 
-/// The words' options.
-const OPTIONS: [(&str, &str); 2] = [("draw", "--mend"), ("trace", "--csv")];
+/// The words' options; the last one has a number after it.
+const OPTIONS: [(&str, &str); 3] = [("draw", "--mend"), ("trace", "--csv"), ("mend", "--calls=")];
 const MANY_FILES: [&str; 3] = ["verdict", "check", "run"];
 
 const PASSES: u8 = 0;
@@ -28,16 +30,27 @@ fn plainly(text: String) -> Told {
     }
 }
 
+/// The number of an option that has one, else 0; a wrong call where the word has no such option.
+fn number_of(word: &str, given: &str) -> Result<usize, Trouble> {
+    let known = OPTIONS.iter().find(|(of, _)| *of == word);
+    let rest = known.and_then(|(_, option)| given.strip_prefix(option));
+    let takes_number = known.is_some_and(|(_, option)| option.ends_with('='));
+    match (rest, takes_number) {
+        (Some(""), false) => Ok(0),
+        (Some(number), true) => number
+            .parse()
+            .map_err(|_| Trouble::Broken(format!("'{given}' has no number after the '='"))),
+        _ => Err(Trouble::Broken(format!("'{word}' has no option '{given}'"))),
+    }
+}
+
 impl Call {
     pub fn read(word: &str, rest: &[String]) -> Result<Call, Trouble> {
-        let known = OPTIONS.iter().find(|(of, _)| *of == word);
         let (options, mut files): (Vec<String>, Vec<String>) =
             rest.iter().cloned().partition(|one| one.starts_with("--"));
-        for option in &options {
-            if known.map(|(_, option)| option) != Some(&option.as_str()) {
-                let why = format!("'{word}' has no option '{option}'");
-                return Err(Trouble::Broken(why));
-            }
+        let mut option = None;
+        for given in &options {
+            option = Some(number_of(word, given)?);
         }
         let mut terminals = Vec::new();
         if word == "with-bad" {
@@ -56,7 +69,7 @@ impl Call {
         }
         Ok(Call {
             word: word.to_string(),
-            option: !options.is_empty(),
+            option,
             files,
             terminals,
         })
@@ -87,9 +100,9 @@ impl Call {
             "check" => checked(document, programs),
             "explain" => explained(document, programs),
             "show" => show(document, programs).map(plainly),
-            "draw" => draw::draw(document, self.option, programs).map(plainly),
-            "trace" => trace::trace(document, self.option, programs).map(plainly),
-            "mend" => mend::mend(document, programs).map(plainly),
+            "draw" => draw::draw(document, self.option.is_some(), programs).map(plainly),
+            "trace" => trace::trace(document, self.option.is_some(), programs).map(plainly),
+            "mend" => mend::mend(document, self.option.unwrap_or(LIMIT), programs).map(plainly),
             "with-bad" => silence::with_bad(document, &self.terminals, programs),
             other => Err(Trouble::Broken(format!("site has no word '{other}'"))),
         }

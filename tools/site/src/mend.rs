@@ -4,7 +4,7 @@
 use crate::ask::Programs;
 use crate::document::Document;
 use crate::frames::{Answer, Plan};
-use crate::search::{clear_progress, Link, Mends, Search, LIMIT};
+use crate::search::{clear_progress, Link, Mends, Search};
 use crate::shown;
 use crate::Trouble;
 use std::collections::BTreeSet;
@@ -13,12 +13,13 @@ const MOST_TERMINALS: u8 = 20;
 /// How many further ways are listed.
 const WAYS: usize = 20;
 
-pub fn mend(document: &Document, programs: &Programs) -> Result<String, Trouble> {
+/// Within so many calls of the verdict for links, and as many for a repeater.
+pub fn mend(document: &Document, limit: usize, programs: &Programs) -> Result<String, Trouble> {
     let plan = accepted(document, programs)?;
     if !programs.verdict(&plan.to_frames())?.fails {
         return Ok("# this plan passes: nothing to mend\n".into());
     }
-    let text = links(&plan, programs)? + &repeater(&plan, programs)?;
+    let text = links(&plan, limit, programs)? + &repeater(&plan, limit, programs)?;
     clear_progress();
     Ok(text)
 }
@@ -53,11 +54,13 @@ fn missing(plan: &Plan) -> BTreeSet<Link> {
         .collect()
 }
 
-fn links(plan: &Plan, programs: &Programs) -> Result<String, Trouble> {
+fn links(plan: &Plan, limit: usize, programs: &Programs) -> Result<String, Trouble> {
     let mut search = Search::new(programs, plan, missing(plan));
+    search.limit = limit;
     let mends = search.fewest()?;
     let Some((first, others)) = mends.sets.split_first() else {
-        return Ok(some_links(&mends, &search.enough()?.unwrap_or_default()));
+        let some = search.enough()?.unwrap_or_default();
+        return Ok(some_links(&mends, limit, &some));
     };
     let are = if first.len() == 1 {
         "link is"
@@ -81,14 +84,14 @@ fn links(plan: &Plan, programs: &Programs) -> Result<String, Trouble> {
 }
 
 /// Where the limit came first.
-fn some_links(mends: &Mends, some: &[Link]) -> String {
+fn some_links(mends: &Mends, limit: usize, some: &[Link]) -> String {
     let settled = match mends.none_of {
         0 => String::new(),
         1 => "no single link is enough; ".into(),
         more => format!("no {more} links are enough; "),
     };
     let head = format!(
-        "# {settled}the fewest were not found within {LIMIT} calls of the verdict. These {} are enough, and none of them can be left out:\n",
+        "# {settled}the fewest were not found within {limit} calls of the verdict. These {} are enough, and none of them can be left out:\n",
         some.len()
     );
     head + &shown::links(some)
@@ -111,7 +114,7 @@ fn commas(links: &[Link]) -> String {
 }
 
 /// One more terminal, and links from and to it alone.
-fn repeater(plan: &Plan, programs: &Programs) -> Result<String, Trouble> {
+fn repeater(plan: &Plan, limit: usize, programs: &Programs) -> Result<String, Trouble> {
     let own = plan.terminals;
     if own == MOST_TERMINALS {
         return Ok("# a repeater would be terminal 20, and 0 to 19 are the most\n".into());
@@ -122,6 +125,7 @@ fn repeater(plan: &Plan, programs: &Programs) -> Result<String, Trouble> {
     };
     let pool = (0..own).flat_map(|other| [(other, own), (own, other)]);
     let mut search = Search::new(programs, &plan, pool.collect());
+    search.limit = limit;
     let Some(some) = search.enough()? else {
         return Ok("# no repeater is enough, wherever it stands\n".into());
     };

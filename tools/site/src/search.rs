@@ -13,7 +13,7 @@ use std::io::{self, IsTerminal, Write};
 
 pub type Link = (u8, u8);
 
-/// Calls of the verdict for one search.
+/// Calls of the verdict for one search, if no other number is asked for.
 pub const LIMIT: usize = 4000;
 /// How wide its bar of progress is.
 const BAR: usize = 30;
@@ -24,6 +24,7 @@ pub struct Search<'a> {
     /// The links that may be added.
     pool: BTreeSet<Link>,
     pub calls: usize,
+    pub limit: usize,
 }
 
 /// A plan that still fails: the links added so far, and the verdict on it.
@@ -48,12 +49,13 @@ impl<'a> Search<'a> {
             plan,
             pool,
             calls: 0,
+            limit: LIMIT,
         }
     }
 
     pub fn ask(&mut self, added: &BTreeSet<Link>) -> Result<Verdict, Trouble> {
         self.calls += 1;
-        show_progress(self.calls);
+        show_progress(self.calls, self.limit);
         let mut plan = self.plan.clone();
         plan.links.extend(added);
         self.programs.verdict(&plan.to_frames())
@@ -91,7 +93,7 @@ impl<'a> Search<'a> {
                 if !added.insert(link) || !seen.insert(added.clone()) {
                     continue;
                 }
-                if self.calls >= LIMIT {
+                if self.calls >= self.limit {
                     mends.complete = false;
                     return Ok(next);
                 }
@@ -140,13 +142,13 @@ impl<'a> Search<'a> {
 }
 
 /// A bar on a terminal, every so many calls.
-fn show_progress(calls: usize) {
+fn show_progress(calls: usize, limit: usize) {
     if !calls.is_multiple_of(20) || !io::stderr().is_terminal() {
         return;
     }
-    let done = (calls * BAR / LIMIT).min(BAR);
+    let done = (calls * BAR / limit.max(1)).min(BAR);
     let (full, rest) = ("#".repeat(done), ".".repeat(BAR - done));
-    eprint!("\r[{full}{rest}] {calls} calls of at most {LIMIT}");
+    eprint!("\r[{full}{rest}] {calls} calls of at most {limit}");
     drop(io::stderr().flush());
 }
 
