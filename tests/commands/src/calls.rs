@@ -157,12 +157,14 @@ fn wrong_files(checks: &mut Checks, word: &str) {
     }
 }
 
-/// A full disk, and an output that is closed: never status 0, and one line of why.
+/// A full disk, an output that is closed, a name that is no text: never status 0, and one line of why.
 fn unwritable_output(checks: &mut Checks) {
     let full = "the answer could not be written: No space left on device (os error 28)";
     let closed = "standard output is closed, so there is nowhere to print an answer";
     let page = "the help page 'main' could not be printed";
+    let bytes = "\"a\\xFFb\" is not UTF-8, as names must be";
     let table = [
+        ("check $'a\\xffb'", bytes),
         ("verdict plans/h.hex >/dev/full", full),
         ("explain plans/h.txt >/dev/full", full),
         ("check plans/a.txt >/dev/full", full),

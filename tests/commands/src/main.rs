@@ -7,6 +7,7 @@ mod checks;
 mod mends;
 mod pictures;
 mod plans;
+mod readme;
 mod reasons;
 mod runs;
 mod standins;
@@ -18,7 +19,7 @@ use std::process::ExitCode;
 
 type Topic = (&'static str, fn(&mut Checks));
 
-const TOPICS: [Topic; 9] = [
+const TOPICS: [Topic; 10] = [
     ("answers", answers::check),
     ("calls", calls::check),
     ("plans", plans::check),
@@ -27,6 +28,7 @@ const TOPICS: [Topic; 9] = [
     ("runs", runs::check),
     ("mends", mends::check),
     ("pictures", pictures::check),
+    ("readme", readme::check),
     ("builds", builds::check),
 ];
 

@@ -21,6 +21,7 @@ mod words;
 
 use ask::Programs;
 use call::Call;
+use std::ffi::OsString;
 use std::io::{self, Write};
 use std::process::ExitCode;
 
@@ -54,7 +55,11 @@ pub struct Told {
 }
 
 fn main() -> ExitCode {
-    let arguments: Vec<String> = std::env::args().skip(1).collect();
+    let arguments = std::env::args_os().skip(1).map(OsString::into_string);
+    let arguments: Vec<String> = match arguments.collect() {
+        Ok(arguments) => arguments,
+        Err(other) => return told(&format!("{other:?} is not UTF-8, as names must be"), 2),
+    };
     let [root, word, rest @ ..] = arguments.as_slice() else {
         return told("usage: site ROOT WORD ARGUMENTS", 2);
     };

@@ -234,7 +234,10 @@ impl Scene<'_> {
     }
 
     fn terminals(&self) -> String {
-        format!("the terminals are 0 to {}", self.plan.terminals - 1)
+        format!(
+            "the terminals are 0 to {}",
+            self.plan.terminals.saturating_sub(1)
+        )
     }
 
     fn wrong_link(&self) -> Option<Reason> {

@@ -255,9 +255,10 @@ fn key(y: f64, sample: &str, words: &str) -> String {
     )
 }
 
-/// Names may have any letter.
+/// Names may have any letter, and file names any character.
 fn escaped(text: &str) -> String {
-    text.replace('&', "&amp;")
+    text.replace(char::is_control, " ")
+        .replace('&', "&amp;")
         .replace('<', "&lt;")
         .replace('>', "&gt;")
 }
