@@ -21,7 +21,7 @@ fn help(checks: &mut Checks) {
     let page = checks.call(&["help"]);
     checks.same("help: status", "0", &page.status.to_string());
     checks.holds("help: at most 24 lines", page.out.lines().count() <= 24);
-    for words in [["--help"], ["-h"]] {
+    for words in [vec!["--help"], vec!["-h"], vec!["help", "--help"]] {
         let same = checks.call(&words);
         checks.ends(&format!("{words:?}"), &same, 0, &page.out, "");
     }

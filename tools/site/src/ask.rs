@@ -1,7 +1,7 @@
 //! The proved programs, as the script has built them.
 
 use crate::document::Document;
-use crate::frames::{self, Answer, State, Verdict};
+use crate::frames::{self, Answer, Plan, State, Verdict};
 use crate::Trouble;
 use std::io::Write;
 use std::path::{Path, PathBuf};
@@ -51,6 +51,15 @@ impl Programs {
             Answer::Verdict(verdict) => Ok(verdict),
             Answer::Refused(refusal) => Err(document.refused("verdict", &refusal)),
             _ => Err(Trouble::Broken("'verdict' gave no verdict".into())),
+        }
+    }
+
+    /// A document's plan, once the program that reads all of it has accepted it.
+    pub fn accepted(&self, document: &Document) -> Result<Plan, Trouble> {
+        let program = if document.is_run() { "run" } else { "rewrite" };
+        match self.ask(program, document.frames())?.1 {
+            Answer::Refused(refusal) => Err(document.refused(program, &refusal)),
+            _ => Ok(document.plan()),
         }
     }
 

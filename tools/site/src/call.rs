@@ -188,23 +188,14 @@ fn explained(document: &Document, programs: &Programs) -> Result<Told, Trouble> 
     })
 }
 
-/// The proved reader and writer put the plan's frames in order first.
+/// The proved writer puts the plan's links in order.
 fn show(document: &Document, programs: &Programs) -> Result<String, Trouble> {
-    let mut run = String::new();
-    let mut plan = document.plan_frames().to_vec();
+    let plan = programs.accepted(document)?;
+    let (printed, _) = programs.ask("rewrite", plan.to_frames().as_bytes())?;
+    let plan = frames::plan(printed.as_bytes());
+    let mut text = shown::plan(&plan, &document.extras);
     if document.is_run() {
-        if let (_, Answer::Refused(refusal)) = programs.ask("run", document.frames())? {
-            return Err(document.refused("run", &refusal));
-        }
-        run = shown::run(&words::run_of(document));
-        plan = document.plan().to_frames().into_bytes();
+        text += &shown::run(&words::run_of(document));
     }
-    match programs.ask("rewrite", &plan)? {
-        (printed, Answer::Plan) => {
-            let plan = frames::plan(printed.as_bytes());
-            Ok(shown::plan(&plan, &document.extras) + &run)
-        }
-        (_, Answer::Refused(refusal)) => Err(document.refused("rewrite", &refusal)),
-        _ => Err(Trouble::Broken("'rewrite' gave no plan".into())),
-    }
+    Ok(text)
 }

@@ -3,7 +3,7 @@
 use crate::ask::Programs;
 use crate::document::{Document, Extras};
 use crate::frames::{Plan, State, Verdict};
-use crate::mend::{accepted, first_way};
+use crate::mend::first_way;
 use crate::search::Link;
 use crate::shapes::Role;
 use crate::sheet::{Sheet, Told};
@@ -12,7 +12,7 @@ use crate::Trouble;
 use std::collections::BTreeMap;
 
 pub fn draw(document: &Document, mended: bool, programs: &Programs) -> Result<String, Trouble> {
-    let plan = accepted(document, programs)?;
+    let plan = programs.accepted(document)?;
     if document.is_run() && !mended {
         let frames = String::from_utf8_lossy(document.frames());
         let told = of_run(document, &programs.states(&frames)?);

@@ -4,10 +4,12 @@
 
 mod ask;
 mod call;
+mod digits;
 mod document;
 mod draw;
 mod frames;
 mod mend;
+mod numbers;
 mod places;
 mod reason;
 mod search;

@@ -3,7 +3,7 @@
 
 use crate::ask::Programs;
 use crate::document::Document;
-use crate::frames::{Answer, Plan};
+use crate::frames::Plan;
 use crate::search::{clear_progress, Link, Mends, Search};
 use crate::shown;
 use crate::Trouble;
@@ -15,22 +15,13 @@ const WAYS: usize = 20;
 
 /// Within so many calls of the verdict for links, and as many for a repeater.
 pub fn mend(document: &Document, limit: usize, programs: &Programs) -> Result<String, Trouble> {
-    let plan = accepted(document, programs)?;
+    let plan = programs.accepted(document)?;
     if !programs.verdict(&plan.to_frames())?.fails {
         return Ok("# this plan passes: nothing to mend\n".into());
     }
     let text = links(&plan, limit, programs)? + &repeater(&plan, limit, programs)?;
     clear_progress();
     Ok(text)
-}
-
-/// The plan, once a proved program has accepted its file.
-pub fn accepted(document: &Document, programs: &Programs) -> Result<Plan, Trouble> {
-    let program = if document.is_run() { "run" } else { "rewrite" };
-    match programs.ask(program, document.frames())?.1 {
-        Answer::Refused(refusal) => Err(document.refused(program, &refusal)),
-        _ => Ok(document.plan()),
-    }
 }
 
 /// The links of the first way that is found; empty for a plan that passes.

@@ -3,8 +3,8 @@
 
 use crate::document::Extras;
 use crate::frames::Plan;
+use crate::numbers::measure;
 use crate::shapes::Point;
-use crate::text::measure;
 use std::f64::consts::TAU;
 
 /// The box that places are fitted into.

@@ -1,6 +1,7 @@
 //! Which of a cause's alternatives it was. The cause and the line are the proved program's; this
 //! looks at the file once more, and says nothing where it cannot tell.
 
+use crate::digits::bad_line;
 use crate::frames::{self, Plan, Refusal, Run, Word};
 
 const LONGEST_FILE: usize = 24_576;
@@ -31,7 +32,7 @@ impl Reason {
     }
 }
 
-fn because(subject: impl Into<String>, rule: impl Into<String>) -> Option<Reason> {
+pub fn because(subject: impl Into<String>, rule: impl Into<String>) -> Option<Reason> {
     Some(Reason {
         field: 0,
         subject: subject.into(),
@@ -39,7 +40,7 @@ fn because(subject: impl Into<String>, rule: impl Into<String>) -> Option<Reason
     })
 }
 
-fn plainly(rule: impl Into<String>) -> Option<Reason> {
+pub fn plainly(rule: impl Into<String>) -> Option<Reason> {
     because("", rule)
 }
 
@@ -97,45 +98,6 @@ fn whole_file(file: &[u8], cause: u8) -> Option<Reason> {
         3 if !has(3) => plainly("a run needs its bad set, a line 03, and there is none"),
         3 if !has(4) => plainly("a run needs its value and rounds, a line 04, and there is none"),
         _ => None,
-    }
-}
-
-/// A line that is no digits: what stands in the way first.
-fn bad_line(line: &[u8]) -> Option<Reason> {
-    let Some(digits) = line.strip_suffix(b"\n") else {
-        return match first_foreign(line) {
-            Some(reason) => Some(reason),
-            None => plainly("the last line has no line end"),
-        };
-    };
-    match first_foreign(digits) {
-        Some(reason) => Some(reason),
-        None if digits.is_empty() => plainly("an empty line: every line has a frame"),
-        None if digits.len() % 2 == 1 => {
-            because(format!("{} digits", digits.len()), "a byte has two")
-        }
-        None => None,
-    }
-}
-
-fn first_foreign(digits: &[u8]) -> Option<Reason> {
-    if digits.starts_with(b"\xef\xbb\xbf") {
-        return because("a byte order mark", "frames start with a digit");
-    }
-    let known = |byte: &u8| matches!(byte, b'0'..=b'9' | b'a'..=b'f');
-    let foreign = *digits.iter().find(|byte| !known(byte))?;
-    match foreign {
-        b'A'..=b'F' => because(
-            format!("capital {}", char::from(foreign)),
-            "small digits only",
-        ),
-        b'\r' => because(
-            "a carriage return",
-            "a frame's line ends with byte 10 alone",
-        ),
-        b' ' | b'\t' => because("a blank", "digits 0-9a-f only"),
-        b'#' => because("'#'", "frames have no comments, the text form has"),
-        other => because(format!("'{}'", other.escape_ascii()), "digits 0-9a-f only"),
     }
 }
 

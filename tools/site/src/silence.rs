@@ -4,7 +4,6 @@
 use crate::ask::Programs;
 use crate::document::Document;
 use crate::frames::{self, Answer, State, MOST_ROUNDS};
-use crate::mend::accepted;
 use crate::reason::{self, with_and};
 use crate::{words, Told, Trouble};
 use std::collections::BTreeSet;
@@ -18,7 +17,7 @@ pub fn with_bad(
     programs: &Programs,
 ) -> Result<Told, Trouble> {
     let bad = numbers(terminals)?;
-    let plan = accepted(document, programs)?;
+    let plan = programs.accepted(document)?;
     let mut file = plan.to_frames();
     let set = bad.iter().fold(0, |set, one| set | 1 << one);
     file += &(frames::bad_set(set) + &frames::start(1, Some(MOST_ROUNDS)));

@@ -2,7 +2,7 @@
 
 use crate::ask::Programs;
 use crate::document::Document;
-use crate::frames::{Answer, Run, State};
+use crate::frames::{Run, State};
 use crate::words;
 use crate::Trouble;
 use std::collections::BTreeMap;
@@ -15,9 +15,7 @@ pub fn trace(document: &Document, csv: bool, programs: &Programs) -> Result<Stri
         let why = "a plan without a run: 'trace' wants 'value' (and 'bad', 'rounds', 'round') under the plan";
         return Err(Trouble::Refused(why.into()));
     }
-    if let (_, Answer::Refused(refusal)) = programs.ask("run", document.frames())? {
-        return Err(document.refused("run", &refusal));
-    }
+    programs.accepted(document)?;
     let run = words::run_of(document);
     let course = course(document, &run, programs)?;
     Ok(if csv {
