@@ -2,7 +2,7 @@
 ghost use mathlib.Core.Path.{_≡_};
 ghost use Rattle.terminal.specs.Rule.{start, sourceStart};
 ghost use Rattle.terminal.specs.Answer.{numberOf};
-ghost use Rattle.firmware.specs.Board.{stateOf, recordOf, boardOf, boardAnswer};
+ghost use Rattle.firmware.specs.Board.{stateOf, recordOf, boardOf, boardAnswer, boardSays, layoutVersion};
 use terminal::Outcome;
 use terminal::Record;
 use terminal::State;
@@ -135,4 +135,21 @@ pub extern "C" fn hulmayek_step(
         number: refused,
         after: before,
     }
+}
+
+// What the terminal says in the round after the one that its record shows: its value if it took in
+// that round, else 0. Bytes that are no state say 0.
+#[no_mangle]
+pub extern "C" fn hulmayek_says(record: BoardRecord) -> u16
+    ensures { λ r. ⌜ r ≡ boardSays «record» ⌝ }
+{
+    terminal::says(record_of(record))
+}
+
+// The version of this layout, so that a board can compare it with its header's.
+#[no_mangle]
+pub extern "C" fn hulmayek_layout() -> u32
+    ensures { λ r. ⌜ r ≡ layoutVersion ⌝ }
+{
+    1
 }
