@@ -5,13 +5,13 @@ use Rattle.sets.specs.Tests.{_and_, _or_, _implies_, pick}
 use Rattle.sets.specs.Causes.{firstCause}
 use Rattle.sets.specs.Sets.{mem, count, all, mask, within, size}
 use Rattle.quorum.specs.Quorum.{enough, inRange, hearsSoundly}
-use Rattle.terminal.specs.Rule.{firstWord, noted, hasNoted, certified, lesser, least, candidate, choice, taking, stepFrom, step}
+use Rattle.terminal.specs.Rule.{firstWord, noted, hasNoted, certified, lesser, least, candidate, choice, taking, stepFrom, step, saysIn}
 use Rattle.plan.specs.Plan.{heardBy, hears, rowSound, linksSound, causeOf}
 use Rattle.closure.specs.FaultSet.{hearsEnough, isBounded, isFaultSet}
 use Rattle.closure.specs.Closure.{joins, grow, reachedAfter, reached, cutOff}
 use Rattle.closure.specs.Verdict.{defeats, better, bestBelow, verdictOf, verdict}
 use Rattle.closure.specs.Answer.{judged, answerOf}
-use Rattle.propagation.specs.Run.{startRecord, saysIn, heardFrom, recordIn, played, sites, site}
+use Rattle.propagation.specs.Run.{startRecord, heardFrom, recordIn, played, sites, site}
 use Rattle.sets.specs.Tables.{table}
 use Rattle.propagation.specs.Drawings.{linked, rowsFrom, drawing, setOf, ofAnswer, ofState, answer, linksF, linksH, chain, rows, Row}
 

@@ -15,10 +15,10 @@ use Rattle.sets.proofs.Tables.{table-length, table-at, table-same}
 use Rattle.terminal.specs.declared.State.{State}
 use Rattle.terminal.specs.declared.State.the-variants.{Waiting, Taken}
 use Rattle.terminal.specs.declared.Record.{Record}
-use Rattle.terminal.specs.Rule.{start, sourceStart}
+use Rattle.terminal.specs.Rule.{start, sourceStart, saysIn}
 use Rattle.plan.specs.declared.Plan.{Plan}
 use Rattle.plan.specs.Plan.{hears}
-use Rattle.propagation.specs.Run.{Script, stepIn, startRecord, saysIn, heardFrom, recordIn, played, sites, site, SameWords}
+use Rattle.propagation.specs.Run.{Script, stepIn, startRecord, heardFrom, recordIn, played, sites, site, SameWords}
 
 -- what a good terminal says is the value that it has taken, in the round after
 pub says-why : (round : ℕ) (s : State) (v : ℕ) → saysIn round s ≡ v → (v ≡ 0 → ⊥) → (at : ℕ) × (s ≡ Taken at v)

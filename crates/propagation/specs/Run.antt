@@ -12,7 +12,7 @@ use Rattle.sets.specs.Sets.{Terminal, Set, mem}
 use Rattle.terminal.specs.declared.State.{State}
 use Rattle.terminal.specs.declared.State.the-variants.{Waiting, Taken}
 use Rattle.terminal.specs.declared.Record.{Record}
-use Rattle.terminal.specs.Rule.{Layout, Round, start, sourceStart, step}
+use Rattle.terminal.specs.Rule.{Layout, Round, start, sourceStart, step, saysIn}
 use Rattle.plan.specs.declared.Plan.{Plan}
 use Rattle.plan.specs.Plan.{heardBy, hears}
 
@@ -29,11 +29,6 @@ silence round sender hearer = 0
 -- the source starts as taken in round 0 with its value, all others start waiting
 unfoldable pub startRecord : Plan → (value : Layout) (b : Terminal) → Record
 startRecord p value b = pick (eqb b (p .source)) (sourceStart value) start
-
--- what a good terminal says in a round: its value in the round after it took, and never again
-unfoldable pub saysIn : Round → State → Layout
-saysIn round Waiting = 0
-saysIn round (Taken at value) = pick (eqb (at + 1) round) value 0
 
 -- what terminal b hears from terminal j in a round, where `before` are the records after the round before: the script's word if j is in the fault set
 unfoldable pub heardFrom : Plan → (faulty : Set) (script : Script) (round : Round) (before : List Record) (b j : Terminal) → Layout

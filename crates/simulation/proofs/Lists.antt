@@ -7,7 +7,7 @@ use lib.ListN.{length, getD, set}
 use lib.Seq.{getD-set-same, getD-set-other}
 use borrow.Author.Count.{below-more}
 use Rattle.terminal.specs.declared.Record.{Record}
-use Rattle.propagation.specs.Run.{saysIn}
+use Rattle.terminal.specs.Rule.{saysIn}
 use Rattle.simulation.specs.declared.Turn.{Turn}
 use Rattle.simulation.specs.declared.Made.{Made}
 use Rattle.simulation.specs.Turns.{recordOf, nextTurn, madeOf}

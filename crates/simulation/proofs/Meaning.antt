@@ -14,7 +14,7 @@ use Rattle.sets.proofs.Bools.{decide, pick-yes, pick-no, no-by}
 use Rattle.sets.proofs.Laws.{below-or-not}
 use Rattle.terminal.specs.declared.State.the-variants.{Waiting}
 use Rattle.terminal.specs.declared.Record.{Record}
-use Rattle.terminal.specs.Rule.{start, step}
+use Rattle.terminal.specs.Rule.{start, step, saysIn}
 use Rattle.terminal.specs.Answer.{causeOf, recordAfter}
 use Rattle.terminal.proofs.Laws.{not-refused}
 use Rattle.plan.specs.declared.Plan.{Plan}
@@ -22,7 +22,7 @@ use Rattle.plan.specs.Plan as plan
 use Rattle.plan.specs.Plan.{heardBy, hears}
 use Rattle.plan.proofs.Laws.{sound, tests, row-of}
 use Rattle.closure.specs.FaultSet.{isFaultSet}
-use Rattle.propagation.specs.Run.{Script, startRecord, saysIn, heardFrom, sites, site, scriptOf}
+use Rattle.propagation.specs.Run.{Script, startRecord, heardFrom, sites, site, scriptOf}
 use Rattle.sets.specs.Tables.{table}
 use Rattle.propagation.proofs.Rounds.{at, word, at-start, at-next, at-faulty, sites-length}
 use Rattle.sets.proofs.Tables.{table-length, table-at}

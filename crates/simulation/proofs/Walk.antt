@@ -13,10 +13,9 @@ use borrow.Author.Count.{below-more}
 use borrow.Author.Tests.{lt-ltb, le-ltb}
 use Rattle.sets.proofs.Bools.{pick-yes, pick-no}
 use Rattle.terminal.specs.declared.Record.{Record}
-use Rattle.terminal.specs.Rule.{start}
+use Rattle.terminal.specs.Rule.{start, saysIn}
 use Rattle.plan.specs.declared.Plan.{Plan}
 use Rattle.plan.specs.Plan as plan
-use Rattle.propagation.specs.Run.{saysIn}
 use Rattle.propagation.proofs.Rounds.{at}
 use Rattle.simulation.specs.declared.Turn.{Turn}
 use Rattle.simulation.specs.declared.Made.{Made}

@@ -8,11 +8,11 @@ use Rattle.sets.specs.Tests.{pick}
 use Rattle.sets.specs.Tables.{table}
 use Rattle.sets.specs.Sets.{mem}
 use Rattle.terminal.specs.declared.Record.{Record}
-use Rattle.terminal.specs.Rule.{start}
+use Rattle.terminal.specs.Rule.{start, saysIn}
 use Rattle.terminal.specs.Answer.{recordAfter}
 use Rattle.plan.specs.declared.Plan.{Plan}
 use Rattle.plan.specs.Plan.{heardBy, hears}
-use Rattle.propagation.specs.Run.{scriptOf, startRecord, saysIn}
+use Rattle.propagation.specs.Run.{scriptOf, startRecord}
 use Rattle.simulation.specs.declared.Turn.{Turn}
 use Rattle.simulation.specs.declared.Made.{Made}
 

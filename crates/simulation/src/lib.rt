@@ -21,6 +21,21 @@ pub enum Outcome {
     WrongLength,
 }
 
+// Document 01's number of the outcome, 0 where nothing is refused.
+pub fn number(o: Outcome) -> u8
+    ensures { λ r. ⌜ r ≡ numberOf o ⌝ }
+{
+    match o {
+        Outcome::Played => 0,
+        Outcome::WrongRange => 4,
+        Outcome::WrongLink => 5,
+        Outcome::WrongMember => 7,
+        Outcome::OverBound => 8,
+        Outcome::WrongStart => 9,
+        Outcome::WrongLength => 12,
+    }
+}
+
 // Whose turn it is: terminal `at` in a round. `spoken` is what each good terminal says to all this
 // round, fixed before its first step; `next` collects what they say in the next.
 pub(crate) struct Turn {

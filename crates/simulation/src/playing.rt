@@ -1,7 +1,8 @@
 // One turn: a terminal's record, by value, and the turn that follows.
 ghost use mathlib.Core.Path.{_≡_};
 ghost use Prim.Native.Nat.{_+_, _<_, _≤_};
-ghost use Rattle.propagation.specs.Run.{startRecord, saysIn, scriptOf};
+ghost use Rattle.propagation.specs.Run.{startRecord, scriptOf};
+ghost use Rattle.terminal.specs.Rule.{saysIn};
 ghost use Rattle.simulation.specs.Turns.{heardIn, recordOf, nextTurn, madeOf};
 ghost use Rattle.sets.specs.Tables.{table};
 use super::Made;

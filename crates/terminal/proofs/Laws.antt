@@ -10,15 +10,15 @@ use native.Mathlib.Omega.{arith}
 use lib.Dec.{eqb, ltb, leb}
 use borrow.Author.Tests.{lt-ltb, le-leb, eq-eqb, ne-eqb}
 use lib.ListN.{length, getD, replicate, length-replicate}
-use Rattle.sets.specs.Tests.{_and_}
+use Rattle.sets.specs.Tests.{_and_, pick}
 use Rattle.sets.specs.Sets.{mem}
 use Rattle.quorum.specs.Quorum.{enough, inRange, hearsSoundly}
-use Rattle.sets.proofs.Bools.{no-by, and-i, and-no-r, not-i, not-yes}
+use Rattle.sets.proofs.Bools.{no-by, and-i, and-no-r, not-i, not-yes, pick-yes, pick-no}
 use Rattle.sets.proofs.Causes.{cause-here, cause-later, cause-last}
 use Rattle.terminal.specs.declared.State.{State}
 use Rattle.terminal.specs.declared.State.the-variants.{Waiting, Taken}
 use Rattle.terminal.specs.declared.Record.{Record}
-use Rattle.terminal.specs.Rule.{start, sourceStart, firstWord, noted, hasNoted, holds, certified, choice, taking, stepFrom, step}
+use Rattle.terminal.specs.Rule.{start, sourceStart, firstWord, noted, hasNoted, holds, certified, choice, taking, stepFrom, step, saysIn, says}
 use Rattle.terminal.specs.Answer.{stateSound, recordSound, causeOf}
 use Rattle.terminal.proofs.Notes.{noted-length, noted-at, noted-change, first-spoken, zeros, has-i, has-layout, has-value, choice-why, choice-none-source, choice-none-certified, choice-least}
 
@@ -222,3 +222,28 @@ module _ (n source f heard : ℕ) (said : ℕ → ℕ) where
     has-i (step n source f heard said r .notes) (getD (step n source f heard said r .notes) j 0) j
         (λ z. first-spoken (getD (r .notes) j 0) (said j) s (sym (heard-note r j w m k h) ∙ z)) refl,
   )
+
+-- ---- what a terminal says after a round
+
+says-in-took : (round at value : ℕ) → at ≡ round → saysIn (round + 1) (Taken at value) ≡ value
+unfolding saysIn
+says-in-took round at value e = pick-yes _ _ _ (eq-eqb _ _ (ap (λ (k : ℕ). k + 1) e))
+
+says-in-else : (round at value : ℕ) → (at ≡ round → ⊥) → saysIn (round + 1) (Taken at value) ≡ 0
+unfolding saysIn
+says-in-else round at value ne = pick-no _ _ _ (ne-eqb (at + 1) (round + 1) (λ e. ne (omega (arith, e))))
+
+-- it took in the round that its record shows: its value
+pub says-took : (r : Record) (at value : ℕ) → r .state ≡ Taken at value → at ≡ r .round → says r ≡ value
+unfolding says
+says-took r at value e q = ap (saysIn (r .round + 1)) e ∙ says-in-took (r .round) at value q
+
+-- it took in another round: nothing
+pub says-else : (r : Record) (at value : ℕ) → r .state ≡ Taken at value → (at ≡ r .round → ⊥) → says r ≡ 0
+unfolding says
+says-else r at value e q = ap (saysIn (r .round + 1)) e ∙ says-in-else (r .round) at value q
+
+-- it waits: nothing
+pub says-waits : (r : Record) → r .state ≡ Waiting → says r ≡ 0
+unfolding says saysIn
+says-waits r e = ap (saysIn (r .round + 1)) e

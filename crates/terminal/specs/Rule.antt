@@ -90,3 +90,14 @@ stepFrom (Taken at value) n source f heard said round notes = record { state = T
 
 unfoldable pub step : (n : ℕ) (source : Terminal) (f : ℕ) (heard : Set) (said : Terminal → Layout) → Record → Record
 step n source f heard said r = stepFrom (r .state) n source f heard said (r .round) (r .notes)
+
+-- ---- what it says
+
+-- what a good terminal says in a round: its value in the round after it took, and never again
+unfoldable pub saysIn : Round → State → Layout
+saysIn round Waiting = 0
+saysIn round (Taken at value) = pick (eqb (at + 1) round) value 0
+
+-- what the record after a round has its terminal say in the next one
+unfoldable pub says : Record → Layout
+says r = saysIn (r .round + 1) (r .state)

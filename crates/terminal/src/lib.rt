@@ -5,7 +5,7 @@ ghost use mathlib.Core.Path.{_≡_};
 ghost use Prim.Native.Nat.{_+_, _<_, _≤_};
 ghost use lib.ListN.{length, getD};
 ghost use Rattle.sets.specs.Sets.{mem};
-ghost use Rattle.terminal.specs.Rule.{start, sourceStart, firstWord, noted, choice, taking, step};
+ghost use Rattle.terminal.specs.Rule.{start, sourceStart, firstWord, noted, choice, taking, step, says};
 ghost use Rattle.terminal.specs.Answer.{numberOf, stateSound, recordSound, causeOf, recordAfter};
 
 // A terminal waits, or it has taken a layout in a round and keeps both.
@@ -217,5 +217,23 @@ pub fn step(
     Stepped {
         outcome: outcome,
         after: before,
+    }
+}
+
+// What the terminal says in the round after the one that its record shows: its value if it took in
+// that round, else 0. Any record has an answer.
+pub fn says(record: Record) -> u16
+    ensures { λ r. ⌜ r ≡ says «record» ⌝ }
+{
+    let state = record.state;
+    let round = record.round;
+    match state {
+        State::Waiting => 0,
+        State::Taken(at, value) => {
+            if at == round {
+                return value;
+            }
+            0
+        }
     }
 }
