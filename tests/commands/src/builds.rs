@@ -15,6 +15,7 @@ pub fn check(checks: &mut Checks) {
     let copy = Copy::new(checks);
     missing_tools(checks, &copy);
     first_use(checks, &copy);
+    each_word(checks, &copy);
     newer_sources(checks, &copy);
     without_rt(checks, &copy);
     two_at_once(checks, &copy);
@@ -24,11 +25,11 @@ pub fn check(checks: &mut Checks) {
 }
 
 fn progress(proved: u8) -> String {
-    format!("hulmayek: {proved} of 4 crates proved, {ALL}\n")
+    format!("hulmayek: {proved} of 2 crates proved, {ALL}\n")
 }
 
 fn rt_call(copy: &Copy) -> String {
-    format!("{}: check verdict run rewrite\n", copy.place.display())
+    format!("{}: check verdict\n", copy.place.display())
 }
 
 fn missing_tools(checks: &mut Checks, copy: &Copy) {
@@ -61,7 +62,7 @@ fn missing_tools(checks: &mut Checks, copy: &Copy) {
 /// A line at the start and one at the end; the rest is in a log. The input is left to the answer.
 fn first_use(checks: &mut Checks, copy: &Copy) {
     let done = copy.call(&["verdict", "-"]);
-    let said = progress(0) + &progress(4) + SITE;
+    let said = progress(0) + &progress(2) + SITE;
     checks.ends("first use", &done, 0, ANSWER, &said);
     let log = read(&copy.place.join("target/hulmayek/rt.log"));
     checks.has_line("rt's words are in the log", &log, "rt: low proved (0 s)");
@@ -70,18 +71,30 @@ fn first_use(checks: &mut Checks, copy: &Copy) {
     let done = copy.call(&["verdict", "-"]);
     checks.ends("second use", &done, 0, ANSWER, "");
     checks.same("nothing was called again", "", &copy.calls());
-    copy.remove("target/bin/run");
+    copy.remove("target/bin/verdict");
     let done = copy.call(&["verdict", "-"]);
     checks.same(
         "a program is gone",
-        &(progress(0) + &progress(4)),
+        &(progress(0) + &progress(2)),
         &done.err,
     );
     checks.holds(
         "and is linked again",
-        copy.place.join("target/bin/run").exists(),
+        copy.place.join("target/bin/verdict").exists(),
     );
     copy.calls();
+}
+
+/// A word has the programs proved that it asks, and no other.
+fn each_word(checks: &mut Checks, copy: &Copy) {
+    let done = copy.call(&["check", "-"]);
+    checks.same("check asks the verdict alone", "", &copy.calls());
+    checks.same("check says nothing of a build", "", &done.err);
+    copy.call(&["run", "-"]);
+    let all = format!("{}: check verdict run rewrite\n", copy.place.display());
+    checks.same("run asks more programs", &all, &copy.calls());
+    copy.call(&["verdict", "-"]);
+    checks.same("they serve the other words too", "", &copy.calls());
 }
 
 /// A source of a program or of a crate under it; a removed one too. Other crates do not count.
@@ -157,7 +170,7 @@ fn two_at_once(checks: &mut Checks, copy: &Copy) {
     let waiting = "hulmayek: another call is building in this checkout; waiting for it\n";
     let mut said = [both[0].err.as_str(), both[1].err.as_str()];
     said.sort_unstable();
-    let builds = progress(0) + &progress(4);
+    let builds = progress(0) + &progress(2);
     checks.same("one builds", &builds, said[0]);
     checks.same("the other waits", waiting, said[1]);
     checks.same("rt was called once", &rt_call(copy), &copy.calls());
