@@ -1,8 +1,9 @@
--- Small hexadecimal digits (document 01, "Hexadecimal lines"), as bytes of ASCII. Assumes nothing.
-use Prim.Native.Nat.{ℕ, _+_, _-_, _*_, _/_, _%_}
+-- Small hexadecimal digits as they are read (document 01, "Hexadecimal lines"), as bytes of ASCII. The digits that are written stand in crates/text.
+-- Assumes nothing.
+use Prim.Native.Nat.{ℕ, _+_, _-_, _*_, _%_}
 use mathlib.Core.Bool.{Bool, true}
 use mathlib.Core.List.{List, [], _∷_}
-use lib.Dec.{leb, ltb, eqb}
+use lib.Dec.{leb, eqb}
 use lib.ListN.{length, getD}
 use Rattle.sets.specs.Tests.{_and_, _or_, pick}
 
@@ -31,10 +32,3 @@ allDigits (b ∷ line) = isDigit b and allDigits line
 -- a whole number of bytes, at least one, and nothing foreign
 unfoldable pub wellFormed : List ℕ → Bool
 wellFormed line = leb 1 (length line) and eqb (length line % 2) 0 and allDigits line
-
--- the digit of a value below 16; a byte as it is written, high digit first
-unfoldable pub hexDigit : ℕ → ℕ
-hexDigit d = pick (ltb d 10) (48 + d) (87 + d)
-
-unfoldable pub hexByte : ℕ → List ℕ
-hexByte b = hexDigit (b / 16) ∷ hexDigit (b % 16) ∷ []

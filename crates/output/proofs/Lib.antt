@@ -1,6 +1,2 @@
--- A text that grows and is put into a list (TextLaws), what the lines say (LineLaws, SiteLaws), a plan written anew (RewriteLaws), and the laws for callers (Laws).
-mod TextLaws
-mod LineLaws
-mod SiteLaws
-mod RewriteLaws
+-- The text on a file, what was put of it, and the laws for callers.
 pub mod Laws

@@ -1,4 +1,2 @@
--- What the contracts of the text functions cite.
-pub mod Lines
-pub mod Texts
-pub mod Site
+-- What the contracts of every text function cite.
+pub mod OnFile

@@ -1,13 +1,10 @@
-// The answers as text: from a file's bytes to the output's bytes.
-mod line;
-mod site;
-mod text;
-
+// What the programs' texts share: the line that refuses a file, and the answer on a file.
 ghost use mathlib.Core.Path.{_≡_};
 ghost use lib.ListN.{length};
-ghost use Rattle.frames.specs.Reading.{planReading, runReading, fileRead};
-ghost use Rattle.output.specs.Site.{runText};
-ghost use Rattle.output.specs.Texts.{verdictText, rewrittenText, writtenOf, putInto};
+ghost use Rattle.text.specs.Texts.{held, putInto};
+ghost use Rattle.output.specs.OnFile.{refusalLine, onLine, answerOn};
+use frames::FileRead;
+use text::Text;
 
 // The number and line of a refused file, whose text says the same, or 12 where an accepted file's
 // text has no room; and the length of the text that was put.
@@ -17,38 +14,28 @@ pub struct Written {
     pub len: usize,
 }
 
-// What `verdict` prints on a plan file, into the lent buffer.
-pub fn verdict_text(text: &[u8], out: &mut [u8]) -> Written
-    ensures { λ r. ⌜ r ≡ writtenOf (fileRead (planReading (now (text .entry)))) (verdictText (now (text .entry))) (length (now (out .entry))) ⌝ }
-    ensures { λ r. ⌜ now (out .exit) ≡ putInto (verdictText (now (text .entry))) (now (out .entry)) ⌝ }
+// What was written on a file, with the file's line.
+pub fn on_line(line: u16, w: text::Written) -> Written
+    ensures { λ r. ⌜ r ≡ onLine line w ⌝ }
 {
-    let read = frames::read_plan(text);
-    line::of_plan(read).put(read, out)
-}
-
-// What `run` prints on a run file, into the lent buffer.
-pub fn run_text(text: &[u8], out: &mut [u8]) -> Written
-    ensures { λ r. ⌜ r ≡ writtenOf (fileRead (runReading (now (text .entry)))) (runText (now (text .entry))) (length (now (out .entry))) ⌝ }
-    ensures { λ r. ⌜ now (out .exit) ≡ putInto (runText (now (text .entry))) (now (out .entry)) ⌝ }
-{
-    let mut words = [0u16; 16000];
-    let read = frames::read_run(text, &mut words);
-    site::of_run(read, &words).put(read, out)
-}
-
-// What `rewrite` prints on a plan file, into the lent buffer: the plan's canonical text.
-pub fn rewritten_text(text: &[u8], out: &mut [u8]) -> Written
-    ensures { λ r. ⌜ r ≡ writtenOf (fileRead (planReading (now (text .entry)))) (rewrittenText (now (text .entry))) (length (now (out .entry))) ⌝ }
-    ensures { λ r. ⌜ now (out .exit) ≡ putInto (rewrittenText (now (text .entry))) (now (out .entry)) ⌝ }
-{
-    let read = frames::read_plan(text);
-    if read.number != 0 {
-        return line::refusal(read.number, read.line).put(read, out);
-    }
-    let written = writer::write_plan(read.progress.plan, out);
     Written {
-        number: written.number,
-        line: read.line,
-        len: written.len,
+        number: w.number,
+        line: line,
+        len: w.len,
     }
+}
+
+// ff: why a file or a plan is refused.
+pub fn refusal(number: u8, line: u16) -> Text
+    ensures { λ r. ⌜ held r ≡ refusalLine number line ⌝ }
+{
+    text::empty().byte(255).byte(number).pair(line).raw(10)
+}
+
+// The text on a file at the front of the list, if it has room.
+pub fn put(read: FileRead, t: Text, out: &mut [u8]) -> Written
+    ensures { λ r. ⌜ r ≡ answerOn read (held t) (length (now (out .entry))) ⌝ }
+    ensures { λ r. ⌜ now (out .exit) ≡ putInto (held t) (now (out .entry)) ⌝ }
+{
+    on_line(read.line, t.put(read.number, out))
 }

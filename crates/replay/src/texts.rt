@@ -13,7 +13,7 @@ fn written(line: &mut [u8], number: u8, len: usize, list: &[u8]) -> usize {
 }
 
 fn verdict_into(file: &[u8], out: &mut [u8], line: &mut [u8]) -> usize {
-    let w = output::verdict_text(file, out);
+    let w = verdict_output::verdict_text(file, out);
     written(line, w.number, w.len, out)
 }
 
@@ -27,7 +27,7 @@ pub(crate) fn verdict(room: usize, file: &[u8], line: &mut [u8]) -> usize {
 }
 
 fn run_into(file: &[u8], out: &mut [u8], line: &mut [u8]) -> usize {
-    let w = output::run_text(file, out);
+    let w = run_output::run_text(file, out);
     written(line, w.number, w.len, out)
 }
 

@@ -4,6 +4,6 @@ fn main() {
     let mut file = [0u8; 24577];
     let n = io::read_full(0, &mut file);
     let mut out = [0u8; 2809];
-    let written = output::rewritten_text(&file[..n], &mut out);
+    let written = rewrite_output::rewritten_text(&file[..n], &mut out);
     io::write_all(1, &out[..written.len]);
 }

@@ -4,6 +4,6 @@ fn main() {
     let mut file = [0u8; 24577];
     let n = io::read_full(0, &mut file);
     let mut out = [0u8; 272];
-    let written = output::verdict_text(&file[..n], &mut out);
+    let written = verdict_output::verdict_text(&file[..n], &mut out);
     io::write_all(1, &out[..written.len]);
 }

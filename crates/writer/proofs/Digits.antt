@@ -11,7 +11,8 @@ use Rattle.sets.specs.Tests.{_and_, _or_}
 use Rattle.sets.proofs.Bools.{clash, and-i, and-no-r, or-l, or-r, pick-yes, pick-no}
 use Rattle.sets.proofs.Laws.{below-or-not}
 use Rattle.lines.specs.declared.Frame.the-variants.{Head, Link}
-use Rattle.lines.specs.Digits.{isFigure, isLetter, isDigit, digitOf, byteAt, allDigits, wellFormed, hexDigit, hexByte}
+use Rattle.lines.specs.Digits.{isFigure, isLetter, isDigit, digitOf, byteAt, allDigits, wellFormed}
+use Rattle.text.specs.Digits.{hexDigit, hexByte}
 use Rattle.lines.specs.Frames.{headOf, linkOf, kindOf, frameOf}
 
 -- ---- one digit

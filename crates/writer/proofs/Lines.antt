@@ -12,7 +12,8 @@ use Rattle.sets.proofs.Bools.{and-l, and-r, pick-yes, pick-no, pick-case}
 use Rattle.plan.specs.declared.Plan.{Plan}
 use Rattle.plan.specs.Plan.{hears}
 use Rattle.lines.specs.declared.Frame.{Frame}
-use Rattle.lines.specs.Digits.{allDigits, hexByte}
+use Rattle.lines.specs.Digits.{allDigits}
+use Rattle.text.specs.Digits.{hexByte}
 use Rattle.lines.specs.Frames.{frameOf}
 use Rattle.frames.specs.declared.Progress.{Progress}
 use Rattle.frames.specs.Lines.{Line, ended, linesFrom}

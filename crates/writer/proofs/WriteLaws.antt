@@ -7,18 +7,20 @@ use mathlib.Core.List.{List, [], _∷_, _++_}
 use native.Mathlib.Nat.{add-zero}
 use native.Mathlib.Numerals.{add-one, add-two, add-four, add-six}
 use native.Mathlib.Omega.{arith}
-use lib.Dec.{eqb}
 use lib.ListN.{length, set, length-append}
 use lib.Seq.{sets, length-sets}
-use borrow.Author.Tests.{eq-eqb, ne-eqb, le-leb, lt-leb}
+use borrow.Author.Tests.{eq-eqb, ne-eqb}
 use Rattle.sets.specs.Tests.{pick}
 use Rattle.sets.proofs.Bools.{pick-yes, pick-no}
 use Rattle.plan.specs.declared.Plan.{Plan}
 use Rattle.plan.specs.Plan.{hears, causeOf}
-use Rattle.writer.specs.declared.Written.{Written}
-use Rattle.lines.specs.Digits.{hexDigit, hexByte}
-use Rattle.writer.specs.Written.{headLine, linkLine, linkLines, planText, writeCause, writtenOf, putInto}
+use Rattle.text.specs.declared.Written.{Written}
+use Rattle.text.specs.Digits.{hexDigit, hexByte}
+use Rattle.text.specs.Texts.{writtenOf, putInto}
+use Rattle.text.proofs.Laws.{put-fits, put-short, written-fits}
+use Rattle.writer.specs.Written.{headLine, linkLine, linkLines, planText, writtenText}
 use Rattle.writer.proofs.Lines.{head-length, link-length}
+use Rattle.writer.proofs.Laws.{sound-text}
 
 -- one list after another
 pub sets-append : (l : List ℕ) (i : ℕ) (xs ys : List ℕ) → sets l i (xs ++ ys) ≡ sets (sets l i xs) (i + length xs) ys
@@ -133,46 +135,47 @@ text-length : (p : Plan) → length (planText p) ≡ 9 + length (linkLines p 400
 unfolding planText
 text-length p = length-append (headLine p) (linkLines p 400 0) ∙ ap (λ (n : ℕ). n + length (linkLines p 400 0)) (head-length p)
 
-cause-unsound : (p : Plan) (room : ℕ) → (causeOf p ≡ 0 → ⊥) → writeCause p room ≡ causeOf p
-unfolding writeCause
-cause-unsound p room h = pick-no _ _ _ (ne-eqb (causeOf p) 0 h)
+-- a plan's text is not put
+pub short : (p : Plan) (out : List ℕ) (links : ℕ) → links ≡ length (linkLines p 400 0) → length out < 9 + links → out ≡ putInto (planText p) out
+short p out links l h = sym (put-short (planText p) out (omega (arith, text-length p)))
 
-module _ (p : Plan) (room : ℕ) (sound : causeOf p ≡ 0) where
-  pub cause-short : room < 9 + length (linkLines p 400 0) → writeCause p room ≡ 12
-  unfolding writeCause
-  cause-short h =
-      pick-yes _ _ _ (eq-eqb (causeOf p) 0 sound) ∙ pick-no _ _ _ (lt-leb (length (planText p)) room (omega (arith, text-length p)))
+-- or it is
+pub done : (p : Plan) (out o₁ o₂ : List ℕ) (links : ℕ) → links ≡ length (linkLines p 400 0) → 9 + links ≤ length out → o₁ ≡ sets out 0 (headLine p)
+    → o₂ ≡ sets o₁ 9 (linkLines p 400 0) → o₂ ≡ putInto (planText p) out
+unfolding planText
+done p out o₁ o₂ links l h a b =
+    let nine : 9 ≡ 0 + length (headLine p) = omega (arith, head-length p) in
+    let fits : length (planText p) ≤ length out = omega (arith, text-length p) in
+    b
+    ∙ ap (λ (l : List ℕ). sets l 9 (linkLines p 400 0)) a
+    ∙ ap (λ (j : ℕ). sets (sets out 0 (headLine p)) j (linkLines p 400 0)) nine
+    ∙ sym (sets-append out 0 (headLine p) (linkLines p 400 0))
+    ∙ sym (put-fits (planText p) out fits)
 
-  cause-none : 9 + length (linkLines p 400 0) ≤ room → writeCause p room ≡ 0
-  unfolding writeCause
-  cause-none h =
-      pick-yes _ _ _ (eq-eqb (causeOf p) 0 sound) ∙ pick-yes _ _ _ (le-leb (length (planText p)) room (omega (arith, text-length p)))
-
--- a refused call
-pub refused : (p : Plan) (out : List ℕ) (cause : ℕ) → writeCause p (length out) ≡ cause → (cause ≡ 0 → ⊥)
-    → (_≡_ {A = Written} (record { number = cause; len = 0 }) (writtenOf p (length out))) × (out ≡ putInto p out)
-unfolding writtenOf putInto
-refused p out cause e h =
-    let n : eqb (writeCause p (length out)) 0 ≡ false = ne-eqb (writeCause p (length out)) 0 (λ z. h (sym e ∙ z)) in
-    (ap (λ (x : ℕ). record { number = x; len = 0 }) (sym e) ∙ sym (pick-no _ _ _ n), sym (pick-no _ _ _ n))
-
-pub refused-unsound : (p : Plan) (out : List ℕ) (cause : ℕ) → causeOf p ≡ cause → (cause ≡ 0 → ⊥)
-    → (_≡_ {A = Written} (record { number = cause; len = 0 }) (writtenOf p (length out))) × (out ≡ putInto p out)
-refused-unsound p out cause e h = refused p out cause (cause-unsound p (length out) (λ z. h (sym e ∙ z)) ∙ e) h
-
--- a call that is done
-pub done : (p : Plan) (out o₁ o₂ : List ℕ) (links : ℕ) → links ≡ length (linkLines p 400 0) → causeOf p ≡ 0 → 9 + links ≤ length out → o₁ ≡ sets out 0 (headLine p)
-    → o₂ ≡ sets o₁ 9 (linkLines p 400 0)
-    → (_≡_ {A = Written} (record { number = 0; len = 9 + links }) (writtenOf p (length out))) × (o₂ ≡ putInto p out)
-unfolding writtenOf putInto planText
-done p out o₁ o₂ links l s h a b =
-    let n : eqb (writeCause p (length out)) 0 ≡ true = eq-eqb (writeCause p (length out)) 0 (cause-none p (length out) s (omega arith)) in
+-- the length that was counted is the text's
+pub counted : (p : Plan) (w : Written) (links room : ℕ) → links ≡ length (linkLines p 400 0) → w ≡ writtenOf 0 (9 + links) room
+    → w ≡ writtenOf 0 (length (planText p)) room
+counted p w links room l e =
     let all : 9 + links ≡ length (planText p) = omega (arith, text-length p) in
-    let nine : 9 ≡ 0 + length (headLine p) = omega (arith, head-length p) in (
-      ap (λ (x : ℕ). record { number = 0; len = x }) all ∙ sym (pick-yes _ _ _ n),
-      b
-          ∙ ap (λ (l : List ℕ). sets l 9 (linkLines p 400 0)) a
-          ∙ ap (λ (j : ℕ). sets (sets out 0 (headLine p)) j (linkLines p 400 0)) nine
-          ∙ sym (sets-append out 0 (headLine p) (linkLines p 400 0))
-          ∙ sym (pick-yes _ _ _ n),
+    e ∙ ap (λ (k : ℕ). writtenOf 0 k room) all
+
+-- ---- what is written of any record
+
+-- a sound plan
+pub written-sound : (p : Plan) (w : Written) (out last : List ℕ) → causeOf p ≡ 0 → w ≡ writtenOf 0 (length (planText p)) (length out)
+    → last ≡ putInto (planText p) out
+    → (w ≡ writtenOf (causeOf p) (length (writtenText p)) (length out)) × (last ≡ putInto (writtenText p) out)
+written-sound p w out last s a b = rw (s, sound-text p s) (a, b)
+
+-- a record that is no plan
+pub written-unsound : (p : Plan) (out : List ℕ) (cause : ℕ) → causeOf p ≡ cause → (cause ≡ 0 → ⊥)
+    → (_≡_ {A = Written} (record { number = cause; len = 0 }) (writtenOf (causeOf p) (length (writtenText p)) (length out)))
+    × (out ≡ putInto (writtenText p) out)
+unfolding writtenText
+written-unsound p out cause e h =
+    let none : writtenText p ≡ [] = pick-no _ _ _ (ne-eqb (causeOf p) 0 (λ z. h (sym e ∙ z))) in (
+      ap (λ (n : ℕ). record { number = n; len = 0 }) (sym e)
+          ∙ sym (written-fits (causeOf p) 0 (length out) (omega arith))
+          ∙ ap (λ (l : List ℕ). writtenOf (causeOf p) (length l) (length out)) (sym none),
+      sym (put-fits [] out (omega arith)) ∙ ap (λ (l : List ℕ). putInto l out) (sym none),
     )

@@ -4,33 +4,19 @@ ghost use Prim.Native.Nat.{_+_, _/_, _%_, _<_, _≤_};
 ghost use lib.ListN.{length};
 ghost use lib.Seq.{sets};
 ghost use Rattle.plan.specs.Plan.{hears, causeOf};
-ghost use Rattle.lines.specs.Digits.{hexDigit, hexByte};
-ghost use Rattle.writer.specs.Written.{headLine, linkLine, linkLines, writtenOf, putInto};
+ghost use Rattle.text.specs.Digits.{hexByte};
+ghost use Rattle.text.specs.Texts.{writtenOf, putInto};
+ghost use Rattle.writer.specs.Written.{headLine, linkLine, linkLines, planText, writtenText};
 use plan::Plan;
 use plan::Soundness;
-
-// The number of a refusal, 0 for none, and the text's length.
-pub struct Written {
-    pub number: u8,
-    pub len: usize,
-}
-
-fn hex_digit(d: usize) -> u8
-    requires { ⌜ d < 16 ⌝ }
-    ensures { λ r. ⌜ r ≡ hexDigit d ⌝ }
-{
-    if d < 10 {
-        return (48 + d) as u8;
-    }
-    (87 + d) as u8
-}
+use text::Written;
 
 fn put_byte(out: &mut [u8], at: usize, b: usize)
     requires { ⌜ (at + 2 ≤ length (now out)) × (b < 256) ⌝ }
     ensures { λ _. ⌜ now (out .exit) ≡ sets (now (out .entry)) at (hexByte b) ⌝ }
 {
-    out[at] = hex_digit(b / 16);
-    out[at + 1] = hex_digit(b % 16);
+    out[at] = text::high_digit(b as u8);
+    out[at + 1] = text::low_digit(b as u8);
 }
 
 fn put_head(p: Plan, out: &mut [u8])
@@ -94,25 +80,22 @@ fn put_links(p: Plan, out: &mut [u8])
 // The text of a sound plan into the front of the list, if it has room for it.
 fn put_plan(p: Plan, out: &mut [u8]) -> Written
     requires { ⌜ causeOf p ≡ 0 ⌝ }
-    ensures { λ r. ⌜ r ≡ writtenOf p (length (now (out .entry))) ⌝ }
-    ensures { λ r. ⌜ now (out .exit) ≡ putInto p (now (out .entry)) ⌝ }
+    ensures { λ r. ⌜ r ≡ writtenOf 0 (length (planText p)) (length (now (out .entry))) ⌝ }
+    ensures { λ r. ⌜ now (out .exit) ≡ putInto (planText p) (now (out .entry)) ⌝ }
 {
     let len = 9 + links_len(p);
-    if out.len() < len {
-        return Written { number: 12, len: 0 };
+    let written = text::answer(0, len, out.len());
+    if len <= out.len() {
+        put_head(p, out);
+        put_links(p, out);
     }
-    put_head(p, out);
-    put_links(p, out);
-    Written {
-        number: 0,
-        len: len,
-    }
+    written
 }
 
 // A plan's text into the front of the list. A refused call changes nothing.
 pub fn write_plan(p: Plan, out: &mut [u8]) -> Written
-    ensures { λ r. ⌜ r ≡ writtenOf p (length (now (out .entry))) ⌝ }
-    ensures { λ r. ⌜ now (out .exit) ≡ putInto p (now (out .entry)) ⌝ }
+    ensures { λ r. ⌜ r ≡ writtenOf (causeOf p) (length (writtenText p)) (length (now (out .entry))) ⌝ }
+    ensures { λ r. ⌜ now (out .exit) ≡ putInto (writtenText p) (now (out .entry)) ⌝ }
 {
     let soundness = plan::check(p);
     match soundness {

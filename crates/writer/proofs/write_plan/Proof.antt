@@ -1,7 +1,7 @@
 -- The plan's soundness decides. Assumes nothing.
 use mathlib.Core.Path.{sym, ap, _∙_}
 use Rattle.plan.specs.Plan.{numberOf}
-use Rattle.writer.proofs.WriteLaws.{refused-unsound}
+use Rattle.writer.proofs.WriteLaws.{written-sound, written-unsound}
 use native.Mathlib.Omega.{arith}
 use borrow.Author.Needs.{needs}
 use Rattle.writer.proofs.write_plan.Statement.{statement}
@@ -26,13 +26,14 @@ same-length : tie.Need-same-length
 same-length c = search needs
 
 returns : tie.Need-returns
-returns c = search needs
+returns c = let e = c .before .before .put-plan .ensures in
+    written-sound _ _ _ _ (sym (c .before .before .before .before .before .before .check .ensures) ∙ ap numberOf (c .before .before .before .before .enum-told .given .1)) (e .0) (e .1)
 
 returns-2 : tie.Need-returns-2
-returns-2 c = refused-unsound (c .before .before .before .before .args .p) (c .before .before .before .before .args .out .now) 4 (sym (c .before .before .check .ensures) ∙ ap numberOf (c .enum-told2 .given .1)) (λ z. omega arith)
+returns-2 c = written-unsound (c .before .before .before .before .args .p) (c .before .before .before .before .args .out .now) 4 (sym (c .before .before .check .ensures) ∙ ap numberOf (c .enum-told2 .given .1)) (λ z. omega arith)
 
 returns-3 : tie.Need-returns-3
-returns-3 c = refused-unsound (c .before .before .before .before .args .p) (c .before .before .before .before .args .out .now) 5 (sym (c .before .before .check .ensures) ∙ ap numberOf (c .enum-told3 .given .1)) (λ z. omega arith)
+returns-3 c = written-unsound (c .before .before .before .before .args .p) (c .before .before .before .before .args .out .now) 5 (sym (c .before .before .check .ensures) ∙ ap numberOf (c .enum-told3 .given .1)) (λ z. omega arith)
 
 pub write-plan-spec : {M : Type 1} → statement M
 write-plan-spec =

@@ -1,0 +1,2 @@
+-- What the contract of a plan's text anew cites.
+pub mod Rewritten

@@ -1,0 +1,42 @@
+use mathlib.Core.Path.{_∙_}
+use Rattle.output.proofs.Laws.{put-as}
+use Rattle.run_output.proofs.SiteLaws.{words-room, read-playable, read-is, ran-is}
+-- The text of the file's lines, put into the list. Assumes nothing.
+use borrow.Author.Needs.{needs}
+use Rattle.run_output.proofs.run_text.Statement.{statement}
+use Rattle.run_output.proofs.run_text.Tie as tie
+
+slice-aggregate-read-run : tie.Need-slice-aggregate-read-run
+slice-aggregate-read-run c = search needs
+
+read-run-requires : tie.Need-read-run-requires
+read-run-requires c κs = search needs
+
+slice-aggregate-of-run : tie.Need-slice-aggregate-of-run
+slice-aggregate-of-run c = search needs
+
+of-run-requires : tie.Need-of-run-requires
+of-run-requires c κs = let r = c .before .before .read-run in
+    (read-playable _ _ _ (r .ensures .0) (r .ensures .1), r .kept .1 .0 ∙ words-room)
+
+put-requires : tie.Need-put-requires
+put-requires c κs = search needs
+
+same-length : tie.Need-same-length
+same-length c = search needs
+
+returns : tie.Need-returns
+returns c = let e = c .before .before .before .before .before .before .before .read-run .ensures in
+    put-as _ _ _ _ _ _ _ (read-is _ _ _ (e .0) (e .1)) (c .before .before .before .before .of-run .ensures ∙ ran-is _ _ _ (e .0) (e .1)) (c .before .before .put .ensures .0) (c .before .before .put .ensures .1)
+
+pub run-text-spec : {M : Type 1} → statement M
+run-text-spec =
+    tie.close
+    (tie.spec
+    slice-aggregate-read-run
+    read-run-requires
+    slice-aggregate-of-run
+    of-run-requires
+    put-requires
+    same-length
+    returns)

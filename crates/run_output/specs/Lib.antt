@@ -1,0 +1,2 @@
+-- What the contract of the run's text cites.
+pub mod Site

@@ -1,0 +1,80 @@
+-- What the verdict's line says, of a judgement and on a plan file. F, L and R fit three bytes, since a plan has at most 20 terminals. Assumes nothing.
+use Prim.Native.Nat.{ℕ, _%_, _≤_, _<_, _^_}
+use mathlib.Core.Path.{_≡_, refl, sym, ap, _∙_, subst}
+use mathlib.Core.List.{List}
+use native.Mathlib.Omega.{arith}
+use lib.ListN.{length}
+use lib.Pow.{pow-mono}
+use borrow.Author.Tests.{eq-eqb, ne-eqb}
+use Rattle.sets.proofs.Bools.{and-l, pick-yes, pick-no}
+use Rattle.plan.specs.declared.Plan.{Plan}
+use Rattle.plan.proofs.Laws.{sound}
+use Rattle.closure.specs.Verdict.{defeats}
+use Rattle.closure.proofs.Faults.{fault-below}
+use Rattle.closure.proofs.Growth.{reached-below}
+use Rattle.closure.proofs.Witness.{cut-below}
+use Rattle.partition.specs.declared.Judgement.{Judgement}
+use Rattle.partition.specs.declared.Judgement.the-variants.{Pass, Fail, WrongRange, WrongLink}
+use Rattle.partition.specs.Answer.{Answer, told, answerOf}
+use Rattle.partition.proofs.Laws.{Failed, answer-fails}
+use Rattle.frames.specs.declared.FileRead.{FileRead}
+use Rattle.text.specs.Digits.{hexByte, hexPair, hexTriple}
+use Rattle.text.specs.Texts.{joined}
+use Rattle.output.specs.OnFile.{refusalLine}
+use Rattle.output.proofs.Laws.{refused-is, answered-is}
+use Rattle.verdict_output.specs.Verdict.{verdictLine, answerText, verdictOn}
+
+-- ---- F, L and R fit three bytes
+below : (n s : ℕ) → n ≤ 20 → s < 2 ^ n → s < 16777216
+below n s h l = omega (arith, pow-mono h)
+
+failed-small : (p : Plan) (a : Answer) → Failed p a → (a .f < 16777216) × (a .l < 16777216) × (a .r < 16777216)
+unfolding defeats
+failed-small p a w =
+    let t = sound p (w .is-plan) .twenty in (
+      below (p .n) (a .f) t (fault-below p (a .f) (and-l _ _ (w .beaten))),
+      below (p .n) (a .l) t (subst (λ (s : ℕ). s < 2 ^ p .n) (sym (w .l-is)) (reached-below p (a .f))),
+      below (p .n) (a .r) t (subst (λ (s : ℕ). s < 2 ^ p .n) (sym (w .r-is)) (cut-below p (a .f))),
+    )
+
+pub answer-small : (p : Plan) (j : Judgement) → told j ≡ answerOf p → (told j .f < 16777216) × (told j .l < 16777216) × (told j .r < 16777216)
+answer-small p Pass e = omega arith
+answer-small p (Fail w) e =
+    failed-small p (told (Fail w)) (subst (Failed p) (sym e) (answer-fails p (sym (ap (λ (a : Answer). a .failed) e))))
+answer-small p WrongRange e = omega arith
+answer-small p WrongLink e = omega arith
+
+-- such a set is its low three bytes
+pub low : (bytes : List ℕ) (s : ℕ) {last : List ℕ} → s < 16777216 → last ≡ joined bytes (hexTriple (s % 16777216)) → last ≡ joined bytes (hexTriple s)
+low bytes s h e =
+    let same : s % 16777216 ≡ s = omega arith in
+    e ∙ ap (λ (v : ℕ). joined bytes (hexTriple v)) same
+
+-- ---- a judgement's line, where the judgement was found to be this one
+
+pub verdict-length : (failed f l r : ℕ) → length (verdictLine failed f l r) ≡ 23
+unfolding verdictLine hexTriple hexPair hexByte
+verdict-length failed f l r = refl
+
+module _ (j found : Judgement) (t : List ℕ) (e : j ≡ found) where
+  same-answer : answerText (told found) ≡ answerText (told j)
+  same-answer = ap (λ (x : Judgement). answerText (told x)) (sym e)
+
+  pub says-verdict : told found .number ≡ 0 → t ≡ verdictLine (told found .failed) (told found .f) (told found .l) (told found .r) → t ≡ answerText (told j)
+  unfolding answerText
+  says-verdict h a = a ∙ sym (pick-yes _ _ _ (eq-eqb (told found .number) 0 h)) ∙ same-answer
+
+  pub says-refusal : (told found .number ≡ 0 → ⊥) → t ≡ refusalLine (told found .number) 0 → t ≡ answerText (told j)
+  unfolding answerText
+  says-refusal h a = a ∙ sym (pick-no _ _ _ (ne-eqb (told found .number) 0 h)) ∙ same-answer
+
+-- ---- the line on a plan file
+
+module _ (read : FileRead) (t : List ℕ) where
+  pub verdict-refused : (read .number ≡ 0 → ⊥) → t ≡ refusalLine (read .number) (read .line) → t ≡ verdictOn read
+  unfolding verdictOn
+  verdict-refused n a = a ∙ sym (refused-is read (answerText (answerOf (read .progress .plan))) n)
+
+  pub verdict-told : (a : Answer) → read .number ≡ 0 → a ≡ answerOf (read .progress .plan) → t ≡ answerText a → t ≡ verdictOn read
+  unfolding verdictOn
+  verdict-told a z e s = s ∙ ap answerText e ∙ sym (answered-is read _ z)

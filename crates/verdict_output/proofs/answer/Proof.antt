@@ -1,0 +1,61 @@
+-- Each judgement's line, by what the judgement tells. Assumes nothing.
+use mathlib.Core.Path.{refl}
+use native.Mathlib.Omega.{arith}
+use borrow.Author.Needs.{needs}
+use Rattle.partition.specs.declared.Judgement.the-variants.{Pass, Fail, WrongRange, WrongLink}
+use Rattle.verdict_output.proofs.LineLaws.{says-verdict, says-refusal}
+use Rattle.verdict_output.proofs.answer.Statement.{statement}
+use Rattle.verdict_output.proofs.answer.Tie as tie
+
+enum-told : tie.Need-enum-told
+enum-told c = search needs
+
+line-requires : tie.Need-line-requires
+line-requires c κs = search needs
+
+enum-known-j : tie.Need-enum-known-j
+enum-known-j c = search needs
+
+line-requires-2 : tie.Need-line-requires-2
+line-requires-2 c κs = rw (c .before .j .given .1) at (c .before .before .before .pre)
+
+enum-told-2 : tie.Need-enum-told-2
+enum-told-2 c = search needs
+
+refusal-requires : tie.Need-refusal-requires
+refusal-requires c κs = search needs
+
+enum-told-3 : tie.Need-enum-told-3
+enum-told-3 c = search needs
+
+refusal-requires-2 : tie.Need-refusal-requires-2
+refusal-requires-2 c κs = search needs
+
+returns : tie.Need-returns
+returns c = says-verdict _ Pass _ (c .before .enum-told .given .1) refl (c .line .ensures)
+
+returns-2 : tie.Need-returns-2
+returns-2 c = says-verdict _ (Fail _) _ (c .before .before .j .given .1) refl (c .line2 .ensures)
+
+returns-3 : tie.Need-returns-3
+returns-3 c = says-refusal _ WrongRange _ (c .before .enum-told2 .given .1) (λ z. omega arith) (c .refusal .ensures)
+
+returns-4 : tie.Need-returns-4
+returns-4 c = says-refusal _ WrongLink _ (c .before .enum-told3 .given .1) (λ z. omega arith) (c .refusal2 .ensures)
+
+pub answer-spec : {M : Type 1} → statement M
+answer-spec =
+    tie.close
+    (tie.spec
+    enum-told
+    line-requires
+    enum-known-j
+    line-requires-2
+    enum-told-2
+    refusal-requires
+    enum-told-3
+    refusal-requires-2
+    returns
+    returns-2
+    returns-3
+    returns-4)

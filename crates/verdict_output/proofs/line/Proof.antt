@@ -1,0 +1,53 @@
+use Prim.Native.Nat.{_≤_}
+use lib.ListN.{length}
+use native.Mathlib.Omega.{arith}
+use Rattle.text.proofs.Laws.{then, whole}
+use Rattle.verdict_output.specs.Verdict.{verdictLine}
+use Rattle.verdict_output.proofs.LineLaws.{low, verdict-length}
+-- The line's parts, one after the other. Assumes nothing.
+use borrow.Author.Needs.{needs}
+use Rattle.verdict_output.proofs.line.Statement.{statement}
+use Rattle.verdict_output.proofs.line.Tie as tie
+
+empty-requires : tie.Need-empty-requires
+empty-requires c κs = search needs
+
+byte-requires : tie.Need-byte-requires
+byte-requires c κs = search needs
+
+byte-requires-2 : tie.Need-byte-requires-2
+byte-requires-2 c κs = search needs
+
+triple-requires : tie.Need-triple-requires
+triple-requires c κs = search needs
+
+triple-requires-2 : tie.Need-triple-requires-2
+triple-requires-2 c κs = search needs
+
+triple-requires-3 : tie.Need-triple-requires-3
+triple-requires-3 c κs = search needs
+
+raw-requires : tie.Need-raw-requires
+raw-requires c κs = search needs
+
+returns : tie.Need-returns
+unfolding verdictLine
+returns c = let a = c .before .before .before .before .before .before .before .args in
+    let p = c .before .before .before .before .before .before .before .pre in
+    let short : length (verdictLine (a .failed) (a .f) (a .l) (a .r)) ≤ 272 = omega (arith, verdict-length (a .failed) (a .f) (a .l) (a .r)) in
+    let head = then _ _ _ (c .before .before .before .before .before .byte .ensures) (c .before .before .before .before .byte2 .ensures) in
+    let sets = then _ _ _ (then _ _ _ (then _ _ _ head (low _ (a .f) (p .0) (c .before .before .before .triple .ensures))) (low _ (a .l) (p .1) (c .before .before .triple2 .ensures))) (low _ (a .r) (p .2) (c .before .triple3 .ensures)) in
+    whole (c .before .before .before .before .before .before .empty .ensures) (then _ _ _ sets (c .raw .ensures)) short
+
+pub line-spec : {M : Type 1} → statement M
+line-spec =
+    tie.close
+    (tie.spec
+    empty-requires
+    byte-requires
+    byte-requires-2
+    triple-requires
+    triple-requires-2
+    triple-requires-3
+    raw-requires
+    returns)

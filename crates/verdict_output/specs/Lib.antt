@@ -1,0 +1,2 @@
+-- What the contract of the verdict's text cites.
+pub mod Verdict

@@ -1,0 +1,26 @@
+-- What `verdict` prints on any file (document 01, "Hexadecimal lines"). Assumes nothing.
+use Prim.Native.Nat.{ℕ}
+use mathlib.Core.List.{List, [], _∷_, _++_}
+use lib.Dec.{eqb}
+use Rattle.sets.specs.Tests.{pick}
+use Rattle.sets.specs.Sets.{Set}
+use Rattle.partition.specs.Answer as partition
+use Rattle.text.specs.Digits.{hexByte, hexTriple}
+use Rattle.frames.specs.declared.FileRead.{FileRead}
+use Rattle.frames.specs.Reading.{planReading, fileRead}
+use Rattle.output.specs.OnFile.{refusalLine, textOn}
+
+-- 81: 00 pass or 01 fail, then F, L, R
+unfoldable pub verdictLine : (failed : ℕ) (f l r : Set) → List ℕ
+verdictLine failed f l r = hexByte 129 ++ hexByte failed ++ hexTriple f ++ hexTriple l ++ hexTriple r ++ (10 ∷ [])
+
+-- the verdict's line, or the refusal of a record that is no plan
+unfoldable pub answerText : partition.Answer → List ℕ
+answerText a = pick (eqb (a .number) 0) (verdictLine (a .failed) (a .f) (a .l) (a .r)) (refusalLine (a .number) 0)
+
+-- the verdict on the file's plan
+unfoldable pub verdictOn : (read : FileRead) → List ℕ
+verdictOn read = textOn read (answerText (partition.answerOf (read .progress .plan)))
+
+unfoldable pub verdictText : (file : List ℕ) → List ℕ
+verdictText file = verdictOn (fileRead (planReading file))

@@ -1,0 +1,59 @@
+// What `verdict` prints: from a plan file's bytes to the verdict's line.
+ghost use mathlib.Core.Path.{_≡_};
+ghost use Prim.Native.Nat.{_<_};
+ghost use lib.ListN.{length};
+ghost use Rattle.partition.specs.Answer.{told};
+ghost use Rattle.text.specs.Texts.{held, putInto};
+ghost use Rattle.frames.specs.Reading.{planReading, fileRead};
+ghost use Rattle.output.specs.OnFile.{answerOn};
+ghost use Rattle.verdict_output.specs.Verdict.{verdictLine, answerText, verdictOn, verdictText};
+use frames::FileRead;
+use output::Written;
+use partition::Judgement;
+use text::Text;
+
+// 81: pass or fail, and the witness.
+fn line(failed: u8, f: u32, l: u32, r: u32) -> Text
+    requires { ⌜ (f < 16777216) × (l < 16777216) × (r < 16777216) ⌝ }
+    ensures { λ x. ⌜ held x ≡ verdictLine failed f l r ⌝ }
+{
+    text::empty()
+        .byte(129)
+        .byte(failed)
+        .triple(f)
+        .triple(l)
+        .triple(r)
+        .raw(10)
+}
+
+// The verdict's line, or the refusal of a record that is no plan.
+fn answer(j: Judgement) -> Text
+    requires { ⌜ (told j .f < 16777216) × (told j .l < 16777216) × (told j .r < 16777216) ⌝ }
+    ensures { λ r. ⌜ held r ≡ answerText (told j) ⌝ }
+{
+    match j {
+        Judgement::Pass => line(0, 0, 0, 0),
+        Judgement::Fail(w) => line(1, w.f, w.l, w.r),
+        Judgement::WrongRange => output::refusal(4, 0),
+        Judgement::WrongLink => output::refusal(5, 0),
+    }
+}
+
+// The one line on a plan file.
+fn of_plan(read: FileRead) -> Text
+    ensures { λ r. ⌜ held r ≡ verdictOn read ⌝ }
+{
+    if read.number != 0 {
+        return output::refusal(read.number, read.line);
+    }
+    answer(partition::verdict(read.progress.plan))
+}
+
+// What `verdict` prints on a plan file, into the lent buffer.
+pub fn verdict_text(text: &[u8], out: &mut [u8]) -> Written
+    ensures { λ r. ⌜ r ≡ answerOn (fileRead (planReading (now (text .entry)))) (verdictText (now (text .entry))) (length (now (out .entry))) ⌝ }
+    ensures { λ r. ⌜ now (out .exit) ≡ putInto (verdictText (now (text .entry))) (now (out .entry)) ⌝ }
+{
+    let read = frames::read_plan(text);
+    output::put(read, of_plan(read), out)
+}
