@@ -18,7 +18,7 @@ use Rattle.sets.proofs.Laws.{equal-or-not, below-or-not, mem-zero, mem-above, s
 use Rattle.quorum.specs.Quorum.{inRange, hearsSoundly}
 use Rattle.plan.specs.declared.Plan.{Plan}
 use Rattle.plan.specs.Plan.{heardBy, hears, rowSound, linksSound, causeOf}
-use Rattle.plan.proofs.Laws.{Sound, sound, tests}
+use Rattle.plan.proofs.Laws.{Sound, sound, tests, tested}
 use Rattle.faults.specs.Check.{faultCauseOf}
 use Rattle.lines.specs.declared.Frame.{Frame}
 use Rattle.lines.specs.declared.Frame.the-variants.{Foreign, Unknown, Head, Link, FaultSet, Start, Message}
@@ -32,8 +32,7 @@ abbrev pub Whole : Plan → Type 0
 Whole p = (causeOf p ≡ 0) × (length (p .rows) ≡ 20)
 
 cause-none : (p : Plan) → inRange (p .n) (p .source) (p .f) ≡ true → linksSound p ≡ true → causeOf p ≡ 0
-unfolding causeOf
-cause-none p r l = pick-yes _ _ _ r ∙ pick-yes _ _ _ l
+cause-none p r l = tested p r l
 
 -- ---- the head: no links yet
 
