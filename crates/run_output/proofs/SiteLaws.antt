@@ -20,7 +20,7 @@ use Rattle.terminal.specs.Rule.{start}
 use Rattle.plan.proofs.Laws.{sound}
 use Rattle.propagation.specs.Run.{site, scriptOf}
 use Rattle.simulation.specs.Answer.{startSound, runCause, arrayAfter}
-use Rattle.simulation.proofs.Causes.{cause-played}
+use Rattle.simulation.proofs.Causes.{fits, cause-played}
 use Rattle.simulation.proofs.Promise.{array-at}
 use Rattle.frames.specs.declared.Progress.{Progress}
 use Rattle.frames.specs.declared.FileRead.{FileRead}
@@ -109,7 +109,7 @@ module _ (p : Progress) (play : Playable p) (words : List ℕ) (room : length wo
   not-refused =
       sym
       (cause-played (p .plan) (p .faulty) (p .value) (p .rounds) _ _ (play .bad-set) (play .in-range)
-      (and-i _ _ (eq-eqb _ _ (length-take-le end words end-within)) (eq-eqb (p .plan .n) (p .plan .n) refl)))
+      (fits (p .plan) (p .rounds) _ _ (length-take-le end words end-within) refl))
 
   -- the records are those of the rules, and so are the lines
   pub ran-lines : (records : List Record) → records ≡ arrayAfter (p .plan) (p .faulty) (p .value) (p .rounds) (take end words)

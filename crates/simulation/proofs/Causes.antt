@@ -8,7 +8,7 @@ use types.Run.{OneOf, miss}
 use denote.Enum.Declared.{tagOf}
 use lib.Dec.{eqb}
 use borrow.Author.Tests.{eqb-true, eqb-false, leb-true, eq-eqb}
-use Rattle.sets.proofs.Bools.{and-l, and-r, not-i, not-e, not-yes, not-no, pick-yes, pick-no}
+use Rattle.sets.proofs.Bools.{and-l, and-r, and-i, not-i, not-e, not-yes, not-no, pick-yes, pick-no}
 use Rattle.sets.proofs.Causes.{cause-here, cause-later, cause-last, cause-none, given-passes, given-decides, given-none}
 use Rattle.plan.specs.declared.Plan.{Plan}
 use Rattle.plan.specs.Plan.{causeOf}
@@ -29,6 +29,10 @@ not-played WrongMember h = refl
 not-played OverBound h = refl
 not-played WrongStart h = refl
 not-played WrongLength h = refl
+
+pub fits : (p : Plan) (rounds words places : ℕ) → words ≡ rounds * (p .n * p .n) → places ≡ p .n → listsFit p rounds words places ≡ true
+unfolding listsFit
+fits p rounds words places e q = and-i _ _ (eq-eqb _ _ e) (eq-eqb _ _ q)
 
 module _ (p : Plan) (faulty value rounds words places : ℕ) where
   pub cause-played : faultCauseOf p faulty ≡ 0 → startSound value rounds ≡ true → listsFit p rounds words places ≡ true

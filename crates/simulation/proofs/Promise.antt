@@ -27,8 +27,8 @@ use Rattle.sets.proofs.Tables.{table-at}
 use Rattle.faults.proofs.Laws.{fault-is}
 use Rattle.simulation.specs.declared.Turn.{Turn}
 use Rattle.simulation.specs.Turns.{firstTurn, playedAfter, CanPlay, leftAfter}
-use Rattle.simulation.specs.Answer.{startSound, listsFit, runCause, turnsOf, recordsAfter, arrayAfter, Demand3Holds, Defeated, noWords}
-use Rattle.simulation.proofs.Causes.{cause-played, accepted-run, turns-played, turns-refused}
+use Rattle.simulation.specs.Answer.{startSound, runCause, turnsOf, recordsAfter, arrayAfter, Demand3Holds, Defeated, noWords}
+use Rattle.simulation.proofs.Causes.{fits, cause-played, accepted-run, turns-played, turns-refused}
 use Rattle.simulation.proofs.Meaning.{walk-is, walk-array, turn-placed}
 
 -- records that are, terminal by terminal, those of the rules have demand 3
@@ -164,12 +164,12 @@ module _ (p : Plan) (c : causeOf p ≡ 0) (value : ℕ) (v : 1 ≤ value) (faile
   quiet round sender hearer first last k m = zeros ((p .n - 1) * (p .n * p .n)) _
 
   called : runCause p listed value (p .n - 1) (length words) (length before) ≡ 0
-  unfolding startSound listsFit
+  unfolding startSound
   called =
       sym
       (cause-played p listed value (p .n - 1) (length words) (length before) (fault-is p listed c (accepts-e p listed (verdict p .l) (verdict p .r) (demand3 p c .witness failed) .fault))
       (and-i _ _ (not-i (ne-eqb value 0 (λ z. omega arith))) (le-leb (p .n - 1) 40 (let t = sound p c .twenty in omega arith)))
-      (and-i _ _ (eq-eqb _ _ (length-replicate {A = ℕ} ((p .n - 1) * (p .n * p .n)) 0)) (eq-eqb _ _ places)))
+      (fits p (p .n - 1) (length words) (length before) (length-replicate {A = ℕ} ((p .n - 1) * (p .n * p .n)) 0) places))
 
   pub defeated-run : Defeated p value words before
   defeated-run = record {
