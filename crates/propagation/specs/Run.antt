@@ -9,8 +9,6 @@ use lib.ListN.{getD}
 use Rattle.sets.specs.Tests.{pick}
 use Rattle.sets.specs.Tables.{table}
 use Rattle.sets.specs.Sets.{Terminal, Set, mem}
-use Rattle.terminal.specs.declared.State.{State}
-use Rattle.terminal.specs.declared.State.the-variants.{Waiting, Taken}
 use Rattle.terminal.specs.declared.Record.{Record}
 use Rattle.terminal.specs.Rule.{Layout, Round, start, sourceStart, step, saysIn}
 use Rattle.plan.specs.declared.Plan.{Plan}
