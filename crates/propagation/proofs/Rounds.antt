@@ -38,32 +38,29 @@ pub says-then-at : (r at v : ℕ) (s : State) → s ≡ Taken at v → at ≡ r 
 says-then-at r at v s e q = ap (saysIn (suc r)) e ∙ ap (λ (x : ℕ). saysIn (suc x) (Taken at v)) (sym q) ∙ says-then at v
 
 module _ (p : Plan) (faulty value : ℕ) (script : Script) where
-  abbrev pub at : ℕ → ℕ → Record
-  at r b = site p faulty value script r b
-
   -- what terminal b hears from terminal j in round r + 1
   abbrev pub word : ℕ → ℕ → ℕ → ℕ
   word r b j = heardFrom p faulty script (suc r) (sites p faulty value script r) b j
 
-  pub at-start : (b : ℕ) → b < p .n → at 0 b ≡ startRecord p value b
+  pub at-start : (b : ℕ) → b < p .n → site p faulty value script 0 b ≡ startRecord p value b
   unfolding site sites
   at-start b k = table-at (p .n) (startRecord p value) start b k
 
-  pub source-at-start : p .source < p .n → at 0 (p .source) ≡ sourceStart value
+  pub source-at-start : p .source < p .n → site p faulty value script 0 (p .source) ≡ sourceStart value
   unfolding startRecord
   source-at-start k = at-start (p .source) k ∙ pick-yes _ _ _ (eq-eqb (p .source) (p .source) refl)
 
-  pub other-at-start : (b : ℕ) → b < p .n → (b ≡ p .source → ⊥) → at 0 b ≡ start
+  pub other-at-start : (b : ℕ) → b < p .n → (b ≡ p .source → ⊥) → site p faulty value script 0 b ≡ start
   unfolding startRecord
   other-at-start b k z = at-start b k ∙ pick-no _ _ _ (ne-eqb b (p .source) z)
 
   pub at-next : (r b : ℕ) → b < p .n → mem b faulty ≡ false
-      → at (suc r) b ≡ stepIn p b (word r b) (at r b)
+      → site p faulty value script (suc r) b ≡ stepIn p b (word r b) (site p faulty value script r b)
   unfolding site sites played recordIn
   at-next r b k g = table-at (p .n) (recordIn p faulty script (suc r) (sites p faulty value script r)) start b k ∙ pick-no _ _ _ g
 
   -- a terminal of the fault set stays waiting, round 0, nothing heard
-  pub at-faulty : (r b : ℕ) → b < p .n → mem b faulty ≡ true → at (suc r) b ≡ start
+  pub at-faulty : (r b : ℕ) → b < p .n → mem b faulty ≡ true → site p faulty value script (suc r) b ≡ start
   unfolding site sites played recordIn
   at-faulty r b k g = table-at (p .n) (recordIn p faulty script (suc r) (sites p faulty value script r)) start b k ∙ pick-yes _ _ _ g
 
@@ -72,7 +69,7 @@ module _ (p : Plan) (faulty value : ℕ) (script : Script) where
   sites-length zero = table-length (p .n) (startRecord p value)
   sites-length (suc r) = table-length (p .n) (recordIn p faulty script (suc r) (sites p faulty value script r))
 
-  pub word-good : (r b j : ℕ) → hears p b j ≡ true → mem j faulty ≡ false → word r b j ≡ saysIn (suc r) (at r j .state)
+  pub word-good : (r b j : ℕ) → hears p b j ≡ true → mem j faulty ≡ false → word r b j ≡ saysIn (suc r) (site p faulty value script r j .state)
   unfolding heardFrom site
   word-good r b j h g = pick-yes _ _ _ h ∙ pick-no _ _ _ g
 

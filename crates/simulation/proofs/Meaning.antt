@@ -24,7 +24,7 @@ use Rattle.plan.proofs.Laws.{sound, tests, row-of}
 use Rattle.closure.specs.FaultSet.{isFaultSet}
 use Rattle.propagation.specs.Run.{Script, startRecord, heardFrom, sites, site, scriptOf}
 use Rattle.sets.specs.Tables.{table}
-use Rattle.propagation.proofs.Rounds.{at, word, at-start, at-next, at-faulty, sites-length}
+use Rattle.propagation.proofs.Rounds.{word, at-start, at-next, at-faulty, sites-length}
 use Rattle.sets.proofs.Tables.{table-length, table-at}
 use Rattle.propagation.proofs.Safety.{safe, not-both}
 use Rattle.propagation.proofs.Liveness.{source-taken}
@@ -37,7 +37,7 @@ module _ (p : Plan) (checked : plan.causeOf p ≡ 0) (faulty value : ℕ) (layou
   script = scriptOf (p .n) words
 
   abbrev here : ℕ → ℕ → Record
-  here r b = at p faulty value script r b
+  here r b = site p faulty value script r b
 
   -- no step of a good terminal is refused before round 40
   cause-none : (q b m : ℕ) → q < 40 → b < p .n → mem b faulty ≡ false → m ≡ p .n

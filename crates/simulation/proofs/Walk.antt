@@ -16,7 +16,6 @@ use Rattle.terminal.specs.declared.Record.{Record}
 use Rattle.terminal.specs.Rule.{start, saysIn}
 use Rattle.plan.specs.declared.Plan.{Plan}
 use Rattle.plan.specs.Plan as plan
-use Rattle.propagation.proofs.Rounds.{at}
 use Rattle.simulation.specs.declared.Turn.{Turn}
 use Rattle.simulation.specs.declared.Made.{Made}
 use Rattle.simulation.specs.Turns.{recordOf, nextTurn, madeOf, Played, playOne, playedAfter, firstTurn, Ready}

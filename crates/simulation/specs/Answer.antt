@@ -8,6 +8,7 @@ use lib.ListN.{length, getD, replicate}
 use Rattle.sets.specs.Tests.{_and_, pick}
 use Rattle.sets.specs.Causes.{_gives_, firstCause, given}
 use Rattle.sets.specs.Sets.{Set, mem}
+use Rattle.quorum.specs.Quorum.{mostTerminals}
 use Rattle.terminal.specs.declared.State.the-variants.{Waiting, Taken}
 use Rattle.terminal.specs.declared.Record.{Record}
 use Rattle.terminal.specs.Rule.{Layout, start}
@@ -59,7 +60,7 @@ recordsAfter p faulty value rounds words before =
 -- for every b where the call is refused
 unfoldable pub arrayAfter : Plan → (faulty : Set) (value : Layout) (rounds : ℕ) (words : List Layout) → List Record
 arrayAfter p faulty value rounds words =
-    pick (eqb (runCause p faulty value rounds (length words) (p .n)) 0) (table 20 (site p faulty value (scriptOf (p .n) words) rounds)) (table 20 (λ b. start))
+    pick (eqb (runCause p faulty value rounds (length words) (p .n)) 0) (table mostTerminals (site p faulty value (scriptOf (p .n) words) rounds)) (table mostTerminals (λ b. start))
 
 -- ---- demand 3 of the run itself, for every accepted call: a good terminal is one of the plan outside the fault set
 

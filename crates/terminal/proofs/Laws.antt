@@ -26,6 +26,10 @@ use Rattle.terminal.proofs.Notes.{noted-length, noted-at, noted-change,
 unfoldable pub Room : ℕ → Record → Type 0
 Room m r = m ≤ length (r .notes)
 
+pub room-for : (m n : ℕ) (r : Record) → n ≤ m → Room m r → Room n r
+unfolding Room
+room-for m n r l h = omega arith
+
 -- why a waiting terminal took v: it has it from the source, or from more than f neighbours
 unfoldable pub Reason : ℕ → ℕ → ℕ → ℕ → Record → ℕ → Type 0
 Reason n source f heard r v =

@@ -7,7 +7,7 @@ use lib.Dec.{eqb}
 use lib.ListN.{getD, replicate}
 use Rattle.sets.specs.Tests.{_and_, pick}
 use Rattle.sets.specs.Sets.{Terminal, Set, mem}
-use Rattle.quorum.specs.Quorum.{enough}
+use Rattle.quorum.specs.Quorum.{mostTerminals, enough}
 use Rattle.terminal.specs.declared.State.{State}
 use Rattle.terminal.specs.declared.State.the-variants.{Waiting, Taken}
 use Rattle.terminal.specs.declared.Record.{Record}
@@ -22,10 +22,10 @@ Round = ℕ
 -- ---- the start: every record is at round 0 with nothing heard, the source's too
 
 abbrev pub start : Record
-start = record { state = Waiting; round = 0; notes = replicate 20 0 }
+start = record { state = Waiting; round = 0; notes = replicate mostTerminals 0 }
 
 abbrev pub sourceStart : Layout → Record
-sourceStart value = record { state = Taken 0 value; round = 0; notes = replicate 20 0 }
+sourceStart value = record { state = Taken 0 value; round = 0; notes = replicate mostTerminals 0 }
 
 -- ---- notes: for each neighbour it hears, the first value that this neighbour said
 
