@@ -13,6 +13,7 @@ use borrow.Author.Tests.{eq-eqb, leb-true}
 use Rattle.sets.specs.Sets.{mem}
 use Rattle.sets.proofs.Bools.{and-r, and-i, pick-yes, pick-no, pick-case}
 use Rattle.sets.proofs.Laws.{equal-or-not}
+use Rattle.quorum.specs.Words as words
 use Rattle.terminal.specs.declared.State.{State}
 use Rattle.terminal.specs.declared.State.the-variants.{Waiting, Taken}
 use Rattle.terminal.specs.declared.Record.{Record}
@@ -124,7 +125,7 @@ module _ (p : Progress) (play : Playable p) (words : List ℕ) (room : length wo
 -- ---- the lines on a run file
 
 pub run-playable : (file : List ℕ) → runReading file .number ≡ 0 → Playable (runReading file .progress)
-unfolding startSound
+unfolding startSound words.startSound
 run-playable file h =
     let a = run-accepted file h in
     record {

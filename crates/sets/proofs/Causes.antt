@@ -2,7 +2,7 @@
 use Prim.Native.Nat.{ℕ}
 use mathlib.Core.Path.{_≡_, refl}
 use mathlib.Core.Bool.{Bool, true, false}
-use mathlib.Core.List.{List, _∷_}
+use mathlib.Core.List.{List, [], _∷_}
 use Rattle.sets.specs.Tests.{pick}
 use Rattle.sets.specs.Causes.{Cause, _gives_, firstCause}
 use Rattle.sets.proofs.Bools.{pick-yes, pick-no}
@@ -15,6 +15,11 @@ cause-here test number rest h = pick-yes _ _ _ h
 pub cause-later : (test : Bool) (number : ℕ) (rest : List Cause) → test ≡ false → firstCause (test gives number ∷ rest) ≡ firstCause rest
 unfolding firstCause
 cause-later test number rest h = pick-no _ _ _ h
+
+-- the last row: nothing is refused where its test fails too
+pub cause-last : (test : Bool) (number : ℕ) → test ≡ false → firstCause (test gives number ∷ []) ≡ 0
+unfolding firstCause
+cause-last test number h = pick-no _ _ _ h
 
 -- where there is no cause, no row applies
 pub cause-none : (test : Bool) (number : ℕ) (rest : List Cause) → (number ≡ 0 → ⊥) → firstCause (test gives number ∷ rest) ≡ 0
