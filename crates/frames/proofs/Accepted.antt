@@ -1,7 +1,7 @@
 -- What an accepted file tells: its plan is sound, its bad set is one of the plan, its value and rounds are in range. Assumes nothing.
 use Prim.Native.Nat.{ℕ, _+_, _^_, _≤_, _<_}
 use mathlib.Core.Path.{_≡_, refl, sym, ap, _∙_}
-use mathlib.Core.Logic.{_⊎_, inl, inr}
+use mathlib.Core.Logic.{_⊎_, inl, inr, ⊎-elim}
 use mathlib.Core.Bool.{Bool, true, false, not}
 use mathlib.Core.List.{List, [], _∷_, _++_}
 use native.Mathlib.Nat.{lt-of-lt-of-le}
@@ -10,29 +10,35 @@ use lib.Dec.{eqb, leb, ltb}
 use lib.ListN.{length, getD, set, replicate, length-append, length-set, length-replicate, getD-replicate}
 use lib.Pow.{pow-mono, pow-pos}
 use lib.Seq.{getD-set-same, getD-set-other}
-use borrow.Author.Tests.{eq-eqb, ne-eqb, eqb-true, eqb-false, lt-ltb, ltb-true, leb-true}
-use Rattle.sets.specs.Tests.{_and_, _or_, pick}
+use borrow.Author.Tests.{eq-eqb, ne-eqb, eqb-true, eqb-false, lt-ltb, leb-true, leb-false}
+use Rattle.sets.specs.Tests.{_and_, _or_}
+use Rattle.sets.specs.Causes.{_gives_, firstCause}
 use Rattle.sets.specs.Sets.{mem, mask, with, within}
-use Rattle.sets.proofs.Bools.{and-l, and-r, and-i, and-yes, or-no, not-i, not-e, not-no, pick-yes, pick-case}
+use Rattle.sets.proofs.Bools.{clash, and-l, and-i, and-yes, or-no, not-i, not-no, pick-yes, pick-case}
+use Rattle.sets.proofs.Causes.{cause-here, cause-none}
 use Rattle.sets.proofs.Laws.{equal-or-not, below-or-not, mem-zero, mem-above, set-ext, mask-lt, mem-mask, mem-mask-above, all-at, all-i}
 use Rattle.quorum.specs.Quorum.{inRange, hearsSoundly}
+use Rattle.quorum.specs.Words.{startSound}
 use Rattle.plan.specs.declared.Plan.{Plan}
 use Rattle.plan.specs.Plan.{heardBy, hears, rowSound, linksSound, causeOf}
 use Rattle.plan.proofs.Laws.{Sound, sound, tests, tested}
 use Rattle.faults.specs.Check.{faultCauseOf}
+use Rattle.lines.specs.declared.Rounds.{Rounds}
 use Rattle.lines.specs.declared.Frame.{Frame}
 use Rattle.lines.specs.declared.Frame.the-variants.{Foreign, Unknown, Head, Link, FaultSet, Start, Message}
 use Rattle.lines.specs.Frames.{frameOf}
+use Rattle.frames.specs.declared.Stage.{Stage}
+use Rattle.frames.specs.declared.Stage.the-variants.{Nothing, Links, Faults, Words}
 use Rattle.frames.specs.declared.Progress.{Progress}
 use Rattle.frames.specs.Lines.{Line, ended, cut, lastLine, linesFrom}
-use Rattle.frames.specs.Reading.{nothingRead, noWords, headCause, linkCause, faultSetCause, startCause, messageCause, causeIn, linked, after, wordsAfter, Reading, refusal, told, reading, whole, planReading, runReading}
+use Rattle.frames.specs.Reading.{mostBytes, planKinds, runKinds, stageOf, isAt, roundsOf, nothingRead, noWords, headCause, linkCause, faultSetCause, startCause, messageCause, causeIn, linked, after, wordsAfter, Reading, refusal, told, reading, whole, planReading, runReading}
 
 -- a plan that the check finds sound, with its 20 rows
 abbrev pub Whole : Plan → Type 0
 Whole p = (causeOf p ≡ 0) × (length (p .rows) ≡ 20)
 
-cause-none : (p : Plan) → inRange (p .n) (p .source) (p .f) ≡ true → linksSound p ≡ true → causeOf p ≡ 0
-cause-none p r l = tested p r l
+plan-sound : (p : Plan) → inRange (p .n) (p .source) (p .f) ≡ true → linksSound p ≡ true → causeOf p ≡ 0
+plan-sound p r l = tested p r l
 
 -- ---- the head: no links yet
 
@@ -45,7 +51,7 @@ zero-sound n b =
 head-whole : (n source f : ℕ) → inRange n source f ≡ true → Whole (record { n = n; source = source; f = f; rows = replicate 20 0 })
 unfolding linksSound heardBy
 head-whole n source f r = (
-  cause-none (record { n = n; source = source; f = f; rows = replicate 20 0 }) r
+  plan-sound (record { n = n; source = source; f = f; rows = replicate 20 0 }) r
       (all-i 20 (λ b. rowSound n b (getD (replicate 20 0) b 0)) (λ b h. ap (rowSound n b) (getD-replicate {A = ℕ} 20 b 0 0 h) ∙ zero-sound n b)),
   length-replicate {A = ℕ} 20 0,
 )
@@ -95,67 +101,65 @@ module _ (p : Plan) (w : Whole p) (from to : ℕ) (f : from < p .n) (t : to < p 
   link-whole : Whole (linked p from to)
   unfolding linked linksSound
   link-whole = (
-    cause-none (linked p from to) (tests p (w .0) .0)
+    plan-sound (linked p from to) (tests p (w .0) .0)
         (all-i 20 (λ b. rowSound (p .n) b (heardBy (linked p from to) b)) (λ b h. rows-kept b h (equal-or-not b to))),
     length-set (p .rows) to (with 32 (heardBy p to) from) ∙ w .1,
   )
 
 -- ---- an accepted frame
 
--- a choice that is 0 where its second case is not
-pub choice-zero : (b : Bool) (x n : ℕ) → (n ≡ 0 → ⊥) → pick b x n ≡ 0 → (b ≡ true) × (x ≡ 0)
-unfolding pick
-choice-zero true x n h e = (refl, e)
-choice-zero false x n h e = absurd (h e)
+or-none : (a b : Bool) → a or b ≡ false → (a ≡ false) × (b ≡ false)
+unfolding _or_
+or-none true b h = clash refl h
+or-none false b h = (refl, h)
 
-choice-none : (b : Bool) (n : ℕ) → (n ≡ 0 → ⊥) → pick b n 0 ≡ 0 → b ≡ false
-unfolding pick
-choice-none true n h e = absurd (h e)
-choice-none false n h e = refl
+-- a row whose number is a cause of its own
+row-none : (cause : ℕ) → firstCause (not (eqb cause 0) gives cause ∷ []) ≡ 0 → cause ≡ 0
+row-none cause h = ⊎-elim (λ z. z) (λ n. sym (cause-here _ _ _ (not-i (ne-eqb cause 0 n))) ∙ h) (equal-or-not cause 0)
 
 module _ (p : Progress) (words : List ℕ) where
-  stage-of : (stage cause : ℕ) → pick (eqb (p .stage) stage) cause 3 ≡ 0 → (p .stage ≡ stage) × (cause ≡ 0)
-  stage-of stage cause h =
-      let c = choice-zero (eqb (p .stage) stage) cause 3 (λ z. omega arith) h in
-      (eqb-true (p .stage) stage (c .0), c .1)
+  at-stage : (stage : Stage) → not (isAt stage p) ≡ false → stageOf (p .stage) ≡ stageOf stage
+  unfolding isAt
+  at-stage stage h = eqb-true _ _ (not-no _ h)
 
-  pub head-accepted : (n source f : ℕ) → causeIn p words (Head n source f) ≡ 0 → (p .stage ≡ 0) × (inRange n source f ≡ true)
+  pub head-accepted : (n source f : ℕ) → causeIn p words (Head n source f) ≡ 0 → (stageOf (p .stage) ≡ 0) × (inRange n source f ≡ true)
   unfolding causeIn headCause
   head-accepted n source f h =
-      let c = stage-of 0 (pick (inRange n source f) 0 4) h in
-      (c .0, choice-zero (inRange n source f) 0 4 (λ z. omega arith) (c .1) .0)
+      let a = cause-none _ 3 _ (λ z. omega arith) h in
+      let b = cause-none _ 4 _ (λ z. omega arith) (a .1) in
+      (at-stage Nothing (a .0), not-no _ (b .0))
 
   pub link-accepted : (from to : ℕ) → causeIn p words (Link from to) ≡ 0
-      → (p .stage ≡ 1) × (from < p .plan .n) × (to < p .plan .n) × (from ≡ to → ⊥) × (hears (p .plan) to from ≡ false)
+      → (stageOf (p .stage) ≡ 1) × (from < p .plan .n) × (to < p .plan .n) × (from ≡ to → ⊥) × (hears (p .plan) to from ≡ false)
   unfolding causeIn linkCause
   link-accepted from to h =
-      let c = stage-of 1 (pick (ltb from (p .plan .n) and ltb to (p .plan .n) and not (eqb from to)) (pick (hears (p .plan) to from) 6 0) 5) h in
-      let d = choice-zero (ltb from (p .plan .n) and ltb to (p .plan .n) and not (eqb from to)) (pick (hears (p .plan) to from) 6 0) 5
-      (λ z. omega arith) (c .1) in (
-        c .0,
-        ltb-true from (p .plan .n) (and-l _ _ (d .0)),
-        ltb-true to (p .plan .n) (and-l _ _ (and-r _ _ (d .0))),
-        eqb-false from to (not-e (eqb from to) (and-r _ _ (and-r _ _ (d .0)))),
-        choice-none (hears (p .plan) to from) 6 (λ z. omega arith) (d .1),
-      )
+      let a = cause-none _ 3 _ (λ z. omega arith) h in
+      let b = cause-none _ 5 _ (λ z. omega arith) (a .1) in
+      let c = cause-none _ 6 _ (λ z. omega arith) (b .1) in
+      let d = or-none _ _ (b .0) in
+      let e = or-none _ _ (d .1) in
+      (at-stage Links (a .0), leb-false (p .plan .n) from (d .0), leb-false (p .plan .n) to (e .0), eqb-false from to (e .1), c .0)
 
-  pub fault-set-accepted : (s : ℕ) → causeIn p words (FaultSet s) ≡ 0 → (p .stage ≡ 1) × (faultCauseOf (p .plan) s ≡ 0)
+  pub fault-set-accepted : (s : ℕ) → causeIn p words (FaultSet s) ≡ 0 → (stageOf (p .stage) ≡ 1) × (faultCauseOf (p .plan) s ≡ 0)
   unfolding causeIn faultSetCause
-  fault-set-accepted s h = stage-of 1 (faultCauseOf (p .plan) s) h
+  fault-set-accepted s h =
+      let a = cause-none _ 3 _ (λ z. omega arith) h in
+      (at-stage Links (a .0), row-none (faultCauseOf (p .plan) s) (a .1))
 
-  pub start-accepted : (value rounds : ℕ) → causeIn p words (Start value rounds) ≡ 0
-      → (p .stage ≡ 2) × (not (eqb value 0) and leb rounds 40 ≡ true)
+  pub start-accepted : (value : ℕ) (rounds : Rounds) → causeIn p words (Start value rounds) ≡ 0
+      → (stageOf (p .stage) ≡ 2) × (startSound value (roundsOf rounds) ≡ true)
   unfolding causeIn startCause
   start-accepted value rounds h =
-      let c = stage-of 2 (pick (not (eqb value 0) and leb rounds 40) 0 9) h in
-      (c .0, choice-zero (not (eqb value 0) and leb rounds 40) 0 9 (λ z. omega arith) (c .1) .0)
+      let a = cause-none _ 3 _ (λ z. omega arith) h in
+      let b = cause-none _ 9 _ (λ z. omega arith) (a .1) in
+      (at-stage Faults (a .0), not-no _ (b .0))
 
-  pub message-accepted : (round from to value : ℕ) → causeIn p words (Message round from to value) ≡ 0 → p .stage ≡ 3
+  pub message-accepted : (round from to value : ℕ) → causeIn p words (Message round from to value) ≡ 0 → stageOf (p .stage) ≡ 3
   unfolding causeIn messageCause
-  message-accepted round from to value h = stage-of 3 _ h .0
+  message-accepted round from to value h = at-stage Words (cause-none _ 3 _ (λ z. omega arith) h .0)
 
   -- an accepted frame is the first or a later one: something is known after it
-  pub frame-stage : (frame : Frame) → causeIn p words frame ≡ 0 → after p frame .stage ≡ 0 → ⊥
+  pub frame-stage : (frame : Frame) → causeIn p words frame ≡ 0 → stageOf (after p frame .stage) ≡ 0 → ⊥
   unfolding causeIn after
   frame-stage Foreign h z = omega arith
   frame-stage Unknown h z = omega arith
@@ -166,7 +170,7 @@ module _ (p : Progress) (words : List ℕ) where
   frame-stage (Message round from to value) h z = omega (arith, message-accepted round from to value h)
 
   -- what is known once something was read is a whole plan
-  pub frame-whole : (frame : Frame) → ((p .stage ≡ 0 → ⊥) → Whole (p .plan)) → causeIn p words frame ≡ 0 → Whole (after p frame .plan)
+  pub frame-whole : (frame : Frame) → ((stageOf (p .stage) ≡ 0 → ⊥) → Whole (p .plan)) → causeIn p words frame ≡ 0 → Whole (after p frame .plan)
   unfolding causeIn after
   frame-whole Foreign i h = absurd (omega arith)
   frame-whole Unknown i h = absurd (omega arith)
@@ -190,11 +194,11 @@ some-line line (b ∷ text) h =
     (λ t e. let z : _≡_ {A = ℕ} 0 1 = cc in omega arith) (λ t. some-line (line ++ (b ∷ [])) text (simp length-append (omega arith)))
 
 module _ (I : Progress → Type 0)
-    (kept : (p : Progress) (words : List ℕ) (frame : Frame) → (p .stage ≡ 0) ⊎ I p → causeIn p words frame ≡ 0 → I (after p frame)) where
+    (kept : (p : Progress) (words : List ℕ) (frame : Frame) → (stageOf (p .stage) ≡ 0) ⊎ I p → causeIn p words frame ≡ 0 → I (after p frame)) where
   abbrev If-read : Reading → Type 0
   If-read r = r .number ≡ 0 → I (r .progress)
 
-  told-keeps : (kinds : ℕ) (p : Progress) (words : List ℕ) (k : ℕ) (lines : List Line) → (p .stage ≡ 0) ⊎ I p → (lines ≡ [] → I p)
+  told-keeps : (kinds : ℕ) (p : Progress) (words : List ℕ) (k : ℕ) (lines : List Line) → (stageOf (p .stage) ≡ 0) ⊎ I p → (lines ≡ [] → I p)
       → If-read (told kinds p words k lines)
   unfolding told
   told-keeps kinds p words k [] i e = λ z. e refl
@@ -211,7 +215,7 @@ module _ (I : Progress → Type 0)
   pub reading-keeps : (kinds : ℕ) (text : List ℕ) → reading kinds text .number ≡ 0 → I (reading kinds text .progress)
   unfolding reading
   reading-keeps kinds text =
-      pick-case If-read (leb 1 (length text) and leb (length text) 24576) (told kinds nothingRead noWords 1 (linesFrom [] text)) (refusal 1 0)
+      pick-case If-read (leb 1 (length text) and leb (length text) mostBytes) (told kinds nothingRead noWords 1 (linesFrom [] text)) (refusal 1 0)
       (λ t.
       let one : 1 ≤ length text = leb-true 1 (length text) (and-l _ _ t) in
       told-keeps kinds nothingRead noWords 1 (linesFrom [] text) (inl refl) (λ e. absurd (some-line [] text (omega arith) e)))
@@ -221,18 +225,18 @@ module _ (I : Progress → Type 0)
 
 -- once a line was read: a whole plan; from stage 2 a bad set of it; at stage 3 a value and 0 to 40 rounds
 pub record Known (p : Progress) : Type 0 where
-  pub begun : p .stage ≡ 0 → ⊥
+  pub begun : stageOf (p .stage) ≡ 0 → ⊥
   pub plan-whole : Whole (p .plan)
-  pub bad-set : 2 ≤ p .stage → faultCauseOf (p .plan) (p .faulty) ≡ 0
-  pub in-range : p .stage ≡ 3 → not (eqb (p .value) 0) and leb (p .rounds) 40 ≡ true
+  pub bad-set : 2 ≤ stageOf (p .stage) → faultCauseOf (p .plan) (p .faulty) ≡ 0
+  pub in-range : stageOf (p .stage) ≡ 3 → startSound (p .value) (p .rounds) ≡ true
 
 module _ (p : Progress) (words : List ℕ) where
   -- what was known at a stage that is not 0
-  was : (p .stage ≡ 0) ⊎ Known p → (p .stage ≡ 0 → ⊥) → Known p
+  was : (stageOf (p .stage) ≡ 0) ⊎ Known p → (stageOf (p .stage) ≡ 0 → ⊥) → Known p
   was (inl s) n = absurd (n s)
   was (inr i) n = i
 
-  frame-bad-set : (frame : Frame) → (p .stage ≡ 0) ⊎ Known p → causeIn p words frame ≡ 0 → 2 ≤ after p frame .stage
+  frame-bad-set : (frame : Frame) → (stageOf (p .stage) ≡ 0) ⊎ Known p → causeIn p words frame ≡ 0 → 2 ≤ stageOf (after p frame .stage)
       → faultCauseOf (after p frame .plan) (after p frame .faulty) ≡ 0
   unfolding causeIn after
   frame-bad-set Foreign i h l = absurd (omega arith)
@@ -245,8 +249,8 @@ module _ (p : Progress) (words : List ℕ) where
   frame-bad-set (Message round from to value) i h l =
       let s = message-accepted p words round from to value h in was i (λ z. omega arith) .bad-set (omega arith)
 
-  frame-in-range : (frame : Frame) → (p .stage ≡ 0) ⊎ Known p → causeIn p words frame ≡ 0 → after p frame .stage ≡ 3
-      → not (eqb (after p frame .value) 0) and leb (after p frame .rounds) 40 ≡ true
+  frame-in-range : (frame : Frame) → (stageOf (p .stage) ≡ 0) ⊎ Known p → causeIn p words frame ≡ 0 → stageOf (after p frame .stage) ≡ 3
+      → startSound (after p frame .value) (after p frame .rounds) ≡ true
   unfolding causeIn after
   frame-in-range Foreign i h l = absurd (omega arith)
   frame-in-range Unknown i h l = absurd (omega arith)
@@ -256,7 +260,7 @@ module _ (p : Progress) (words : List ℕ) where
   frame-in-range (Start value rounds) i h l = start-accepted p words value rounds h .1
   frame-in-range (Message round from to value) i h l = was i (λ z. omega arith) .in-range l
 
-  frame-known : (frame : Frame) → (p .stage ≡ 0) ⊎ Known p → causeIn p words frame ≡ 0 → Known (after p frame)
+  frame-known : (frame : Frame) → (stageOf (p .stage) ≡ 0) ⊎ Known p → causeIn p words frame ≡ 0 → Known (after p frame)
   frame-known frame i h = record {
     begun = frame-stage p words frame h;
     plan-whole = frame-whole p words frame (λ n. was i n .plan-whole) h;
@@ -271,28 +275,28 @@ reading-known = reading-keeps Known frame-known
 
 pub accepted-sound : (text : List ℕ) → planReading text .number ≡ 0 → Whole (planReading text .progress .plan)
 unfolding planReading
-accepted-sound text h = reading-known 2 text h .plan-whole
+accepted-sound text h = reading-known planKinds text h .plan-whole
 
 -- a run file that is accepted has reached the last stage
-whole-stage : (r : Reading) → whole r .number ≡ 0 → (whole r ≡ r) × (r .progress .stage ≡ 3)
-unfolding whole
+whole-stage : (r : Reading) → whole r .number ≡ 0 → (whole r ≡ r) × (stageOf (r .progress .stage) ≡ 3)
+unfolding whole isAt
 whole-stage r =
-    pick-case (λ (x : Reading). x .number ≡ 0 → (x ≡ r) × (r .progress .stage ≡ 3))
-    (eqb (r .number) 0 and not (eqb (r .progress .stage) 3)) (refusal 3 0) r
+    pick-case (λ (x : Reading). x .number ≡ 0 → (x ≡ r) × (stageOf (r .progress .stage) ≡ 3))
+    (eqb (r .number) 0 and not (isAt Words (r .progress))) (refusal 3 0) r
     (λ t z. absurd (omega arith))
-    (λ t z. (refl, eqb-true (r .progress .stage) 3 (not-no _ (sym (and-yes _ _ (eq-eqb (r .number) 0 z)) ∙ t))))
+    (λ t z. (refl, eqb-true (stageOf (r .progress .stage)) 3 (not-no _ (sym (and-yes _ _ (eq-eqb (r .number) 0 z)) ∙ t))))
 
-pub run-is : (text : List ℕ) → runReading text .number ≡ 0 → runReading text ≡ reading 5 text
+pub run-is : (text : List ℕ) → runReading text .number ≡ 0 → runReading text ≡ reading runKinds text
 unfolding runReading
-run-is text h = whole-stage (reading 5 text) h .0
+run-is text h = whole-stage (reading runKinds text) h .0
 
 pub run-accepted : (text : List ℕ) → runReading text .number ≡ 0
     → (causeOf (runReading text .progress .plan) ≡ 0)
     × (faultCauseOf (runReading text .progress .plan) (runReading text .progress .faulty) ≡ 0)
-    × (not (eqb (runReading text .progress .value) 0) and leb (runReading text .progress .rounds) 40 ≡ true)
+    × (startSound (runReading text .progress .value) (runReading text .progress .rounds) ≡ true)
 unfolding runReading
 run-accepted text h =
-    let w = whole-stage (reading 5 text) h in
-    let k = reading-known 5 text (sym (ap (λ (r : Reading). r .number) (w .0)) ∙ h) in
-    let s : reading 5 text .progress .stage ≡ 3 = w .1 in
+    let w = whole-stage (reading runKinds text) h in
+    let k = reading-known runKinds text (sym (ap (λ (r : Reading). r .number) (w .0)) ∙ h) in
+    let s : stageOf (reading runKinds text .progress .stage) ≡ 3 = w .1 in
     rw (w .0) (k .plan-whole .0, k .bad-set (omega arith), k .in-range s)

@@ -11,12 +11,14 @@ use lib.Seq.{drop-cons, take-suc, take-suc-set, getD-drop}
 use borrow.Author.Tests.{eq-eqb, ne-eqb, le-leb}
 use Rattle.sets.specs.Tests.{pick}
 use Rattle.sets.proofs.Bools.{and-i, pick-yes, pick-no}
+use Rattle.quorum.specs.Quorum.{mostTerminals}
+use Rattle.quorum.specs.Words.{mostRounds, mostWords}
 use Rattle.lines.specs.declared.Frame.{Frame}
 use Rattle.lines.specs.Frames.{frameOf}
 use Rattle.frames.specs.declared.Progress.{Progress}
 use Rattle.frames.specs.declared.FileRead.{FileRead}
 use Rattle.frames.specs.Lines.{ended, lastLine, linesFrom}
-use Rattle.frames.specs.Reading.{nothingRead, noWords, causeIn, after, wordsAfter, Reading, refusal, told, reading, fileRead}
+use Rattle.frames.specs.Reading.{mostBytes, nothingRead, noWords, causeIn, after, wordsAfter, Reading, refusal, told, reading, fileRead}
 
 -- ---- a copy, one word a turn
 
@@ -105,18 +107,18 @@ module _ (kinds : ℕ) (text : List ℕ) (p : Progress) (words : List ℕ) (line
 
 -- ---- the file
 
-pub no-words : (words : List ℕ) → words ≡ noWords → length words ≡ 16000
-no-words words e = ap length e ∙ length-replicate {A = ℕ} 16000 0
+pub no-words : (words : List ℕ) → words ≡ noWords → length words ≡ mostWords
+no-words words e = ap length e ∙ length-replicate {A = ℕ} mostWords 0
 
-pub starts-small : (p : Progress) → p ≡ nothingRead → (p .plan .n ≤ 20) × (p .rounds ≤ 40)
+pub starts-small : (p : Progress) → p ≡ nothingRead → (p .plan .n ≤ mostTerminals) × (p .rounds ≤ mostRounds)
 starts-small p e = rw e (omega arith)
 
-pub starts : (kinds : ℕ) (text : List ℕ) (p : Progress) (words : List ℕ) → (1 ≤ length text) × (length text ≤ 24576) × (words ≡ noWords) → p ≡ nothingRead
+pub starts : (kinds : ℕ) (text : List ℕ) (p : Progress) (words : List ℕ) → (1 ≤ length text) × (length text ≤ mostBytes) × (words ≡ noWords) → p ≡ nothingRead
     → ahead kinds text p words 1 0 0 ≡ reading kinds text
 unfolding reading
 starts kinds text p words h e =
     ap₂ (λ (x : Progress) (y : List ℕ). told kinds x y 1 (linesFrom [] text)) e (h .2)
-    ∙ sym (pick-yes _ _ _ (and-i _ _ (le-leb 1 (length text) (h .0)) (le-leb (length text) 24576 (h .1))))
+    ∙ sym (pick-yes _ _ _ (and-i _ _ (le-leb 1 (length text) (h .0)) (le-leb (length text) mostBytes (h .1))))
 
 pub file-refused : (r : FileRead) (number line : ℕ) (file : Reading) (words : List ℕ) → r ≡ record { number = number; line = line; progress = nothingRead }
     → file ≡ refusal number line → (number ≡ 0 → ⊥) → (r ≡ fileRead file) × (r .number ≡ 0 → words ≡ file .words)

@@ -1,22 +1,28 @@
--- What refuses a link or a word, where a word stands, and what an accepted frame keeps. Assumes nothing.
-use Prim.Native.Nat.{ℕ, _+_, _-_, _*_, _≤_, _<_}
+-- What refuses a link or a word, and what an accepted frame keeps. Assumes nothing.
+use Prim.Native.Nat.{ℕ, _≤_, _<_}
 use mathlib.Core.Path.{_≡_, refl, sym, _∙_}
-use mathlib.Core.List.{List, []}
+use mathlib.Core.Logic.{⊎-elim}
+use mathlib.Core.List.{List, [], _∷_}
 use mathlib.Core.Bool.{Bool, true, false, not}
-use native.Mathlib.Nat.{mul-le-mul}
 use native.Mathlib.Omega.{arith}
-use lib.Dec.{eqb, ltb}
+use lib.Dec.{eqb, leb}
 use borrow.Author.Tests.{eq-eqb, ne-eqb, lt-ltb, le-ltb, le-leb, lt-leb, leb-true, ltb-true}
-use Rattle.sets.specs.Tests.{_and_, pick}
+use Rattle.sets.specs.Tests.{_and_, _or_, pick}
+use Rattle.sets.specs.Causes.{_gives_, firstCause}
 use Rattle.sets.specs.Sets.{mem}
-use Rattle.sets.proofs.Bools.{and-l, and-r, and-i, and-yes, and-no-l, and-no-r, not-i, not-yes, pick-yes, pick-no}
-use Rattle.quorum.specs.Quorum.{inRange}
+use Rattle.sets.proofs.Bools.{and-l, and-r, and-yes, and-no-l, and-no-r, or-l, or-r, or-no, not-i, not-yes}
+use Rattle.sets.proofs.Causes.{cause-here, cause-later, cause-last}
+use Rattle.sets.proofs.Laws.{equal-or-not}
+use Rattle.quorum.specs.Quorum.{mostTerminals, inRange}
+use Rattle.quorum.specs.Words.{mostRounds, startSound}
 use Rattle.plan.specs.Plan.{hears}
+use Rattle.faults.specs.Check.{faultCauseOf}
 use Rattle.lines.specs.declared.Frame.{Frame}
 use Rattle.lines.specs.declared.Frame.the-variants.{Foreign, Unknown, Head, Link, FaultSet, Start, Message}
+use Rattle.frames.specs.declared.Stage.the-variants.{Links}
 use Rattle.frames.specs.declared.Progress.{Progress}
 use Rattle.frames.specs.declared.told.Told.{Told}
-use Rattle.frames.specs.Reading.{linkCause, isWord, causeIn, linked, after, wordsAfter}
+use Rattle.frames.specs.Reading.{isAt, roundsOf, linkCause, faultSetCause, isWord, causeIn, linked, after, wordsAfter}
 use Rattle.frames.proofs.Accepted.{head-accepted, link-accepted, start-accepted}
 
 -- ---- a link
@@ -26,32 +32,41 @@ pub link-end : (p : Progress) (from to : ℕ) → linkCause p from to ≡ 0 → 
 unfolding causeIn
 link-end p from to h = link-accepted p [] from to h .2
 
-module _ (p : Progress) (from to : ℕ) (stage : p .stage ≡ 1) where
-  link-wrong : ltb from (p .plan .n) and ltb to (p .plan .n) and not (eqb from to) ≡ false → linkCause p from to ≡ 5
+module _ (p : Progress) (from to : ℕ) (stage : isAt Links p ≡ true) where
+  link-wrong : leb (p .plan .n) from or leb (p .plan .n) to or eqb from to ≡ true → linkCause p from to ≡ 5
   unfolding linkCause
-  link-wrong h = pick-yes _ _ _ (eq-eqb (p .stage) 1 stage) ∙ pick-no _ _ _ h
+  link-wrong h = cause-later _ _ _ (not-yes stage) ∙ cause-here _ _ _ h
 
   pub link-from : p .plan .n ≤ from → linkCause p from to ≡ 5
-  link-from h = link-wrong (and-no-l _ _ (le-ltb from (p .plan .n) h))
+  link-from h = link-wrong (or-l _ _ (le-leb (p .plan .n) from h))
 
   pub link-to : p .plan .n ≤ to → linkCause p from to ≡ 5
-  link-to h = link-wrong (and-no-r _ _ (and-no-l _ _ (le-ltb to (p .plan .n) h)))
+  link-to h = link-wrong (or-r _ _ (or-l _ _ (le-leb (p .plan .n) to h)))
 
   pub link-self : from ≡ to → linkCause p from to ≡ 5
-  link-self h = link-wrong (and-no-r _ _ (and-no-r _ _ (not-yes (eq-eqb from to h))))
+  link-self h = link-wrong (or-r _ _ (or-r _ _ (eq-eqb from to h)))
 
   module _ (f : from < p .plan .n) (t : to < p .plan .n) (d : from ≡ to → ⊥) where
-    link-sound : linkCause p from to ≡ pick (hears (p .plan) to from) 6 0
+    link-sound : linkCause p from to ≡ firstCause (hears (p .plan) to from gives 6 ∷ [])
     unfolding linkCause
     link-sound =
-        pick-yes _ _ _ (eq-eqb (p .stage) 1 stage)
-        ∙ pick-yes _ _ _ (and-i _ _ (lt-ltb from (p .plan .n) f) (and-i _ _ (lt-ltb to (p .plan .n) t) (not-i (ne-eqb from to d))))
+        cause-later _ _ _ (not-yes stage)
+        ∙ cause-later _ _ _ (or-no _ _ (lt-leb (p .plan .n) from f) (or-no _ _ (lt-leb (p .plan .n) to t) (ne-eqb from to d)))
 
     pub link-there : hears (p .plan) to from ≡ true → linkCause p from to ≡ 6
-    link-there h = link-sound ∙ pick-yes _ _ _ h
+    link-there h = link-sound ∙ cause-here _ _ _ h
 
     pub link-new : hears (p .plan) to from ≡ false → linkCause p from to ≡ 0
-    link-new h = link-sound ∙ pick-no _ _ _ h
+    link-new h = link-sound ∙ cause-last _ _ h
+
+-- ---- a bad set
+
+pub fault-set-at : (p : Progress) (s : ℕ) → isAt Links p ≡ true → faultSetCause p s ≡ faultCauseOf (p .plan) s
+unfolding faultSetCause
+fault-set-at p s stage =
+    cause-later _ _ _ (not-yes stage)
+    ∙ ⊎-elim (λ z. cause-last _ _ (not-yes (eq-eqb (faultCauseOf (p .plan) s) 0 z)) ∙ sym z)
+    (λ n. cause-here _ _ _ (not-i (ne-eqb (faultCauseOf (p .plan) s) 0 n))) (equal-or-not (faultCauseOf (p .plan) s) 0)
 
 -- ---- a word
 
@@ -100,21 +115,6 @@ module _ (p : Progress) (round from to value : ℕ) where
     ltb-true to (p .plan .n) (and-l _ _ (and-r _ _ (and-r _ _ (and-r _ _ h)))),
   )
 
--- ---- where a word stands: 39 times 400, 19 times 20 and 19 lie below 16,000
-
-module _ (n round from to : ℕ) (h : (n ≤ 20) × (1 ≤ round) × (round ≤ 40) × (from < n) × (to < n)) where
-  pub place-square : n * n ≤ 400
-  place-square = mul-le-mul (h .0) (h .0)
-
-  pub place-rounds : (round - 1) * (n * n) ≤ 15600
-  place-rounds = let r : round - 1 ≤ 39 = omega arith in mul-le-mul r place-square
-
-  pub place-from : from * n ≤ 380
-  place-from = let f : from ≤ 19 = omega arith in mul-le-mul f (h .0)
-
-  pub place-below : (round - 1) * (n * n) + from * n + to < 16000
-  place-below = omega (arith, place-rounds, place-from)
-
 -- ---- a frame
 
 -- what was found of a frame by its variant holds of the frame
@@ -130,17 +130,17 @@ either true words = refl
 either false words = refl
 
 -- an accepted frame leaves at most 20 terminals and 40 rounds
-module _ (p : Progress) (words : List ℕ) (twenty : p .plan .n ≤ 20) (forty : p .rounds ≤ 40) where
-  kept : (frame : Frame) → causeIn p words frame ≡ 0 → (after p frame .plan .n ≤ 20) × (after p frame .rounds ≤ 40)
-  unfolding inRange after linked
+module _ (p : Progress) (words : List ℕ) (twenty : p .plan .n ≤ mostTerminals) (forty : p .rounds ≤ mostRounds) where
+  kept : (frame : Frame) → causeIn p words frame ≡ 0 → (after p frame .plan .n ≤ mostTerminals) × (after p frame .rounds ≤ mostRounds)
+  unfolding inRange startSound after linked
   kept Foreign h = (twenty, forty)
   kept Unknown h = (twenty, forty)
   kept (Head n source f) h = (leb-true n 20 (and-l _ _ (and-r _ _ (head-accepted p words n source f h .1))), omega arith)
   kept (Link from to) h = (twenty, omega arith)
   kept (FaultSet s) h = (twenty, omega arith)
-  kept (Start value rounds) h = (twenty, leb-true rounds 40 (and-r _ _ (start-accepted p words value rounds h .1)))
+  kept (Start value rounds) h = (twenty, leb-true (roundsOf rounds) 40 (and-r _ _ (start-accepted p words value rounds h .1)))
   kept (Message round from to value) h = (twenty, forty)
 
   pub kept-next : (frame : Frame) (cause : ℕ) (next : Progress) → cause ≡ causeIn p words frame → cause ≡ 0 → next ≡ after p frame
-      → (next .plan .n ≤ 20) × (next .rounds ≤ 40)
+      → (next .plan .n ≤ mostTerminals) × (next .rounds ≤ mostRounds)
   kept-next frame cause next e z q = rw q (kept frame (sym e ∙ z))

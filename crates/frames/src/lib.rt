@@ -4,13 +4,31 @@ mod told;
 ghost use mathlib.Core.Path.{_≡_};
 ghost use Prim.Native.Nat.{_≤_};
 ghost use lib.ListN.{length};
-ghost use Rattle.frames.specs.Reading.{nothingRead, noWords, reading, planReading, fileRead, runFile, wordsRead};
+ghost use Rattle.frames.specs.Reading.{mostBytes, stageOf, isAt, nothingRead, noWords, reading, planReading, fileRead, runFile, wordsRead};
 use plan::Plan;
 
-// What is known after some lines. Stage 0: nothing; 1: the head and perhaps links; 2: the fault set
-// too; 3: the start too.
+// The bytes of a file, and the words of a run.
+const MOST_BYTES: usize = 24576;
+
+const MOST_WORDS: usize = 16000;
+
+// The kinds that a plan file has, 01 and 02, and those of a run file, 01 to 05: bit i for kind i.
+const PLAN_KINDS: u32 = 6;
+
+const RUN_KINDS: u32 = 62;
+
+// How far a file was read: nothing; the head and perhaps links; the fault set too; the start too and
+// perhaps words.
+pub enum Stage {
+    Nothing,
+    Links,
+    Faults,
+    Words,
+}
+
+// What is known after some lines.
 pub struct Progress {
-    pub stage: u8,
+    pub stage: Stage,
     pub plan: Plan,
     pub faulty: u32,
     pub value: u16,
@@ -25,6 +43,25 @@ pub struct FileRead {
     pub progress: Progress,
 }
 
+// The stages in their order.
+fn order(stage: Stage) -> u8
+    ensures { λ r. ⌜ r ≡ stageOf stage ⌝ }
+{
+    match stage {
+        Stage::Nothing => 0,
+        Stage::Links => 1,
+        Stage::Faults => 2,
+        Stage::Words => 3,
+    }
+}
+
+pub(crate) fn is_at(stage: Stage, p: Progress) -> bool
+    ensures { λ r. ⌜ r ≡ isAt stage p ⌝ }
+{
+    let now = p.stage;
+    order(now) == order(stage)
+}
+
 // A refused file: its number and line, and only zeros beside them.
 fn refusal(number: u8, line: u16) -> FileRead
     ensures { λ r. ⌜ r ≡ record { number = number; line = line; progress = nothingRead } ⌝ }
@@ -33,7 +70,7 @@ fn refusal(number: u8, line: u16) -> FileRead
         number: number,
         line: line,
         progress: Progress {
-            stage: 0,
+            stage: Stage::Nothing,
             plan: Plan {
                 n: 0,
                 source: 0,
@@ -48,8 +85,8 @@ fn refusal(number: u8, line: u16) -> FileRead
 }
 
 // The lines of a file of fitting length, from the first: each is told as its end is met.
-fn read_lines(kinds: u8, text: &[u8], words: &mut [u16]) -> FileRead
-    requires { ⌜ (1 ≤ length (now text)) × (length (now text) ≤ 24576) × (now words ≡ noWords) ⌝ }
+fn read_lines(kinds: u32, text: &[u8], words: &mut [u16]) -> FileRead
+    requires { ⌜ (1 ≤ length (now text)) × (length (now text) ≤ mostBytes) × (now words ≡ noWords) ⌝ }
     ensures { λ r. ⌜ (r ≡ fileRead (reading kinds (now (text .entry)))) × (r .number ≡ 0 → now (words .exit) ≡ reading kinds (now (text .entry)) .words) ⌝ }
 {
     let mut p = refusal(0, 0).progress;
@@ -81,14 +118,14 @@ fn read_lines(kinds: u8, text: &[u8], words: &mut [u16]) -> FileRead
 }
 
 // The file's own length is looked at first of all.
-fn read(kinds: u8, text: &[u8], words: &mut [u16]) -> FileRead
+fn read(kinds: u32, text: &[u8], words: &mut [u16]) -> FileRead
     requires { ⌜ now words ≡ noWords ⌝ }
     ensures { λ r. ⌜ (r ≡ fileRead (reading kinds (now (text .entry)))) × (r .number ≡ 0 → now (words .exit) ≡ reading kinds (now (text .entry)) .words) ⌝ }
 {
     if text.len() < 1 {
         return refusal(1, 0);
     }
-    if 24576 < text.len() {
+    if MOST_BYTES < text.len() {
         return refusal(1, 0);
     }
     read_lines(kinds, text, words)
@@ -98,8 +135,8 @@ fn read(kinds: u8, text: &[u8], words: &mut [u16]) -> FileRead
 pub fn read_plan(text: &[u8]) -> FileRead
     ensures { λ r. ⌜ r ≡ fileRead (planReading (now (text .entry))) ⌝ }
 {
-    let mut words = [0u16; 16000];
-    read(2, text, &mut words)
+    let mut words = [0u16; MOST_WORDS];
+    read(PLAN_KINDS, text, &mut words)
 }
 
 fn copy_words(from: &[u16], to: &mut [u16])
@@ -117,17 +154,17 @@ fn copy_words(from: &[u16], to: &mut [u16])
 pub fn read_run(text: &[u8], words: &mut [u16]) -> FileRead
     ensures { λ r. ⌜ (r ≡ fileRead (runFile (now (text .entry)) (length (now (words .entry))))) × (now (words .exit) ≡ wordsRead (runFile (now (text .entry)) (length (now (words .entry)))) (now (words .entry))) ⌝ }
 {
-    let mut local = [0u16; 16000];
-    let file = read(5, text, &mut local);
+    let mut local = [0u16; MOST_WORDS];
+    let file = read(RUN_KINDS, text, &mut local);
     if file.number != 0 {
         return file;
     }
-    if file.progress.stage != 3 {
-        return refusal(3, 0);
+    if is_at(Stage::Words, file.progress) {
+        if words.len() != MOST_WORDS {
+            return refusal(12, 0);
+        }
+        copy_words(&local, words);
+        return file;
     }
-    if words.len() != 16000 {
-        return refusal(12, 0);
-    }
-    copy_words(&local, words);
-    file
+    refusal(3, 0)
 }

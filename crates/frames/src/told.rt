@@ -4,10 +4,15 @@ ghost use Prim.Native.Nat.{_<_, _≤_};
 ghost use lib.Dec.{eqb};
 ghost use lib.ListN.{length, set};
 ghost use Rattle.sets.specs.Tests.{pick};
-ghost use Rattle.lines.specs.declared.Frame.the-variants.{Head, Link, FaultSet, Start};
-ghost use Rattle.frames.specs.Reading.{placeOf, headCause, linkCause, faultSetCause, startCause, isWord, messageCause, causeIn, linked, after, wordsAfter};
+ghost use Rattle.lines.specs.declared.Frame.the-variants.{Head, Link, FaultSet};
+ghost use Rattle.quorum.specs.Quorum.{mostTerminals};
+ghost use Rattle.quorum.specs.Words.{mostRounds, mostWords, startSound, placeOf};
+ghost use Rattle.frames.specs.Reading.{roundsOf, started, headCause, linkCause, faultSetCause, startCause, isWord, messageCause, causeIn, linked, after, wordsAfter};
 use super::Progress;
+use super::Stage;
+use super::is_at;
 use lines::Frame;
+use lines::Rounds;
 use plan::Plan;
 
 // The cause that refuses a frame, 0 for none; and what is known after it where it is accepted.
@@ -19,38 +24,38 @@ pub(crate) struct Told {
 fn head(p: Progress, n: u8, source: u8, f: u8) -> Told
     ensures { λ r. ⌜ (r .cause ≡ headCause p n source f) × (r .cause ≡ 0 → r .progress ≡ after p (Head n source f)) ⌝ }
 {
-    if p.stage != 0 {
+    if is_at(Stage::Nothing, p) {
+        if quorum::in_range(n as usize, source as usize, f as usize) {
+            return Told {
+                cause: 0,
+                progress: Progress {
+                    stage: Stage::Links,
+                    plan: Plan {
+                        n: n as usize,
+                        source: source as usize,
+                        f: f as usize,
+                        rows: [0u32; 20],
+                    },
+                    faulty: 0,
+                    value: 0,
+                    rounds: 0,
+                },
+            };
+        }
         return Told {
-            cause: 3,
+            cause: 4,
             progress: p,
         };
     }
-    if quorum::in_range(n as usize, source as usize, f as usize) {
-        return Told {
-            cause: 0,
-            progress: Progress {
-                stage: 1,
-                plan: Plan {
-                    n: n as usize,
-                    source: source as usize,
-                    f: f as usize,
-                    rows: [0u32; 20],
-                },
-                faulty: 0,
-                value: 0,
-                rounds: 0,
-            },
-        };
-    }
     Told {
-        cause: 4,
+        cause: 3,
         progress: p,
     }
 }
 
 // The plan with one link more.
 fn with_link(p: Plan, from: usize, to: usize) -> Plan
-    requires { ⌜ to < 20 ⌝ }
+    requires { ⌜ to < mostTerminals ⌝ }
     ensures { λ r. ⌜ r ≡ linked p from to ⌝ }
 {
     let mut rows = p.rows;
@@ -64,31 +69,31 @@ fn with_link(p: Plan, from: usize, to: usize) -> Plan
 }
 
 fn link_cause(p: Progress, from: usize, to: usize) -> u8
-    requires { ⌜ p .plan .n ≤ 20 ⌝ }
+    requires { ⌜ p .plan .n ≤ mostTerminals ⌝ }
     ensures { λ r. ⌜ r ≡ linkCause p from to ⌝ }
 {
     let plan = p.plan;
     let rows = plan.rows;
-    if p.stage != 1 {
-        return 3;
+    if is_at(Stage::Links, p) {
+        if plan.n <= from {
+            return 5;
+        }
+        if plan.n <= to {
+            return 5;
+        }
+        if from == to {
+            return 5;
+        }
+        if sets::member(rows[to], from) {
+            return 6;
+        }
+        return 0;
     }
-    if plan.n <= from {
-        return 5;
-    }
-    if plan.n <= to {
-        return 5;
-    }
-    if from == to {
-        return 5;
-    }
-    if sets::member(rows[to], from) {
-        return 6;
-    }
-    0
+    3
 }
 
 fn link(p: Progress, from: usize, to: usize) -> Told
-    requires { ⌜ p .plan .n ≤ 20 ⌝ }
+    requires { ⌜ p .plan .n ≤ mostTerminals ⌝ }
     ensures { λ r. ⌜ (r .cause ≡ linkCause p from to) × (r .cause ≡ 0 → r .progress ≡ after p (Link from to)) ⌝ }
 {
     let plan = p.plan;
@@ -102,7 +107,7 @@ fn link(p: Progress, from: usize, to: usize) -> Told
     Told {
         cause: 0,
         progress: Progress {
-            stage: 1,
+            stage: Stage::Links,
             plan: with_link(plan, from, to),
             faulty: 0,
             value: 0,
@@ -115,68 +120,81 @@ fn fault_set(p: Progress, s: u32) -> Told
     ensures { λ r. ⌜ (r .cause ≡ faultSetCause p s) × (r .cause ≡ 0 → r .progress ≡ after p (FaultSet s)) ⌝ }
 {
     let plan = p.plan;
-    if p.stage != 1 {
+    if is_at(Stage::Links, p) {
+        let cause = faults::number(faults::check_fault_set(plan, s));
+        if cause != 0 {
+            return Told {
+                cause: cause,
+                progress: p,
+            };
+        }
         return Told {
-            cause: 3,
-            progress: p,
-        };
-    }
-    let cause = faults::number(faults::check_fault_set(plan, s));
-    if cause != 0 {
-        return Told {
-            cause: cause,
-            progress: p,
+            cause: 0,
+            progress: Progress {
+                stage: Stage::Faults,
+                plan: plan,
+                faulty: s,
+                value: 0,
+                rounds: 0,
+            },
         };
     }
     Told {
-        cause: 0,
-        progress: Progress {
-            stage: 2,
-            plan: plan,
-            faulty: s,
-            value: 0,
-            rounds: 0,
-        },
+        cause: 3,
+        progress: p,
     }
 }
 
+// The rounds of a start frame: 40 where they are left out.
+fn rounds_of(rounds: Rounds) -> u8
+    ensures { λ r. ⌜ r ≡ roundsOf rounds ⌝ }
+{
+    match rounds {
+        Rounds::Given(r) => r,
+        Rounds::Left => 40,
+    }
+}
+
+fn start_sound(value: u16, rounds: u8) -> bool
+    ensures { λ r. ⌜ r ≡ startSound value rounds ⌝ }
+{
+    if value == 0 {
+        return false;
+    }
+    rounds <= 40
+}
+
 fn start(p: Progress, value: u16, rounds: u8) -> Told
-    ensures { λ r. ⌜ (r .cause ≡ startCause p value rounds) × (r .cause ≡ 0 → r .progress ≡ after p (Start value rounds)) ⌝ }
+    ensures { λ r. ⌜ (r .cause ≡ startCause p value rounds) × (r .cause ≡ 0 → r .progress ≡ started p value rounds) ⌝ }
 {
     let plan = p.plan;
-    if p.stage != 2 {
-        return Told {
-            cause: 3,
-            progress: p,
-        };
-    }
-    if value == 0 {
-        return Told {
-            cause: 9,
-            progress: p,
-        };
-    }
-    if 40 < rounds {
+    if is_at(Stage::Faults, p) {
+        if start_sound(value, rounds) {
+            return Told {
+                cause: 0,
+                progress: Progress {
+                    stage: Stage::Words,
+                    plan: plan,
+                    faulty: p.faulty,
+                    value: value,
+                    rounds: rounds,
+                },
+            };
+        }
         return Told {
             cause: 9,
             progress: p,
         };
     }
     Told {
-        cause: 0,
-        progress: Progress {
-            stage: 3,
-            plan: plan,
-            faulty: p.faulty,
-            value: value,
-            rounds: rounds,
-        },
+        cause: 3,
+        progress: p,
     }
 }
 
 // A word in a round that is played, on a link, from a bad sender, and not silence.
 fn is_word(p: Progress, round: u8, from: usize, to: usize, value: u16) -> bool
-    requires { ⌜ p .plan .n ≤ 20 ⌝ }
+    requires { ⌜ p .plan .n ≤ mostTerminals ⌝ }
     ensures { λ r. ⌜ r ≡ isWord p round from to value ⌝ }
 {
     let plan = p.plan;
@@ -203,35 +221,35 @@ fn is_word(p: Progress, round: u8, from: usize, to: usize, value: u16) -> bool
 
 // Where the word of a round, a sender and a hearer stands.
 fn place_of(n: usize, round: u8, from: usize, to: usize) -> usize
-    requires { ⌜ (n ≤ 20) × (1 ≤ round) × (round ≤ 40) × (from < n) × (to < n) ⌝ }
-    ensures { λ r. ⌜ (r ≡ placeOf n round from to) × (r < 16000) ⌝ }
+    requires { ⌜ (n ≤ mostTerminals) × (1 ≤ round) × (round ≤ mostRounds) × (from < n) × (to < n) ⌝ }
+    ensures { λ r. ⌜ (r ≡ placeOf n round from to) × (r < mostWords) ⌝ }
 {
     ((round as usize) - 1) * (n * n) + from * n + to
 }
 
 // The cause that refuses a word, 0 for none: then it is kept.
 fn message(p: Progress, words: &mut [u16], round: u8, from: usize, to: usize, value: u16) -> u8
-    requires { ⌜ (p .plan .n ≤ 20) × (p .rounds ≤ 40) × (length (now words) ≡ 16000) ⌝ }
+    requires { ⌜ (p .plan .n ≤ mostTerminals) × (p .rounds ≤ mostRounds) × (length (now words) ≡ mostWords) ⌝ }
     ensures { λ r. ⌜ (r ≡ messageCause p (now (words .entry)) round from to value) × (now (words .exit) ≡ pick (eqb r 0) (set (now (words .entry)) (placeOf (p .plan .n) round from to) value) (now (words .entry))) ⌝ }
 {
     let plan = p.plan;
-    if p.stage != 3 {
-        return 3;
-    }
-    if is_word(p, round, from, to, value) {
-        let k = place_of(plan.n, round, from, to);
-        if words[k] != 0 {
-            return 11;
+    if is_at(Stage::Words, p) {
+        if is_word(p, round, from, to, value) {
+            let k = place_of(plan.n, round, from, to);
+            if words[k] != 0 {
+                return 11;
+            }
+            words[k] = value;
+            return 0;
         }
-        words[k] = value;
-        return 0;
+        return 10;
     }
-    10
+    3
 }
 
 // What a frame does, or the cause that refuses it: then the words stay as they are.
 pub(crate) fn tell(p: Progress, words: &mut [u16], frame: Frame) -> Told
-    requires { ⌜ (p .plan .n ≤ 20) × (p .rounds ≤ 40) × (length (now words) ≡ 16000) ⌝ }
+    requires { ⌜ (p .plan .n ≤ mostTerminals) × (p .rounds ≤ mostRounds) × (length (now words) ≡ mostWords) ⌝ }
     ensures { λ r. ⌜ (r .cause ≡ causeIn p (now (words .entry)) frame) × (r .cause ≡ 0 → r .progress ≡ after p frame) × (now (words .exit) ≡ pick (eqb (r .cause) 0) (wordsAfter p (now (words .entry)) frame) (now (words .entry))) ⌝ }
 {
     match frame {
@@ -246,7 +264,7 @@ pub(crate) fn tell(p: Progress, words: &mut [u16], frame: Frame) -> Told
         Frame::Head(n, source, f) => head(p, n, source, f),
         Frame::Link(from, to) => link(p, from as usize, to as usize),
         Frame::FaultSet(s) => fault_set(p, s),
-        Frame::Start(value, rounds) => start(p, value, rounds),
+        Frame::Start(value, rounds) => start(p, value, rounds_of(rounds)),
         Frame::Message(round, from, to, value) => Told {
             cause: message(p, words, round, from as usize, to as usize, value),
             progress: p,

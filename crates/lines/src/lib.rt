@@ -13,8 +13,14 @@ pub enum Frame {
     Head(u8, u8, u8),
     Link(u8, u8),
     FaultSet(u32),
-    Start(u16, u8),
+    Start(u16, Rounds),
     Message(u8, u8, u8, u16),
+}
+
+// The rounds of a start frame: a byte, or none.
+pub enum Rounds {
+    Given(u8),
+    Left,
 }
 
 fn is_digit(b: u8) -> bool
@@ -126,15 +132,15 @@ fn fault_set_of(line: &[u8]) -> Frame
     Frame::Unknown
 }
 
-// Without the rounds byte, 40 rounds.
+// The rounds byte may be left out.
 fn start_of(line: &[u8]) -> Frame
     ensures { λ r. ⌜ r ≡ startOf (now (line .entry)) ⌝ }
 {
     if line.len() == 8 {
-        return Frame::Start(pair_at(line, 1), byte_at(line, 3));
+        return Frame::Start(pair_at(line, 1), Rounds::Given(byte_at(line, 3)));
     }
     if line.len() == 6 {
-        return Frame::Start(pair_at(line, 1), 40);
+        return Frame::Start(pair_at(line, 1), Rounds::Left);
     }
     Frame::Unknown
 }
@@ -174,13 +180,13 @@ fn kind_of(kind: u8, line: &[u8]) -> Frame
     Frame::Unknown
 }
 
-// The frame of a line, for a program that knows the kinds 1 to `kinds`.
-pub fn frame_of(kinds: u8, line: &[u8]) -> Frame
+// The frame of a line, for a program that knows this set of kinds.
+pub fn frame_of(kinds: u32, line: &[u8]) -> Frame
     ensures { λ r. ⌜ r ≡ frameOf kinds (now (line .entry)) ⌝ }
 {
     if well_formed(line) {
         let kind = byte_at(line, 0);
-        if kind <= kinds {
+        if sets::member(kinds, kind as usize) {
             return kind_of(kind, line);
         }
         return Frame::Unknown;

@@ -19,7 +19,8 @@ use Rattle.terminal.specs.declared.Record.{Record}
 use Rattle.terminal.specs.Rule.{start}
 use Rattle.plan.proofs.Laws.{sound}
 use Rattle.propagation.specs.Run.{site, scriptOf}
-use Rattle.simulation.specs.Answer.{startSound, runCause, arrayAfter}
+use Rattle.simulation.specs.Answer.{runCause, arrayAfter}
+use Rattle.quorum.specs.Words.{startSound}
 use Rattle.simulation.proofs.Causes.{fits, cause-played}
 use Rattle.simulation.proofs.Promise.{array-at}
 use Rattle.frames.specs.declared.Progress.{Progress}

@@ -19,6 +19,7 @@ pub cause-later : (test : Bool) (number : ℕ) (rest : List Cause) → test ≡ 
 unfolding firstCause
 cause-later test number rest h = pick-no _ _ _ h
 
+-- the last row: nothing is refused where its test fails too
 pub cause-last : (test : Bool) (number : ℕ) → test ≡ false → firstCause (test gives number ∷ []) ≡ 0
 unfolding firstCause
 cause-last test number h = pick-no _ _ _ h

@@ -8,16 +8,14 @@ use Rattle.sets.specs.Tests.{_and_, pick}
 use Rattle.sets.specs.Causes.{_gives_, firstCause}
 use Rattle.sets.specs.Sets.{Terminal, Set}
 use Rattle.quorum.specs.Quorum.{inRange, hearsSoundly}
+use Rattle.quorum.specs.Words.{mostRounds}
+use Rattle.quorum.specs.Words.{mostRounds}
 use Rattle.terminal.specs.declared.State.{State}
 use Rattle.terminal.specs.declared.State.the-variants.{Waiting, Taken}
 use Rattle.terminal.specs.declared.Record.{Record}
 use Rattle.terminal.specs.declared.Outcome.{Outcome}
 use Rattle.terminal.specs.declared.Outcome.the-variants.{Accepted, WrongRange, WrongLink, WrongLength, WrongRecord}
 use Rattle.terminal.specs.Rule.{Layout, Round, step}
-
--- run and step stop at this round
-abbrev pub mostRounds : ℕ
-mostRounds = 40
 
 -- document 01's number of each outcome, 0 where nothing is refused
 abbrev pub numberOf : Outcome → ℕ

@@ -8,12 +8,14 @@ use native.Mathlib.Omega.{arith}
 use lib.Dec.{eqb, leb}
 use borrow.Author.Tests.{le-leb, lt-leb, lt-ltb, le-ltb}
 use Rattle.sets.specs.Tests.{_and_, _or_}
+use Rattle.sets.specs.Sets.{mem}
 use Rattle.sets.proofs.Bools.{clash, and-i, and-no-r, or-l, or-r, pick-yes, pick-no}
 use Rattle.sets.proofs.Laws.{below-or-not}
 use Rattle.lines.specs.declared.Frame.the-variants.{Head, Link}
 use Rattle.lines.specs.Digits.{isFigure, isLetter, isDigit, digitOf, byteAt, allDigits, wellFormed}
 use Rattle.text.specs.Digits.{hexDigit, hexByte}
 use Rattle.lines.specs.Frames.{headOf, linkOf, kindOf, frameOf}
+use Rattle.frames.specs.Reading.{planKinds}
 
 -- ---- one digit
 
@@ -95,22 +97,22 @@ link-digits from to a b =
 head-same : {a b c n source f : ℕ} → a ≡ n → b ≡ source → c ≡ f → Head a b c ≡ Head n source f
 head-same p q r = cc
 
-pub head-frame : (n source f : ℕ) → n < 256 → source < 256 → f < 256 → frameOf 2 (headDigits n source f) ≡ Head n source f
-unfolding frameOf wellFormed kindOf headOf byteAt hexByte
+pub head-frame : (n source f : ℕ) → n < 256 → source < 256 → f < 256 → frameOf planKinds (headDigits n source f) ≡ Head n source f
+unfolding mem frameOf wellFormed kindOf headOf byteAt hexByte
 head-frame n source f a b c =
     let kind : 16 * digitOf (hexDigit 0) + digitOf (hexDigit 1) ≡ 1 = byte-back 1 (omega arith) in
     pick-yes _ _ _ (and-i _ _ refl (and-i _ _ refl (head-digits n source f a b c)))
-    ∙ pick-yes _ _ _ (ap (λ (k : ℕ). leb k 2) kind)
+    ∙ pick-yes _ _ _ (ap (λ (k : ℕ). mem k planKinds) kind)
     ∙ pick-yes _ _ _ (ap (λ (k : ℕ). eqb k 1) kind)
     ∙ pick-yes _ _ _ refl
     ∙ head-same (byte-back n a) (byte-back source b) (byte-back f c)
 
-pub link-frame : (from to : ℕ) → from < 256 → to < 256 → frameOf 2 (linkDigits from to) ≡ Link from to
-unfolding frameOf wellFormed kindOf linkOf byteAt hexByte
+pub link-frame : (from to : ℕ) → from < 256 → to < 256 → frameOf planKinds (linkDigits from to) ≡ Link from to
+unfolding mem frameOf wellFormed kindOf linkOf byteAt hexByte
 link-frame from to a b =
     let kind : 16 * digitOf (hexDigit 0) + digitOf (hexDigit 2) ≡ 2 = byte-back 2 (omega arith) in
     pick-yes _ _ _ (and-i _ _ refl (and-i _ _ refl (link-digits from to a b)))
-    ∙ pick-yes _ _ _ (ap (λ (k : ℕ). leb k 2) kind)
+    ∙ pick-yes _ _ _ (ap (λ (k : ℕ). mem k planKinds) kind)
     ∙ pick-no _ _ _ (ap (λ (k : ℕ). eqb k 1) kind)
     ∙ pick-yes _ _ _ (ap (λ (k : ℕ). eqb k 2) kind)
     ∙ pick-yes _ _ _ refl

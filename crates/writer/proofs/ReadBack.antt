@@ -10,19 +10,21 @@ use lib.Dec.{eqb, ltb}
 use lib.ListN.{length, getD, set, replicate, length-append, length-set, length-replicate, getD-replicate}
 use lib.Pow.{pow-mono}
 use lib.Seq.{getD-set-same, getD-set-other, ext-getD}
-use borrow.Author.Tests.{eq-eqb, ne-eqb, lt-ltb, le-ltb, ltb-true, le-leb}
+use borrow.Author.Tests.{eq-eqb, ne-eqb, lt-ltb, le-ltb, ltb-true, le-leb, lt-leb}
 use Rattle.sets.specs.Tests.{_and_, _or_}
 use Rattle.sets.specs.Sets.{mem, with}
-use Rattle.sets.proofs.Bools.{and-i, and-yes, and-swap, and-no-l, and-no-r, or-r, not-i, same-test, pick-yes, pick-no, pick-case, clash}
+use Rattle.sets.proofs.Bools.{and-i, and-yes, and-swap, and-no-l, and-no-r, or-r, or-no, not-yes, same-test, pick-yes, pick-case, clash}
+use Rattle.sets.proofs.Causes.{cause-later, cause-last}
 use Rattle.sets.proofs.Laws.{equal-or-not, below-or-not, mem-zero, mem-above, set-ext, mask-lt, mem-mask}
 use Rattle.quorum.specs.Quorum.{inRange}
 use Rattle.plan.specs.declared.Plan.{Plan}
 use Rattle.plan.specs.Plan.{heardBy, hears, causeOf}
 use Rattle.plan.proofs.Laws.{Sound, sound, tests}
 use Rattle.lines.specs.declared.Frame.the-variants.{Head, Link}
+use Rattle.frames.specs.declared.Stage.the-variants.{Links}
 use Rattle.frames.specs.declared.Progress.{Progress}
 use Rattle.frames.specs.Lines.{lastLine, linesFrom}
-use Rattle.frames.specs.Reading.{nothingRead, noWords, headCause, linkCause, causeIn, linked, after, wordsAfter, Reading, told, reading, planReading}
+use Rattle.frames.specs.Reading.{mostBytes, planKinds, isAt, nothingRead, noWords, headCause, linkCause, causeIn, linked, after, wordsAfter, Reading, told, reading, planReading}
 use Rattle.writer.specs.Written.{headLine, linkLine, linkLines, planText}
 use Rattle.writer.proofs.Digits.{headDigits, linkDigits, head-frame, link-frame}
 use Rattle.writer.proofs.Lines.{head-lines, link-lines, line-told, head-length, links-length}
@@ -117,7 +119,7 @@ abbrev pub planWith : Plan → List ℕ → Plan
 planWith p rows = record { n = p .n; source = p .source; f = p .f; rows = rows }
 
 abbrev pub progressWith : Plan → List ℕ → Progress
-progressWith p rows = record { stage = 1; plan = planWith p rows; faulty = 0; value = 0; rounds = 0 }
+progressWith p rows = record { stage = Links; plan = planWith p rows; faulty = 0; value = 0; rounds = 0 }
 
 module _ (p : Plan) (s : Sound p) where
   row-lt : (b : ℕ) → b < 20 → heardBy p b < 2 ^ 20
@@ -150,37 +152,36 @@ module _ (p : Plan) (s : Sound p) where
   -- a link at place k is not told yet, so it is accepted
   link-accepted : (k : ℕ) (rows words : List ℕ) → Passed p k rows → (from to : ℕ) → 20 * from + to ≡ k → from < 20 → to < 20 → hears p to from ≡ true
       → causeIn (progressWith p rows) words (Link from to) ≡ 0
-  unfolding causeIn linkCause hears heardBy
+  unfolding causeIn linkCause isAt hears heardBy
   link-accepted k rows words passed from to here a b e =
       let t : to < p .n = link-to from to b e in
-      pick-yes _ _ _ refl
-      ∙ pick-yes _ _ _
-      (and-i _ _ (lt-ltb from (p .n) (s .heard-below to from t e))
-      (and-i _ _ (lt-ltb to (p .n) t) (not-i (ne-eqb from to (link-other from to b e)))))
-      ∙ pick-no _ _ _ (passed .bits from to (omega arith) b ∙ and-no-r _ _ (le-ltb (20 * from + to) k (omega arith)))
+      cause-later _ _ _ (not-yes refl)
+      ∙ cause-later _ _ _
+      (or-no _ _ (lt-leb (p .n) from (s .heard-below to from t e)) (or-no _ _ (lt-leb (p .n) to t) (ne-eqb from to (link-other from to b e))))
+      ∙ cause-last _ _ (passed .bits from to (omega arith) b ∙ and-no-r _ _ (le-ltb (20 * from + to) k (omega arith)))
 
   module _ (t : length (p .rows) ≡ 20) (words : List ℕ) where
     abbrev Read : Reading
     Read = record { number = 0; line = 0; progress = progressWith p (p .rows); words = words }
 
-    links-end : (j : ℕ) (rows : List ℕ) → Passed p 400 rows → told 2 (progressWith p rows) words j (linesFrom [] []) ≡ Read
+    links-end : (j : ℕ) (rows : List ℕ) → Passed p 400 rows → told planKinds (progressWith p rows) words j (linesFrom [] []) ≡ Read
     unfolding told linesFrom lastLine
     links-end j rows passed = ap (λ (r : List ℕ). record { number = 0; line = 0; progress = progressWith p r; words = words }) (all-passed rows t passed)
 
     link-told : (k j : ℕ) (rows rest : List ℕ) → Passed p k rows → (from to : ℕ) → 20 * from + to ≡ k → from < 20 → to < 20 → hears p to from ≡ true
-        → told 2 (progressWith p rows) words j (linesFrom [] (linkLine from to ++ rest))
-        ≡ told 2 (progressWith p (set rows to (with 32 (getD rows to 0) from))) words (j + 1) (linesFrom [] rest)
+        → told planKinds (progressWith p rows) words j (linesFrom [] (linkLine from to ++ rest))
+        ≡ told planKinds (progressWith p (set rows to (with 32 (getD rows to 0) from))) words (j + 1) (linesFrom [] rest)
     unfolding after linked wordsAfter heardBy
     link-told k j rows rest passed from to here a b e =
-        ap (told 2 (progressWith p rows) words j) (link-lines from to rest (omega arith) (omega arith))
-        ∙ line-told 2 (progressWith p rows) words j (linkDigits from to) (linesFrom [] rest) (Link from to) (link-frame from to (omega arith) (omega arith))
+        ap (told planKinds (progressWith p rows) words j) (link-lines from to rest (omega arith) (omega arith))
+        ∙ line-told planKinds (progressWith p rows) words j (linkDigits from to) (linesFrom [] rest) (Link from to) (link-frame from to (omega arith) (omega arith))
         (link-accepted k rows words passed from to here a b e)
 
-    links-told : (m k j : ℕ) (rows : List ℕ) → k + m ≡ 400 → Passed p k rows → told 2 (progressWith p rows) words j (linesFrom [] (linkLines p m k)) ≡ Read
+    links-told : (m k j : ℕ) (rows : List ℕ) → k + m ≡ 400 → Passed p k rows → told planKinds (progressWith p rows) words j (linesFrom [] (linkLines p m k)) ≡ Read
     unfolding linkLines
     links-told zero k j rows e passed = links-end j rows (subst (λ (i : ℕ). Passed p i rows) (omega arith) passed)
     links-told (suc m) k j rows e passed =
-        pick-case (λ (l : List ℕ). told 2 (progressWith p rows) words j (linesFrom [] (l ++ linkLines p m (suc k))) ≡ Read)
+        pick-case (λ (l : List ℕ). told planKinds (progressWith p rows) words j (linesFrom [] (l ++ linkLines p m (suc k))) ≡ Read)
         (hears p (k % 20) (k / 20)) (linkLine (k / 20) (k % 20)) []
         (λ h.
         let here : 20 * (k / 20) + k % 20 ≡ k = omega arith in
@@ -192,21 +193,21 @@ module _ (p : Plan) (s : Sound p) where
         (λ h. links-told m (suc k) j rows (omega arith) (place-skipped p k rows passed h))
 
     head-told : (rest : List ℕ) → inRange (p .n) (p .source) (p .f) ≡ true
-        → told 2 nothingRead words 1 (linesFrom [] (headLine p ++ rest)) ≡ told 2 (progressWith p (replicate 20 0)) words 2 (linesFrom [] rest)
-    unfolding causeIn headCause after wordsAfter
+        → told planKinds nothingRead words 1 (linesFrom [] (headLine p ++ rest)) ≡ told planKinds (progressWith p (replicate 20 0)) words 2 (linesFrom [] rest)
+    unfolding causeIn headCause isAt after wordsAfter
     head-told rest r =
         let n : p .n < 256 = omega (arith, s .twenty) in
         let source : p .source < 256 = omega (arith, s .source-below) in
         let f : p .f < 256 = omega (arith, s .f-below) in
-        ap (told 2 nothingRead words 1) (head-lines p rest n source f)
-        ∙ line-told 2 nothingRead words 1 (headDigits (p .n) (p .source) (p .f)) (linesFrom [] rest) (Head (p .n) (p .source) (p .f))
-        (head-frame (p .n) (p .source) (p .f) n source f) (pick-yes _ _ _ refl ∙ pick-yes _ _ _ r)
+        ap (told planKinds nothingRead words 1) (head-lines p rest n source f)
+        ∙ line-told planKinds nothingRead words 1 (headDigits (p .n) (p .source) (p .f)) (linesFrom [] rest) (Head (p .n) (p .source) (p .f))
+        (head-frame (p .n) (p .source) (p .f) n source f) (cause-later _ _ _ (not-yes refl) ∙ cause-last _ _ (not-yes r))
 
-    text-told : inRange (p .n) (p .source) (p .f) ≡ true → told 2 nothingRead words 1 (linesFrom [] (planText p)) ≡ Read
+    text-told : inRange (p .n) (p .source) (p .f) ≡ true → told planKinds nothingRead words 1 (linesFrom [] (planText p)) ≡ Read
     unfolding planText
     text-told r = head-told (linkLines p 400 0) r ∙ links-told 400 0 2 (replicate 20 0) refl (none-passed p)
 
-pub text-length : (p : Plan) → (1 ≤ length (planText p)) × (length (planText p) ≤ 24576)
+pub text-length : (p : Plan) → (1 ≤ length (planText p)) × (length (planText p) ≤ mostBytes)
 unfolding planText
 text-length p =
     let e : length (headLine p ++ linkLines p 400 0) ≡ length (headLine p) + length (linkLines p 400 0) = length-append (headLine p) (linkLines p 400 0) in
@@ -216,9 +217,9 @@ text-length p =
 
 pub read-back : (p : Plan) → causeOf p ≡ 0 → length (p .rows) ≡ 20
     → planReading (planText p)
-    ≡ record { number = 0; line = 0; progress = record { stage = 1; plan = p; faulty = 0; value = 0; rounds = 0 }; words = noWords }
+    ≡ record { number = 0; line = 0; progress = record { stage = Links; plan = p; faulty = 0; value = 0; rounds = 0 }; words = noWords }
 unfolding planReading reading
 read-back p e t =
     let long = text-length p in
-    pick-yes _ _ _ (and-i _ _ (le-leb 1 (length (planText p)) (long .0)) (le-leb (length (planText p)) 24576 (long .1)))
+    pick-yes _ _ _ (and-i _ _ (le-leb 1 (length (planText p)) (long .0)) (le-leb (length (planText p)) mostBytes (long .1)))
     ∙ text-told p (sound p e) t noWords (tests p e .0)

@@ -2,7 +2,7 @@
 use Prim.Native.Nat.{ℕ}
 use mathlib.Core.Path.{_≡_, sym, ap, _∙_, subst}
 use mathlib.Core.List.{List}
-use Rattle.frames.specs.Reading.{Reading, reading, planReading}
+use Rattle.frames.specs.Reading.{planKinds, runKinds, Reading, reading, planReading}
 use Rattle.frames.proofs.Accepted.{reading-known, run-is}
 use Rattle.writer.specs.Written.{planText}
 use Rattle.writer.specs.RoundTrip.{Says, Again, RoundTrip}
@@ -24,7 +24,7 @@ again kinds file h =
     let p = ap (λ (r : Reading). r .progress .plan) e in
     record {
       before = says kinds file h;
-      after = subst (Says 2 (planText (reading kinds file .progress .plan))) p (says 2 (planText (reading kinds file .progress .plan)) n);
+      after = subst (Says planKinds (planText (reading kinds file .progress .plan))) p (says planKinds (planText (reading kinds file .progress .plan)) n);
       accepted = n;
       same = p;
     }
@@ -32,8 +32,8 @@ again kinds file h =
 pub round-trip : (file : List ℕ) → RoundTrip file
 unfolding planReading
 round-trip file = record {
-  of-verdict = again 2 file;
+  of-verdict = again planKinds file;
   of-run = λ h.
       let e = run-is file h in
-      subst (λ (r : Reading). Again 5 file (r .progress .plan)) (sym e) (again 5 file (sym (ap (λ (r : Reading). r .number) e) ∙ h));
+      subst (λ (r : Reading). Again runKinds file (r .progress .plan)) (sym e) (again runKinds file (sym (ap (λ (r : Reading). r .number) e) ∙ h));
 }

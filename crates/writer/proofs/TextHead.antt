@@ -14,7 +14,7 @@ use Rattle.lines.specs.declared.Frame.the-variants.{Foreign, Unknown, Head, Lin
 use Rattle.lines.specs.Frames.{frameOf}
 use Rattle.frames.specs.declared.Progress.{Progress}
 use Rattle.frames.specs.Lines.{Line, ended, cut, linesFrom}
-use Rattle.frames.specs.Reading.{nothingRead, noWords, causeIn, linked, after, wordsAfter, Reading, refusal, told, reading}
+use Rattle.frames.specs.Reading.{mostBytes, stageOf, nothingRead, noWords, causeIn, linked, after, wordsAfter, Reading, refusal, told, reading}
 use Rattle.frames.proofs.Accepted.{head-accepted, link-accepted, fault-set-accepted, start-accepted, message-accepted, frame-stage, some-line}
 use Rattle.writer.specs.RoundTrip.{Begins}
 
@@ -33,7 +33,7 @@ first-head words (Start value rounds) h = absurd (omega (arith, start-accepted n
 first-head words (Message round from to value) h = absurd (omega (arith, message-accepted nothingRead words round from to value h))
 
 -- a later one keeps it
-head-kept : (p : Progress) (words : List ℕ) (frame : Frame) → (p .stage ≡ 0 → ⊥) → causeIn p words frame ≡ 0 → headOf (after p frame .plan) ≡ headOf (p .plan)
+head-kept : (p : Progress) (words : List ℕ) (frame : Frame) → (stageOf (p .stage) ≡ 0 → ⊥) → causeIn p words frame ≡ 0 → headOf (after p frame .plan) ≡ headOf (p .plan)
 unfolding after linked
 head-kept p words Foreign s h = refl
 head-kept p words Unknown s h = refl
@@ -45,7 +45,7 @@ head-kept p words (Message round from to value) s h = refl
 
 -- ---- the lines
 
-told-head : (kinds : ℕ) (p : Progress) (words : List ℕ) (k : ℕ) (lines : List Line) → (p .stage ≡ 0 → ⊥)
+told-head : (kinds : ℕ) (p : Progress) (words : List ℕ) (k : ℕ) (lines : List Line) → (stageOf (p .stage) ≡ 0 → ⊥)
     → told kinds p words k lines .number ≡ 0 → headOf (told kinds p words k lines .progress .plan) ≡ headOf (p .plan)
 unfolding told
 told-head kinds p words k [] s = λ z. refl
@@ -81,7 +81,7 @@ pub reading-begins : (kinds : ℕ) (text : List ℕ) → reading kinds text .num
 unfolding reading
 reading-begins kinds text =
     pick-case (λ (r : Reading). r .number ≡ 0 → Begins kinds (r .progress .plan) (linesFrom [] text))
-    (leb 1 (length text) and leb (length text) 24576) (told kinds nothingRead noWords 1 (linesFrom [] text)) (refusal 1 0)
+    (leb 1 (length text) and leb (length text) mostBytes) (told kinds nothingRead noWords 1 (linesFrom [] text)) (refusal 1 0)
     (λ e.
     let one : 1 ≤ length text = leb-true 1 (length text) (and-l _ _ e) in told-begins kinds noWords (linesFrom [] text) (some-line [] text (omega arith)))
     (λ e z. absurd (omega arith))

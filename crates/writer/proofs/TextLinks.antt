@@ -23,7 +23,7 @@ use Rattle.lines.specs.declared.Frame.the-variants.{Foreign, Unknown, Head, Lin
 use Rattle.lines.specs.Frames.{frameOf}
 use Rattle.frames.specs.declared.Progress.{Progress}
 use Rattle.frames.specs.Lines.{Line, ended, cut, linesFrom}
-use Rattle.frames.specs.Reading.{nothingRead, noWords, causeIn, linked, after, wordsAfter, Reading, refusal, told, reading}
+use Rattle.frames.specs.Reading.{mostBytes, stageOf, nothingRead, noWords, causeIn, linked, after, wordsAfter, Reading, refusal, told, reading}
 use Rattle.frames.proofs.Accepted.{Whole, head-accepted, link-accepted, frame-stage, frame-whole}
 use Rattle.writer.specs.RoundTrip.{Tells}
 
@@ -86,8 +86,8 @@ module _ (p : Plan) (w : Whole p) (from to : ℕ) (f : from < p .n) (t : to < p 
 
 -- a whole plan once something was read, and no link before
 record Ready (p : Progress) : Type 0 where
-  begun : (p .stage ≡ 0 → ⊥) → Whole (p .plan)
-  empty : p .stage ≡ 0 → (a b : ℕ) → hears (p .plan) b a ≡ false
+  begun : (stageOf (p .stage) ≡ 0 → ⊥) → Whole (p .plan)
+  empty : stageOf (p .stage) ≡ 0 → (a b : ℕ) → hears (p .plan) b a ≡ false
 
 module _ (p : Progress) (words : List ℕ) (r : Ready p) where
   frame-ready : (frame : Frame) → causeIn p words frame ≡ 0 → Ready (after p frame)
@@ -151,7 +151,7 @@ unfolding reading Says
 reading-links kinds text =
     pick-case
     (λ (r : Reading). r .number ≡ 0 → (a b : ℕ) → (hears (r .progress .plan) b a ≡ true) ↔ Tells kinds a b (linesFrom [] text))
-    (leb 1 (length text) and leb (length text) 24576) (told kinds nothingRead noWords 1 (linesFrom [] text)) (refusal 1 0)
+    (leb 1 (length text) and leb (length text) mostBytes) (told kinds nothingRead noWords 1 (linesFrom [] text)) (refusal 1 0)
     (λ e z a b.
     let g = told-links kinds nothingRead noWords 1 (linesFrom [] text) nothing-ready z a b in
     (λ h. ⊎-elim (λ x. clash x (no-link 0 0 0 a b)) (λ x. x) (g .0 h), λ x. g .1 (inr x)))

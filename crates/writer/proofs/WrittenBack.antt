@@ -8,6 +8,7 @@ use Rattle.plan.specs.Plan.{causeOf}
 use Rattle.text.specs.declared.Written.{Written}
 use Rattle.text.specs.Texts.{writtenOf, putInto}
 use Rattle.text.proofs.Laws.{put-back}
+use Rattle.frames.specs.declared.Stage.the-variants.{Links}
 use Rattle.frames.specs.Reading.{noWords, planReading}
 use Rattle.writer.specs.Written.{planText, writtenText}
 use Rattle.writer.proofs.Laws.{sound-text}
@@ -25,5 +26,5 @@ module _ (p : Plan) (out : List ℕ) where
 
   pub written-back : length (p .rows) ≡ 20 → answer .number ≡ 0
       → planReading (take (answer .len) (putInto (writtenText p) out))
-      ≡ record { number = 0; line = 0; progress = record { stage = 1; plan = p; faulty = 0; value = 0; rounds = 0 }; words = noWords }
+      ≡ record { number = 0; line = 0; progress = record { stage = Links; plan = p; faulty = 0; value = 0; rounds = 0 }; words = noWords }
   written-back t h = ap planReading (written-text h) ∙ read-back p (put-back (causeOf p) (writtenText p) out h .0) t

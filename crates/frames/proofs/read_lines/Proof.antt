@@ -4,6 +4,8 @@ use mathlib.Core.Path.{_≡_, refl, sym, ap, _∙_}
 use native.Mathlib.Omega.{arith}
 use lib.ListN.{length}
 use borrow.Author.Needs.{needs}
+use Rattle.quorum.specs.Quorum.{mostTerminals}
+use Rattle.quorum.specs.Words.{mostRounds, mostWords}
 use Rattle.frames.specs.declared.FileRead.{FileRead}
 use Rattle.frames.specs.Reading.{told, reading}
 use Rattle.frames.proofs.TellLaws.{kept-next}
@@ -12,7 +14,7 @@ use Rattle.frames.proofs.read_lines.Statement.{statement}
 use Rattle.frames.proofs.read_lines.Tie as tie
 
 abbrev Inv-loop : tie.InvT-loop
-Inv-loop kinds text words₀ p₀ line₀ from₀ i₀ words p line from i = (from ≤ i) × (i ≤ length text) × (line ≤ from + 1) × (p .plan .n ≤ 20) × (p .rounds ≤ 40) × (length words ≡ 16000)
+Inv-loop kinds text words₀ p₀ line₀ from₀ i₀ words p line from i = (from ≤ i) × (i ≤ length text) × (line ≤ from + 1) × (p .plan .n ≤ mostTerminals) × (p .rounds ≤ mostRounds) × (length words ≡ mostWords)
     × (ahead kinds text p words line from i ≡ reading kinds text)
 
 abbrev μ-loop : tie.MeasureT-loop

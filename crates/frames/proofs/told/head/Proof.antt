@@ -1,27 +1,30 @@
--- Each return is the definition's case by the tests that led there. Assumes nothing.
 use mathlib.Core.Path.{refl, sym, _∙_}
 use native.Mathlib.Omega.{arith}
-use borrow.Author.Tests.{eq-eqb, ne-eqb}
-use borrow.Author.Needs.{needs}
-use Rattle.sets.proofs.Bools.{pick-yes, pick-no}
+use Rattle.sets.proofs.Bools.{not-i, not-yes}
+use Rattle.sets.proofs.Causes.{cause-here, cause-later, cause-last}
 use Rattle.frames.specs.Reading.{headCause, after}
+-- Each return is the definition's case by the tests that led there. Assumes nothing.
+use borrow.Author.Needs.{needs}
 use Rattle.frames.proofs.told.head.Statement.{statement}
 use Rattle.frames.proofs.told.head.Tie as tie
 
-returns : tie.Need-returns
-unfolding headCause
-returns c = (sym (pick-no _ _ _ (ne-eqb (c .before .before .args .p .stage) 0 (c .if1 .taken))), λ z. absurd (omega arith))
+is-at-requires : tie.Need-is-at-requires
+is-at-requires c κs = search needs
 
 in-range-requires : tie.Need-in-range-requires
 in-range-requires c κs = search needs
 
-returns-2 : tie.Need-returns-2
+returns : tie.Need-returns
 unfolding headCause after
-returns-2 c = (sym (pick-yes _ _ _ (eq-eqb (c .before .before .before .before .args .p .stage) 0 (c .before .before .if1 .left)) ∙ pick-yes _ _ _ (sym (c .before .in-range .ensures) ∙ c .if2 .taken)), λ z. refl)
+returns c = (sym (cause-later _ _ _ (not-yes (sym (c .before .before .before .is-at .ensures) ∙ c .before .before .if1 .taken)) ∙ cause-last _ _ (not-yes (sym (c .before .in-range .ensures) ∙ c .if2 .taken))), λ z. refl)
+
+returns-2 : tie.Need-returns-2
+unfolding headCause
+returns-2 c = (sym (cause-later _ _ _ (not-yes (sym (c .before .before .before .is-at .ensures) ∙ c .before .before .if1 .taken)) ∙ cause-here _ _ _ (not-i (sym (c .before .in-range .ensures) ∙ c .if2 .left))), λ z. absurd (omega arith))
 
 returns-3 : tie.Need-returns-3
 unfolding headCause
-returns-3 c = (sym (pick-yes _ _ _ (eq-eqb (c .before .before .before .before .args .p .stage) 0 (c .before .before .if1 .left)) ∙ pick-no _ _ _ (sym (c .before .in-range .ensures) ∙ c .if2 .left)), λ z. absurd (omega arith))
+returns-3 c = (sym (cause-here _ _ _ (not-i (sym (c .before .is-at .ensures) ∙ c .if1 .left))), λ z. absurd (omega arith))
 
 pub head-spec : {M : Type 1} → statement M
-head-spec = tie.close (tie.spec returns in-range-requires returns-2 returns-3)
+head-spec = tie.close (tie.spec is-at-requires in-range-requires returns returns-2 returns-3)

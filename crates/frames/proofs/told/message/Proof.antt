@@ -1,19 +1,19 @@
--- The cause is the definition's by the tests that led there; the one store is where the cause is 0. Assumes nothing.
 use Prim.Native.Nat.{ℕ}
 use mathlib.Core.Path.{refl, sym, ap, _∙_}
 use native.Mathlib.Omega.{arith}
 use lib.ListN.{getD, set}
 use borrow.Author.Tests.{eq-eqb, ne-eqb}
-use borrow.Author.Needs.{needs}
-use Rattle.sets.proofs.Bools.{pick-yes, pick-no}
+use Rattle.sets.proofs.Bools.{not-i, not-yes, pick-yes, pick-no}
+use Rattle.sets.proofs.Causes.{cause-here, cause-later, cause-last}
 use Rattle.frames.specs.Reading.{messageCause}
 use Rattle.frames.proofs.TellLaws.{word-parts}
+-- The cause is the definition's by the tests that led there; the one store is where the cause is 0. Assumes nothing.
+use borrow.Author.Needs.{needs}
 use Rattle.frames.proofs.told.message.Statement.{statement}
 use Rattle.frames.proofs.told.message.Tie as tie
 
-returns : tie.Need-returns
-unfolding messageCause
-returns c = (sym (pick-no _ _ _ (ne-eqb (c .before .before .before .before .args .p .stage) 3 (c .if1 .taken))), sym (pick-no _ _ _ refl))
+is-at-requires : tie.Need-is-at-requires
+is-at-requires c κs = search needs
 
 is-word-requires : tie.Need-is-word-requires
 is-word-requires c κs = search needs
@@ -27,9 +27,11 @@ mul-if3 c = search needs
 slice-read-if3 : tie.Need-slice-read-if3
 slice-read-if3 c = search needs
 
-returns-2 : tie.Need-returns-2
+returns : tie.Need-returns
 unfolding messageCause
-returns-2 c = (sym (pick-yes _ _ _ (eq-eqb (c .before .before .before .before .before .before .before .before .before .args .p .stage) 3 (c .before .before .before .before .before .if1 .left)) ∙ pick-yes _ _ _ (sym (c .before .before .before .before .is-word .ensures) ∙ c .before .before .before .if2 .taken) ∙ pick-no _ _ _ (rw (c .before .before .place-of .ensures .0) at (ne-eqb (getD (c .before .before .before .before .before .before .before .before .before .args .words .now) (c .before .before .place-of .result) 0) 0 (c .if3 .taken)))), sym (pick-no _ _ _ refl))
+returns c = let there = rw (c .before .before .place-of .ensures .0) at (ne-eqb (getD (c .before .before .before .before .before .before .before .before .before .args .words .now) (c .before .before .place-of .result) 0) 0 (c .if3 .taken)) in
+    let word = not-yes (sym (c .before .before .before .before .is-word .ensures) ∙ c .before .before .before .if2 .taken) in
+    (sym (cause-later _ _ _ (not-yes (sym (c .before .before .before .before .before .before .is-at .ensures) ∙ c .before .before .before .before .before .if1 .taken)) ∙ cause-later _ _ _ word ∙ cause-here _ _ _ (not-i there)), sym (pick-no _ _ _ refl))
 
 mul-words : tie.Need-mul-words
 mul-words c = search needs
@@ -40,26 +42,35 @@ slice-write-words c = search needs
 same-length : tie.Need-same-length
 same-length c = search needs
 
+returns-2 : tie.Need-returns-2
+unfolding messageCause
+returns-2 c = let free = rw (c .before .before .place-of .ensures .0) at (eq-eqb (getD (c .before .before .before .before .before .before .before .before .before .args .words .now) (c .before .before .place-of .result) 0) 0 (c .if3 .left)) in
+    let word = not-yes (sym (c .before .before .before .before .is-word .ensures) ∙ c .before .before .before .if2 .taken) in (
+      sym (cause-later _ _ _ (not-yes (sym (c .before .before .before .before .before .before .is-at .ensures) ∙ c .before .before .before .before .before .if1 .taken)) ∙ cause-later _ _ _ word ∙ cause-last _ _ (not-yes free)),
+      ap (λ (k : ℕ). set (c .before .before .before .before .before .before .before .before .before .args .words .now) k (c .before .before .before .before .before .before .before .before .before .args .value)) (c .before .before .place-of .ensures .0) ∙ sym (pick-yes _ _ _ refl),
+    )
+
 returns-3 : tie.Need-returns-3
 unfolding messageCause
-returns-3 c = (sym (pick-yes _ _ _ (eq-eqb (c .before .before .before .before .before .before .before .before .before .args .p .stage) 3 (c .before .before .before .before .before .if1 .left)) ∙ pick-yes _ _ _ (sym (c .before .before .before .before .is-word .ensures) ∙ c .before .before .before .if2 .taken) ∙ pick-yes _ _ _ (rw (c .before .before .place-of .ensures .0) at (eq-eqb (getD (c .before .before .before .before .before .before .before .before .before .args .words .now) (c .before .before .place-of .result) 0) 0 (c .if3 .left)))), ap (λ (k : ℕ). set (c .before .before .before .before .before .before .before .before .before .args .words .now) k (c .before .before .before .before .before .before .before .before .before .args .value)) (c .before .before .place-of .ensures .0) ∙ sym (pick-yes _ _ _ refl))
+returns-3 c = (sym (cause-later _ _ _ (not-yes (sym (c .before .before .before .is-at .ensures) ∙ c .before .before .if1 .taken)) ∙ cause-here _ _ _ (not-i (sym (c .before .is-word .ensures) ∙ c .if2 .left))), sym (pick-no _ _ _ refl))
 
 returns-4 : tie.Need-returns-4
 unfolding messageCause
-returns-4 c = (sym (pick-yes _ _ _ (eq-eqb (c .before .before .before .before .before .before .args .p .stage) 3 (c .before .before .if1 .left)) ∙ pick-no _ _ _ (sym (c .before .is-word .ensures) ∙ c .if2 .left)), sym (pick-no _ _ _ refl))
+returns-4 c = (sym (cause-here _ _ _ (not-i (sym (c .before .is-at .ensures) ∙ c .if1 .left))), sym (pick-no _ _ _ refl))
 
 pub message-spec : {M : Type 1} → statement M
 message-spec =
     tie.close
     (tie.spec
-    returns
+    is-at-requires
     is-word-requires
     place-of-requires
     mul-if3
     slice-read-if3
-    returns-2
+    returns
     mul-words
     slice-write-words
     same-length
+    returns-2
     returns-3
     returns-4)
