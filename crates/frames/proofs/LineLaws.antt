@@ -16,9 +16,12 @@ use Rattle.quorum.specs.Words.{mostRounds, mostWords}
 use Rattle.lines.specs.declared.Frame.{Frame}
 use Rattle.lines.specs.Frames.{frameOf}
 use Rattle.frames.specs.declared.Progress.{Progress}
+use Rattle.frames.specs.declared.Cursor.{Cursor}
 use Rattle.frames.specs.declared.FileRead.{FileRead}
 use Rattle.frames.specs.Lines.{ended, lastLine, linesFrom}
 use Rattle.frames.specs.Reading.{mostBytes, nothingRead, noWords, causeIn, after, wordsAfter, Reading, refusal, told, reading, fileRead}
+use Rattle.frames.specs.Pass.{current, ahead, Going}
+use Rattle.frames.proofs.TellLaws.{kept-next}
 
 -- ---- a copy, one word a turn
 
@@ -26,13 +29,7 @@ pub copied : (from to : List ℕ) (i : ℕ) → i < length from → i < length t
     → take (i + 1) (set to i (getD from i 0)) ≡ take (i + 1) from
 copied from to i f t e = rw (add-one, take-suc-set to i (getD from i 0), take-suc from i 0) (ap (λ (l : List ℕ). l ++ (getD from i 0 ∷ [])) e)
 
--- ---- the bytes of the line that the pass is in, and what the file is told to be from there on
-
-abbrev pub current : List ℕ → ℕ → ℕ → List ℕ
-current text from i = take (i - from) (drop from text)
-
-abbrev pub ahead : ℕ → List ℕ → Progress → List ℕ → ℕ → ℕ → ℕ → Reading
-ahead kinds text p words line from i = told kinds p words line (linesFrom (current text from i) (drop i text))
+-- ---- the line that the pass is in
 
 -- byte 10 ends the line
 lines-end : (text line : List ℕ) (i : ℕ) → i < length text → getD text i 0 ≡ 10
@@ -119,6 +116,62 @@ unfolding reading
 starts kinds text p words h e =
     ap₂ (λ (x : Progress) (y : List ℕ). told kinds x y 1 (linesFrom [] text)) e (h .2)
     ∙ sym (pick-yes _ _ _ (and-i _ _ (le-leb 1 (length text) (h .0)) (le-leb (length text) mostBytes (h .1))))
+
+pub going-starts : (kinds : ℕ) (text : List ℕ) (p : Progress) (words : List ℕ) → (1 ≤ length text) × (length text ≤ mostBytes) × (words ≡ noWords)
+    → p ≡ nothingRead → Going kinds text words (record { progress = p; line = 1; from = 0; cause = 0 }) 0
+going-starts kinds text p words h e =
+    let s = starts-small p e in
+    record {
+      accepted = refl;
+      begun = omega arith;
+      within = omega arith;
+      counted = omega arith;
+      twenty = s .0;
+      forty = s .1;
+      places = no-words words (h .2);
+      same = starts kinds text p words h e;
+    }
+
+-- ---- the byte at i
+
+module _ (kinds : ℕ) (text words : List ℕ) (at : Cursor) (i : ℕ) (g : Going kinds text words at i) (k : i < length text) where
+  -- it is one more of the line
+  pub pass-grows : (getD text i 0 ≡ 10 → ⊥) → Going kinds text words at (i + 1)
+  pass-grows h = record {
+    accepted = g .accepted;
+    begun = omega (arith, g .begun);
+    within = omega arith;
+    counted = g .counted;
+    twenty = g .twenty;
+    forty = g .forty;
+    places = g .places;
+    same = ap (told kinds (at .progress) words (at .line)) (sym (lines-grow text (at .from) i (g .begun) k h)) ∙ g .same;
+  }
+
+  -- it ends the line, whose frame is refused or accepted
+  module _ (h : getD text i 0 ≡ 10) (frame : Frame) (f : frame ≡ frameOf kinds (current text (at .from) i)) (cause : ℕ)
+      (e : cause ≡ causeIn (at .progress) words frame) where
+    pub pass-refused : (cause ≡ 0 → ⊥) → reading kinds text ≡ refusal cause (at .line)
+    pass-refused n = sym (g .same) ∙ line-refused kinds text (at .progress) words (at .line) (at .from) i k h frame f cause e n
+
+    pub pass-told : (next : Progress) (said : List ℕ) → cause ≡ 0 → next ≡ after (at .progress) frame
+        → said ≡ pick (eqb cause 0) (wordsAfter (at .progress) words frame) words → length said ≡ length words
+        → Going kinds text said (record { progress = next; line = at .line + 1; from = i + 1; cause = 0 }) (i + 1)
+    pass-told next said z q w l =
+        let small = kept-next (at .progress) words (g .twenty) (g .forty) frame cause next e z q in
+        record {
+          accepted = refl;
+          begun = omega arith;
+          within = omega arith;
+          counted = omega (arith, g .counted, g .begun);
+          twenty = small .0;
+          forty = small .1;
+          places = l ∙ g .places;
+          same =
+              sym (line-told kinds text (at .progress) words (at .line) (at .from) i k h frame f cause e next said z q w) ∙ g .same;
+        }
+
+-- ---- what comes back
 
 pub file-refused : (r : FileRead) (number line : ℕ) (file : Reading) (words : List ℕ) → r ≡ record { number = number; line = line; progress = nothingRead }
     → file ≡ refusal number line → (number ≡ 0 → ⊥) → (r ≡ fileRead file) × (r .number ≡ 0 → words ≡ file .words)

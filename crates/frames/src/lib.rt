@@ -2,9 +2,10 @@
 mod told;
 
 ghost use mathlib.Core.Path.{_≡_};
-ghost use Prim.Native.Nat.{_≤_};
+ghost use Prim.Native.Nat.{_+_, _<_, _≤_};
 ghost use lib.ListN.{length};
-ghost use Rattle.frames.specs.Reading.{mostBytes, stageOf, isAt, nothingRead, noWords, reading, planReading, fileRead, runFile, wordsRead};
+ghost use Rattle.frames.specs.Reading.{mostBytes, stageOf, isAt, nothingRead, noWords, refusal, reading, planReading, fileRead, runFile, wordsRead};
+ghost use Rattle.frames.specs.Pass.{Going};
 use plan::Plan;
 
 // The bytes of a file, and the words of a run.
@@ -84,36 +85,73 @@ fn refusal(number: u8, line: u16) -> FileRead
     }
 }
 
+// Where the pass over a file's bytes stands: what is known, the line's number and its first byte; and
+// the cause that refused the line before, 0 for none.
+struct Cursor {
+    progress: Progress,
+    line: u16,
+    from: usize,
+    cause: u8,
+}
+
+// The byte at i: it ends a line, whose frame is told, or it is one more of the line.
+fn pass(kinds: u32, text: &[u8], words: &mut [u16], at: Cursor, i: usize) -> Cursor
+    requires { ⌜ Going kinds (now text) (now words) at i × (i < length (now text)) × (length (now text) ≤ mostBytes) ⌝ }
+    ensures { λ r. ⌜ (r .cause ≡ 0 → Going kinds (now (text .entry)) (now (words .exit)) r (i + 1)) ⌝ }
+    ensures { λ r. ⌜ ((r .cause ≡ 0 → ⊥) → reading kinds (now (text .entry)) ≡ refusal (r .cause) (r .line)) ⌝ }
+{
+    let from = at.from;
+    let known = at.progress;
+    if text[i] == 10 {
+        let told = told::tell(known, words, lines::frame_of(kinds, &text[from..i]));
+        if told.cause != 0 {
+            return Cursor {
+                progress: known,
+                line: at.line,
+                from: from,
+                cause: told.cause,
+            };
+        }
+        let next = told.progress;
+        return Cursor {
+            progress: next,
+            line: at.line + 1,
+            from: i + 1,
+            cause: 0,
+        };
+    }
+    at
+}
+
 // The lines of a file of fitting length, from the first: each is told as its end is met.
 fn read_lines(kinds: u32, text: &[u8], words: &mut [u16]) -> FileRead
     requires { ⌜ (1 ≤ length (now text)) × (length (now text) ≤ mostBytes) × (now words ≡ noWords) ⌝ }
     ensures { λ r. ⌜ (r ≡ fileRead (reading kinds (now (text .entry)))) × (r .number ≡ 0 → now (words .exit) ≡ reading kinds (now (text .entry)) .words) ⌝ }
 {
-    let mut p = refusal(0, 0).progress;
-    let mut line: u16 = 1;
-    let mut from = 0;
+    let nothing = refusal(0, 0);
+    let start = nothing.progress;
+    let mut at = Cursor {
+        progress: start,
+        line: 1,
+        from: 0,
+        cause: 0,
+    };
     let mut i = 0;
     while i < text.len() {
-        if text[i] == 10 {
-            let told = told::tell(p, words, lines::frame_of(kinds, &text[from..i]));
-            if told.cause != 0 {
-                return refusal(told.cause, line);
-            }
-            p = told.progress;
-            line += 1;
-            from = i + 1;
-            i += 1;
-        } else {
-            i += 1;
+        at = pass(kinds, text, words, at, i);
+        if at.cause != 0 {
+            return refusal(at.cause, at.line);
         }
+        i += 1;
     }
-    if from < i {
-        return refusal(1, line);
+    if at.from < i {
+        return refusal(1, at.line);
     }
+    let progress = at.progress;
     FileRead {
         number: 0,
         line: 0,
-        progress: p,
+        progress: progress,
     }
 }
 
