@@ -1,12 +1,24 @@
-/* One weighbridge terminal: its record, and the step that plays one round of it.
+/* One weighbridge terminal: its record, the step that plays one round of it, and what it says.
  *
  * The functions are in libfirmware.a ('rt staticlib firmware'), for x86-64 with the System V calling
  * convention. They are proved: for any bytes that are handed in they end, touch no memory but their
- * arguments, and answer as the words below say. They keep nothing between calls and use no heap.
+ * arguments, and answer as the words below say. They use no heap.
+ *
+ * A round of a board, of which there are HULMAYEK_ROUNDS at most:
+ *   1. transmit hulmayek_says(record) to all neighbours; 0 is silence, nothing is sent
+ *   2. collect what each neighbour transmitted in this round: said[j] from terminal j, 0 for nothing
+ *   3. record = hulmayek_step(.., record, said, n).after
+ * So a terminal speaks once, in the round after the one that it took in, and the source in round 1.
+ * examples/board.c plays this.
+ *
+ * Threads: nothing is kept between calls and nothing is shared, so any number of threads may call any
+ * of the functions at the same time. Each record is a value of its caller's.
  *
  * What the caller owes, and no proof covers: the pointer `said` is valid for `said_len` words and aligned
- * for them, `said_len` is true, and nobody writes to the list during the call. With said_len 0 the pointer
- * is not read, but must not be null.
+ * for them, `said_len` is true, and nobody writes to the list during the call. A null pointer is outside the
+ * contract, with said_len 0 too: pass the address of any word. With said_len 0 nothing is read and the call
+ * is refused, since n is at least 2; this archive does the same with a null pointer, which is tested and not
+ * proved.
  */
 #ifndef HULMAYEK_TERMINAL_H
 #define HULMAYEK_TERMINAL_H
@@ -18,9 +30,28 @@
 extern "C" {
 #endif
 
+/* The layout of the types below and the meaning of the functions. An archive of another layout returns
+ * another number from hulmayek_layout(): compare once, at the start. */
+#define HULMAYEK_LAYOUT 1
+
+/* The most terminals of a site, and the most rounds that a record plays. */
+#define HULMAYEK_TERMINALS 20
+#define HULMAYEK_ROUNDS 40
+
+/* `taken` of a record. */
+#define HULMAYEK_WAITING 0
+#define HULMAYEK_TAKEN 1
+
+/* `number` of an answer. */
+#define HULMAYEK_PLAYED 0
+#define HULMAYEK_WRONG_RANGE 4
+#define HULMAYEK_WRONG_LINK 5
+#define HULMAYEK_WRONG_LENGTH 12
+#define HULMAYEK_WRONG_RECORD 13
+
 /* What a terminal keeps from round to round.
- *   taken   0: it waits, and at and value are 0; 1: it took the layout `value` in round `at`.
- *           Any other bytes here are a record that no step takes: refused, 13.
+ *   taken   HULMAYEK_WAITING: at and value are 0; HULMAYEK_TAKEN: it took the layout `value` in round `at`.
+ *           Any other bytes here are a record that no step takes: refused, HULMAYEK_WRONG_RECORD.
  *   round   how many rounds it has played
  *   notes   notes[j]: the first value that terminal j said to it, 0 for none */
 typedef struct {
@@ -28,18 +59,23 @@ typedef struct {
     uint8_t at;
     uint16_t value;
     uint8_t round;
-    uint16_t notes[20];
+    uint16_t notes[HULMAYEK_TERMINALS];
 } hulmayek_record;
 
 /* What a step answers.
- *   number  0: the round was played, and `after` is the new record. Otherwise `after` is the record that
- *           went in, byte for byte but for its padding, and number says what was wrong, the first that
- *           applies in this order:
- *            4  n is not 2 to 20, or source or f is not below n
- *            5  `heard` has a bit at or above n, or the terminal's own
- *           13  the record cannot be stepped: 40 rounds played, own not below n, the source waiting, taken
- *               later than its round, taken with value 0, or no record at all
- *           12  the list is not n words long */
+ *   number  HULMAYEK_PLAYED: the round was played, and `after` is the new record. Otherwise `after` is the
+ *           record that went in, byte for byte but for its padding, and number says what was wrong, the
+ *           first that applies in this order:
+ *            HULMAYEK_WRONG_RANGE   n is not 2 to 20, or source or f is not below n
+ *            HULMAYEK_WRONG_LINK    `heard` has a bit at or above n, or the terminal's own
+ *            HULMAYEK_WRONG_RECORD  the record cannot be stepped: 40 rounds played, own not below n, the
+ *                                   source waiting, taken later than its round, taken with value 0, or
+ *                                   no record at all
+ *            HULMAYEK_WRONG_LENGTH  the list is not n words long
+ *
+ * HULMAYEK_WRONG_RECORD with before.round == HULMAYEK_ROUNDS is the end of the play: a record that was only
+ * ever stepped by hulmayek_step reaches that round and no later one, and keeps its layout. With any other
+ * round the record is broken, or own is not below n. */
 typedef struct {
     uint8_t number;
     hulmayek_record after;
@@ -48,7 +84,9 @@ typedef struct {
 /* The record of a terminal that is switched on: waiting, round 0, nothing heard. */
 hulmayek_record hulmayek_start(void);
 
-/* The same of the source, which has taken its own value in round 0. */
+/* The same of the source, which has taken its own value in round 0. Layouts are 1 to 65535: value 0 is not
+ * refused here, but gives a record that says nothing and that the next step refuses with
+ * HULMAYEK_WRONG_RECORD. */
 hulmayek_record hulmayek_source_start(uint16_t value);
 
 /* One round of terminal `own` on a site of n terminals, of which at most f that it hears may lie.
@@ -57,6 +95,14 @@ hulmayek_record hulmayek_source_start(uint16_t value);
  * noted from more than f of them. One that has taken a layout keeps it. */
 hulmayek_answer hulmayek_step(size_t n, size_t source, size_t f, size_t own, uint32_t heard,
                               hulmayek_record before, const uint16_t *said, size_t said_len);
+
+/* What the terminal transmits to all its neighbours in the round after record.round: its value if it took in
+ * that round (record.at == record.round), else 0, which is silence. It is asked of the record before the step of
+ * the round that the word is for. A record whose bytes are no state says 0. */
+uint16_t hulmayek_says(hulmayek_record record);
+
+/* HULMAYEK_LAYOUT of the header that the archive was built for. */
+uint32_t hulmayek_layout(void);
 
 #ifdef __cplusplus
 }

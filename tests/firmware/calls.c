@@ -26,6 +26,9 @@ static int read_line(void) {
     return n;
 }
 
+/* Records, damaged ones too, that say another word than document 01 has them say. */
+static unsigned wrong_words = 0;
+
 static hulmayek_answer call(int n) {
     hulmayek_record r = {body[12], body[13], (uint16_t)pair(14), body[16], {0}};
     uint16_t said[MOST];
@@ -33,6 +36,7 @@ static hulmayek_answer call(int n) {
     uint32_t heard = ((uint32_t)pair(8) << 16) | pair(10);
     for (size_t j = 0; j < 20; j++) r.notes[j] = (uint16_t)pair(17 + 2 * j);
     for (size_t j = 0; j < count; j++) said[j] = (uint16_t)pair(HEAD + 2 * j);
+    if (hulmayek_says(r) != (r.taken == 1 && r.at == r.round ? r.value : 0)) wrong_words++;
     return hulmayek_step(pair(0), pair(2), pair(4), pair(6), heard, r, said, count);
 }
 
@@ -77,5 +81,6 @@ int main(int count, char **arguments) {
         return 0;
     }
     for (int n = read_line(); n >= HEAD; n = read_line()) print(call(n));
-    return 0;
+    if (wrong_words) fprintf(stderr, "calls: %u records say another word\n", wrong_words);
+    return wrong_words != 0;
 }

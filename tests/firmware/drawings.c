@@ -4,8 +4,6 @@
 #include <stdio.h>
 #include <string.h>
 
-enum { ROUNDS = 40 };
-
 static int failures = 0;
 
 static void expect(int right, const char *what) {
@@ -29,11 +27,12 @@ static void start(site *s, uint16_t value) {
     for (size_t b = 1; b < s->n; b++) s->records[b] = hulmayek_start();
 }
 
-/* What terminal j says in a round: its value in the round after it took. */
+/* What terminal j says in a round: its value in the round after it took, by document 01. */
 static uint16_t says(const site *s, size_t j, unsigned round) {
     const hulmayek_record *r = &s->records[j];
-    if ((s->silent >> j) & 1) return 0;
-    return r->taken == 1 && r->at + 1u == round ? r->value : 0;
+    uint16_t by_rule = r->taken == 1 && r->at + 1u == round ? r->value : 0;
+    expect(hulmayek_says(*r) == by_rule, "a record says its value in the round after it took, else 0");
+    return (s->silent >> j) & 1 ? 0 : by_rule;
 }
 
 /* One round: all that is said is fixed before the first step. */
@@ -60,10 +59,10 @@ static void drawing_c(void) {
 static void drawing_e(void) {
     site s = {.n = 4, .f = 1, .heard = {0, 1, 1, 6}, .silent = 2};
     start(&s, 7);
-    for (unsigned round = 1; round <= ROUNDS; round++) play(&s, round);
+    for (unsigned round = 1; round <= HULMAYEK_ROUNDS; round++) play(&s, round);
     expect(s.records[2].taken == 1 && s.records[2].at == 1 && s.records[2].value == 7, "E: 2 takes 7 in round 1");
     expect(s.records[3].taken == 0 && s.records[3].at == 0 && s.records[3].value == 0, "E: 3 waits for ever");
-    expect(s.records[3].round == ROUNDS && s.records[3].notes[2] == 7 && s.records[3].notes[1] == 0,
+    expect(s.records[3].round == HULMAYEK_ROUNDS && s.records[3].notes[2] == 7 && s.records[3].notes[1] == 0,
            "E: 3 has played 40 rounds and heard 2 only");
     s.silent = 0;
     start(&s, 7);
@@ -82,6 +81,10 @@ static void refused(size_t n, size_t own, uint32_t heard, hulmayek_record r, siz
 }
 
 static void refusals(void) {
+    expect(HULMAYEK_WRONG_RANGE == 4 && HULMAYEK_WRONG_LINK == 5 && HULMAYEK_WRONG_LENGTH == 12
+               && HULMAYEK_WRONG_RECORD == 13 && HULMAYEK_WAITING == 0 && HULMAYEK_TAKEN == 1
+               && HULMAYEK_TERMINALS == 20 && HULMAYEK_ROUNDS == 40,
+           "the names are document 01's numbers");
     hulmayek_record r = hulmayek_start();
     r.notes[3] = 9;
     refused(21, 1, 1, r, 21, 4, "21 terminals: 4");
@@ -100,10 +103,42 @@ static void refusals(void) {
     refused(4, 1, 1, r, 3, 13, "no record comes before a wrong length: 13");
 }
 
+/* Records that say something or nothing: taken in the round that they show, before or after it, not at all, and
+ * bytes that are no state. at 255 and round 255 agree: nothing wraps. */
+static void words(void) {
+    static const struct {
+        hulmayek_record r;
+        uint16_t says;
+    } rows[] = {
+        {{1, 3, 9, 3, {0}}, 9},     {{1, 3, 9, 4, {0}}, 0},   {{1, 3, 9, 2, {0}}, 0}, {{0, 0, 0, 0, {0}}, 0},
+        {{1, 0, 7, 0, {0}}, 7},     {{1, 255, 9, 255, {0}}, 9}, {{1, 255, 9, 0, {0}}, 0}, {{2, 3, 9, 3, {0}}, 0},
+        {{0, 3, 9, 3, {0}}, 0},     {{255, 0, 9, 0, {0}}, 0},
+    };
+    for (size_t i = 0; i < sizeof rows / sizeof *rows; i++) {
+        expect(hulmayek_says(rows[i].r) == rows[i].says, "a row of the words");
+    }
+}
+
+/* What the header says of value 0, of the fortieth round, of the layout and of no list. */
+static void promises(void) {
+    static const uint16_t said[3] = {0};
+    hulmayek_record r = hulmayek_source_start(0);
+    expect(hulmayek_says(r) == 0, "a source that starts with 0 says nothing");
+    expect(hulmayek_step(3, 0, 0, 0, 0, r, said, 3).number == HULMAYEK_WRONG_RECORD, "and its step is refused");
+    r = hulmayek_source_start(7);
+    for (unsigned round = 1; round <= HULMAYEK_ROUNDS; round++) r = hulmayek_step(3, 0, 0, 0, 0, r, said, 3).after;
+    expect(r.round == HULMAYEK_ROUNDS && r.value == 7, "forty rounds are played, and it keeps its layout");
+    expect(hulmayek_step(3, 0, 0, 0, 0, r, said, 3).number == HULMAYEK_WRONG_RECORD, "the next one is refused");
+    expect(hulmayek_layout() == HULMAYEK_LAYOUT, "the archive has the header's layout");
+    expect(hulmayek_step(3, 0, 0, 1, 1, hulmayek_start(), NULL, 0).number == HULMAYEK_WRONG_LENGTH, "no list at all");
+}
+
 int main(void) {
     drawing_c();
     drawing_e();
     refusals();
-    if (failures == 0) puts("drawings C and E, and 8 refusals: as document 01 has them");
+    words();
+    promises();
+    if (failures == 0) puts("drawings C and E, 8 refusals, and what is said: as document 01 has them");
     return failures != 0;
 }

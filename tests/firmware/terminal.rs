@@ -32,7 +32,12 @@ extern "C" {
         said: *const u16,
         said_len: usize,
     ) -> Answer;
+    fn hulmayek_says(record: Record) -> u16;
+    fn hulmayek_layout() -> u32;
 }
+
+/// What this wrapper was written for; another archive is not to be used with it.
+pub const LAYOUT: u32 = 1;
 
 /// Where a terminal stands on its site.
 #[derive(Clone, Copy)]
@@ -55,6 +60,17 @@ pub fn source_start(value: u16) -> Record {
     unsafe { hulmayek_source_start(value) }
 }
 
+/// What the terminal transmits in the round after the one that its record shows; 0 is silence.
+pub fn says(record: Record) -> u16 {
+    // SAFETY: takes a value, any bytes of it.
+    unsafe { hulmayek_says(record) }
+}
+
+pub fn layout() -> u32 {
+    // SAFETY: takes nothing.
+    unsafe { hulmayek_layout() }
+}
+
 /// One round; or the number of the refusal, and the record is then still the caller's.
 pub fn step(place: Place, before: Record, said: &[u16]) -> Result<Record, u8> {
     let Place {
@@ -74,6 +90,8 @@ pub fn step(place: Place, before: Record, said: &[u16]) -> Result<Record, u8> {
 }
 
 fn main() {
+    assert_eq!(layout(), LAYOUT);
+    assert_eq!((says(start()), says(source_start(7))), (0, 7));
     let second = Place {
         n: 3,
         source: 0,
@@ -88,6 +106,7 @@ fn main() {
     };
     let one = step(second, start(), &[7, 0, 0]).expect("round 1 of terminal 1");
     assert_eq!((one.taken, one.at, one.value), (1, 1, 7));
+    assert_eq!(says(one), 7);
     let two = step(third, start(), &[7, 0, 0]).expect("round 1 of terminal 2");
     assert_eq!((two.taken, two.round), (0, 1));
     let two = step(third, two, &[0, 7, 0]).expect("round 2 of terminal 2");

@@ -6,7 +6,7 @@ use mathlib.Core.Bool.{true, false}
 use native.Mathlib.Omega.{arith}
 use lib.Dec.{eqb}
 use borrow.Author.Tests.{eqb-true, eq-eqb}
-use Rattle.sets.specs.Tests.{_and_, _or_}
+use Rattle.sets.specs.Tests.{_or_}
 use Rattle.sets.specs.Sets.{mem, count}
 use Rattle.sets.proofs.Bools.{clash, and-l, and-r, and-i, or-l, or-r, or-e, not-i, not-e}
 use Rattle.sets.proofs.Laws.{mask-lt, mem-mask, mem-below, mem-zero, count-le, count-more, subset-fewer}

@@ -8,13 +8,13 @@ use native.Mathlib.Omega.{arith}
 use lib.Dec.{eqb, ltb}
 use borrow.Author.Tests.{eqb-true, eqb-false, ne-eqb, ltb-true, ltb-false, lt-ltb}
 use Rattle.sets.specs.Tests.{_and_, _implies_}
-use Rattle.sets.specs.Sets.{bit, mem, size, within}
+use Rattle.sets.specs.Sets.{bit, mem, size, within, outside}
 use Rattle.sets.proofs.Bools.{clash, decide, and-l, and-r, and-i, not-i, not-e, no-by, implies-i, implies-e, pick-case}
 use Rattle.sets.proofs.Laws.{mask-lt, mem-mask, mem-zero, all-at, all-i, some-member}
 use Rattle.plan.specs.declared.Plan.{Plan}
 use Rattle.plan.specs.Plan.{hears}
 use Rattle.closure.specs.FaultSet.{hearsEnough, isFaultSet}
-use Rattle.closure.specs.Closure.{joins, reached, rest, cutOff}
+use Rattle.closure.specs.Closure.{joins, reached, cutOff}
 use Rattle.closure.specs.Verdict.{defeats, Found, none, found, better, bestBelow, Ahead, verdictOf, verdict, Fails, isPartition, accepts}
 use Rattle.closure.proofs.Faults.{fault-below, fault-source}
 use Rattle.closure.proofs.Growth.{joins-good, joins-why, joins-source, joins-enough, reached-closed, reached-source, reached-below, reached-good, reached-least}
@@ -22,25 +22,24 @@ use Rattle.closure.proofs.Growth.{joins-good, joins-why, joins-source, 
 -- ---- the cut-off terminals
 
 module _ (p : Plan) (faulty : ℕ) where
-  rest-mem : (l b : ℕ) → b < p .n → mem b (rest p faulty l) ≡ not (mem b faulty) and not (mem b l)
-  unfolding rest
-  rest-mem l b k = mem-mask (p .n) b (λ b. not (mem b faulty) and not (mem b l)) k
+  outside-mem : (l b : ℕ) → b < p .n → mem b (outside (p .n) faulty l) ≡ not (mem b faulty) and not (mem b l)
+  outside-mem l b k = mem-mask (p .n) b (λ b. not (mem b faulty) and not (mem b l)) k
 
   pub cut-below : cutOff p faulty < 2 ^ p .n
-  unfolding cutOff rest
+  unfolding cutOff
   cut-below = mask-lt (p .n) (λ b. not (mem b faulty) and not (mem b (reached p faulty)))
 
   pub cut-good : (b : ℕ) → b < p .n → mem b (cutOff p faulty) ≡ true → mem b faulty ≡ false
   unfolding cutOff
-  cut-good b k h = not-e (mem b faulty) (and-l _ _ (sym (rest-mem (reached p faulty) b k) ∙ h))
+  cut-good b k h = not-e (mem b faulty) (and-l _ _ (sym (outside-mem (reached p faulty) b k) ∙ h))
 
   pub cut-unreached : (b : ℕ) → b < p .n → mem b (cutOff p faulty) ≡ true → mem b (reached p faulty) ≡ false
   unfolding cutOff
-  cut-unreached b k h = not-e (mem b (reached p faulty)) (and-r _ _ (sym (rest-mem (reached p faulty) b k) ∙ h))
+  cut-unreached b k h = not-e (mem b (reached p faulty)) (and-r _ _ (sym (outside-mem (reached p faulty) b k) ∙ h))
 
   pub cut-is : (b : ℕ) → b < p .n → mem b faulty ≡ false → mem b (reached p faulty) ≡ false → mem b (cutOff p faulty) ≡ true
   unfolding cutOff
-  cut-is b k g u = rest-mem (reached p faulty) b k ∙ and-i _ _ (not-i g) (not-i u)
+  cut-is b k g u = outside-mem (reached p faulty) b k ∙ and-i _ _ (not-i g) (not-i u)
 
   -- where nothing is cut off, every good terminal is reached
   pub reached-of-none : cutOff p faulty ≡ 0 → (b : ℕ) → b < p .n → mem b faulty ≡ false → mem b (reached p faulty) ≡ true
@@ -145,10 +144,6 @@ pass-empty p = go (bestBelow p (2 ^ p .n))
     go none e = (refl, refl, refl)
     go (found t) e = clash e refl
 
--- a plan that some fault set defeats is failed
-pub defeated : (p : Plan) (s : ℕ) → defeats p s ≡ true → verdict p .passed ≡ false
-defeated p s d = no-by (λ h. defeats-cuts p s d (verdict-pass p h s (defeats-fault p s d)))
-
 -- ---- the witness check
 
 pub one-of : (a b c : Bool) → eqb (bit a + bit b + bit c) 1 ≡ true
@@ -238,7 +233,7 @@ defeats-accepted p l s d =
     (all-i (p .n) (λ b. eqb (bit (mem b s) + bit (mem b (reached p s)) + bit (mem b (cutOff p s))) 1)
     (λ b k.
     rest-one (mem b s) (mem b (reached p s)) (mem b (cutOff p s)) (reached-good p s (fault-source p s i) b)
-    (rest-mem p s (reached p s) b k))))))
+    (outside-mem p s (reached p s) b k))))))
     (and-i _ _ (reached-source p s l)
     (and-i _ _ (not-i (ne-eqb (cutOff p s) 0 (defeats-cuts p s d)))
     (and-i _ _ i

@@ -5,38 +5,38 @@ use mathlib.Core.Logic.{_⊎_}
 use mathlib.Core.Bool.{Bool, true, false, not}
 use lib.Dec.{eqb, ltb}
 use Rattle.sets.specs.Tests.{_and_, _implies_, pick}
-use Rattle.sets.specs.Sets.{bit, mem, all, size, within}
+use Rattle.sets.specs.Sets.{Set, bit, mem, all, size, within}
 use Rattle.plan.specs.declared.Plan.{Plan}
 use Rattle.plan.specs.Plan.{hears}
 use Rattle.closure.specs.FaultSet.{hearsEnough, isFaultSet}
 use Rattle.closure.specs.Closure.{reached, cutOff}
 
 -- a fault set that leaves R non-empty
-unfoldable pub defeats : Plan → ℕ → Bool
+unfoldable pub defeats : Plan → (faulty : Set) → Bool
 defeats p faulty = isFaultSet p faulty and not (eqb (cutOff p faulty) 0)
 
 -- the best set found so far, if there is one
 pub data Found : Type 0 where
   none : Found
-  found : ℕ → Found
+  found : Set → Found
 
 -- a set that defeats the plan takes the place of the best only where it has fewer members: the sets come in ascending order, so of as many members
 -- the smallest as a number stays
-unfoldable pub better : Plan → Found → ℕ → Found
+unfoldable pub better : Plan → (best : Found) (s : Set) → Found
 better p none s = pick (defeats p s) (found s) none
 better p (found best) s = pick (defeats p s and ltb (size (p .n) s) (size (p .n) best)) (found s) (found best)
 
 -- the best of the sets below s
-unfoldable pub bestBelow : Plan → ℕ → Found
+unfoldable pub bestBelow : Plan → (s : Set) → Found
 bestBelow p zero = none
 bestBelow p (suc s) = better p (bestBelow p s) s
 
 -- pass, with three empty sets, or fail with the witness: F, L and R
 pub record Verdict : Type 0 where
   pub passed : Bool
-  pub f : ℕ
-  pub l : ℕ
-  pub r : ℕ
+  pub f : Set
+  pub l : Set
+  pub r : Set
 
 unfoldable pub verdictOf : Plan → Found → Verdict
 verdictOf p none = record { passed = true; f = 0; l = 0; r = 0 }
@@ -46,7 +46,7 @@ unfoldable pub verdict : Plan → Verdict
 verdict p = verdictOf p (bestBelow p (2 ^ p .n))
 
 -- that the witness is the least (proofs/Witness.antt, `verdict-fail`): a comes before b if it has fewer members, or as many and is no greater as a number
-unfoldable pub Ahead : Plan → ℕ → ℕ → Type 0
+unfoldable pub Ahead : Plan → (a b : Set) → Type 0
 Ahead p a b = (size (p .n) a < size (p .n) b) ⊎ ((size (p .n) a ≡ size (p .n) b) × (a ≤ b))
 
 pub record Fails (p : Plan) (v : Verdict) : Type 0 where
@@ -57,11 +57,11 @@ pub record Fails (p : Plan) (v : Verdict) : Type 0 where
 
 -- the witness check: F, L, R are a partition of the terminals, the source is in L, R is non-empty, F is a fault set, no member of R hears the source,
 -- and none hears f + 1 members of L
-unfoldable pub isPartition : ℕ → ℕ → ℕ → ℕ → Bool
+unfoldable pub isPartition : (n : ℕ) (f l r : Set) → Bool
 isPartition n f l r =
     within n f and within n l and within n r and all n (λ b. eqb (bit (mem b f) + bit (mem b l) + bit (mem b r)) 1)
 
-unfoldable pub accepts : Plan → ℕ → ℕ → ℕ → Bool
+unfoldable pub accepts : Plan → (f l r : Set) → Bool
 accepts p f l r =
     isPartition (p .n) f l r and mem (p .source) l and not (eqb r 0) and isFaultSet p f
     and all (p .n) (λ b. mem b r implies (not (hears p b (p .source)) and not (hearsEnough p b l)))

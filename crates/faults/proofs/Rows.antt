@@ -1,24 +1,21 @@
 -- The count over a sound plan's rows is the theory's set of those that hear enough. Assumes nothing.
 use Prim.Native.Nat.{ℕ, _+_, _-_, _*_, _%_, _^_, _≤_, _<_}
-use mathlib.Core.Path.{_≡_, refl, sym, ap, ap₂, _∙_, subst}
+use mathlib.Core.Path.{_≡_, refl, sym, ap, _∙_, subst}
 use mathlib.Core.Logic.{_⊎_, ⊎-elim}
 use mathlib.Core.Bool.{Bool, true, false, not}
-use mathlib.Core.List.{List}
-use native.Mathlib.Nat.{lt-of-lt-of-le, lt-of-le-of-lt, one-mul, mod-eq-of-lt, sub-zero}
+use native.Mathlib.Nat.{lt-of-lt-of-le}
 use native.Mathlib.Omega.{arith}
-use lib.Bits.{bitAnd, bitOr, and-le-l, or-lt}
+use lib.Bits.{bitAnd, bitOr}
 use lib.Dec.{ltb, eqb}
-use lib.Pow.{pow-mono, pow-lt, pow-pos, ones-lt}
+use lib.Pow.{pow-mono}
 use mir.Val.{boolByte}
-use borrow.Author.Tests.{eqb-true, eq-eqb, lt-ltb}
-use Rattle.sets.specs.Tests.{_and_, _or_, _implies_}
-use Rattle.sets.specs.Sets.{bit, mem, all, count, mask, singleton}
+use Rattle.sets.specs.Tests.{_and_, _implies_}
+use Rattle.sets.specs.Sets.{bit, mem, count, mask}
 use Rattle.quorum.specs.Quorum.{enough}
-use Rattle.sets.proofs.Bools.{clash, decide, and-l, and-r, and-i, and-no-l, or-l, or-r, or-e, not-i, not-e, no-by, same-test}
-use Rattle.sets.proofs.Laws.{below-or-not, mem-zero, mem-above, set-ext, mask-lt, mem-mask, mem-mask-above, mask-of, mask-cong, all-cong, count-none, count-more, count-width, few, mem-below}
-use Rattle.quorum.proofs.Laws.{enough-none}
-use Rattle.sets.proofs.Masks.{mem-and, mem-or, mem-not, mask-or}
-use Rattle.sets.proofs.Operations.{test-inside, singleton-narrow}
+use Rattle.sets.proofs.Bools.{and-no-l}
+use Rattle.sets.proofs.Laws.{below-or-not, mem-zero, mem-above, set-ext, mask-lt, mem-mask, mem-mask-above, mask-cong, all-cong, count-none, count-width, few}
+use Rattle.sets.proofs.Masks.{mask-or}
+use Rattle.sets.proofs.Operations.{test-inside}
 use Rattle.plan.specs.declared.Plan.{Plan}
 use Rattle.plan.specs.Plan.{heardBy, hears}
 use Rattle.plan.proofs.Laws.{Sound}

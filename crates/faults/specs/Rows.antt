@@ -5,7 +5,8 @@ use lib.Dec.{ltb}
 use lib.ListN.{getD}
 use Rattle.sets.specs.Tests.{_and_}
 use Rattle.sets.specs.Sets.{Set, mem, count, mask}
+use Rattle.quorum.specs.Quorum.{mostTerminals}
 
 -- the terminals that hear more than f members of a
 unfoldable pub over : (rows : List Set) (f : ℕ) (a : Set) → Set
-over rows f a = mask 20 (λ b. ltb f (count 32 (λ i. mem i (getD rows b 0) and mem i a)))
+over rows f a = mask mostTerminals (λ b. ltb f (count 32 (λ i. mem i (getD rows b 0) and mem i a)))

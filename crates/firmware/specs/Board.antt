@@ -7,6 +7,7 @@ use Rattle.sets.specs.Tests.{_and_, pick}
 use Rattle.terminal.specs.declared.State.{State}
 use Rattle.terminal.specs.declared.State.the-variants.{Waiting, Taken}
 use Rattle.terminal.specs.declared.Record.{Record}
+use Rattle.terminal.specs.Rule.{says}
 use Rattle.terminal.specs.Answer.{causeOf, recordAfter}
 use Rattle.firmware.specs.declared.BoardRecord.{BoardRecord}
 use Rattle.firmware.specs.declared.BoardAnswer.{BoardAnswer}
@@ -32,3 +33,11 @@ boardAnswer n source f own heard before said =
     pick (eqb (causeOf n source f own heard (recordOf before) (length said)) 0)
     (record { number = 0; after = boardOf (recordAfter n source f own heard (recordOf before) said) })
     (record { number = causeOf n source f own heard (recordOf before) (length said); after = before })
+
+-- what the terminal says in the round after the one that the board's record shows; bytes that are no state say 0, since they stand for value 0
+unfoldable pub boardSays : BoardRecord → ℕ
+boardSays b = says (recordOf b)
+
+-- the version of the layout of a board's record and answer, and of the functions: it changes with any of them
+abbrev pub layoutVersion : ℕ
+layoutVersion = 1

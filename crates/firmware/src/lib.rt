@@ -1,9 +1,7 @@
 // The step for C, by value. include/terminal.h has the same in C's words.
 ghost use mathlib.Core.Path.{_≡_};
 ghost use Rattle.terminal.specs.Rule.{start, sourceStart};
-ghost use Rattle.terminal.specs.Answer.{numberOf};
-ghost use Rattle.firmware.specs.Board.{stateOf, recordOf, boardOf, boardAnswer};
-use terminal::Outcome;
+ghost use Rattle.firmware.specs.Board.{stateOf, recordOf, boardOf, boardAnswer, boardSays, layoutVersion};
 use terminal::Record;
 use terminal::State;
 
@@ -24,18 +22,6 @@ pub struct BoardRecord {
 pub struct BoardAnswer {
     pub number: u8,
     pub after: BoardRecord,
-}
-
-fn number_of(o: Outcome) -> u8
-    ensures { λ r. ⌜ r ≡ numberOf o ⌝ }
-{
-    match o {
-        Outcome::Accepted => 0,
-        Outcome::WrongRange => 4,
-        Outcome::WrongLink => 5,
-        Outcome::WrongLength => 12,
-        Outcome::WrongRecord => 13,
-    }
 }
 
 // Bytes that are no state stand for one that no step takes: taken with value 0.
@@ -124,7 +110,7 @@ pub extern "C" fn hulmayek_step(
     let stepped = terminal::step(n, source, f, own, heard, record_of(before), said);
     let outcome = stepped.outcome;
     let after = stepped.after;
-    let refused = number_of(outcome);
+    let refused = terminal::number(outcome);
     if refused == 0 {
         return BoardAnswer {
             number: 0,
@@ -135,4 +121,21 @@ pub extern "C" fn hulmayek_step(
         number: refused,
         after: before,
     }
+}
+
+// What the terminal says in the round after the one that its record shows: its value if it took in
+// that round, else 0. Bytes that are no state say 0.
+#[no_mangle]
+pub extern "C" fn hulmayek_says(record: BoardRecord) -> u16
+    ensures { λ r. ⌜ r ≡ boardSays «record» ⌝ }
+{
+    terminal::says(record_of(record))
+}
+
+// The version of this layout, so that a board can compare it with its header's.
+#[no_mangle]
+pub extern "C" fn hulmayek_layout() -> u32
+    ensures { λ r. ⌜ r ≡ layoutVersion ⌝ }
+{
+    1
 }

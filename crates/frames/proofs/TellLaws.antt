@@ -10,8 +10,8 @@ use borrow.Author.Tests.{eq-eqb, ne-eqb, lt-ltb, le-ltb, le-leb, lt-leb, leb-tru
 use Rattle.sets.specs.Tests.{_and_, _or_, pick}
 use Rattle.sets.specs.Causes.{_gives_, firstCause}
 use Rattle.sets.specs.Sets.{mem}
-use Rattle.sets.proofs.Bools.{and-l, and-r, and-yes, and-no-l, and-no-r, or-l, or-r, or-no, not-i, not-yes}
-use Rattle.sets.proofs.Causes.{cause-here, cause-later, cause-last}
+use Rattle.sets.proofs.Bools.{and-l, and-r, and-yes, and-no-l, and-no-r, or-l, or-r, or-no, not-yes}
+use Rattle.sets.proofs.Causes.{cause-here, cause-later, cause-last, given-decides}
 use Rattle.sets.proofs.Laws.{equal-or-not}
 use Rattle.quorum.specs.Quorum.{mostTerminals, inRange}
 use Rattle.quorum.specs.Words.{mostRounds, startSound}
@@ -65,8 +65,7 @@ pub fault-set-at : (p : Progress) (s : ℕ) → isAt Links p ≡ true → faultS
 unfolding faultSetCause
 fault-set-at p s stage =
     cause-later _ _ _ (not-yes stage)
-    ∙ ⊎-elim (λ z. cause-last _ _ (not-yes (eq-eqb (faultCauseOf (p .plan) s) 0 z)) ∙ sym z)
-    (λ n. cause-here _ _ _ (not-i (ne-eqb (faultCauseOf (p .plan) s) 0 n))) (equal-or-not (faultCauseOf (p .plan) s) 0)
+    ∙ ⊎-elim (λ z. cause-last _ _ (not-yes (eq-eqb (faultCauseOf (p .plan) s) 0 z)) ∙ sym z) (given-decides (faultCauseOf (p .plan) s) []) (equal-or-not (faultCauseOf (p .plan) s) 0)
 
 -- ---- a word
 

@@ -5,7 +5,7 @@ use mathlib.Core.List.{List, [], _∷_}
 use lib.Dec.{eqb, leb, ltb}
 use lib.ListN.{length, getD, set, replicate}
 use Rattle.sets.specs.Tests.{_and_, _or_, pick}
-use Rattle.sets.specs.Causes.{_gives_, firstCause}
+use Rattle.sets.specs.Causes.{_gives_, firstCause, given}
 use Rattle.sets.specs.Sets.{Terminal, Set, mem, with}
 use Rattle.quorum.specs.Quorum.{mostTerminals, inRange}
 use Rattle.quorum.specs.Words.{mostRounds, mostWords, startSound, placeOf}
@@ -77,7 +77,7 @@ linkCause p from to =
 
 -- 7 and 8 are those of a library call
 unfoldable pub faultSetCause : Progress → (s : Set) → ℕ
-faultSetCause p s = firstCause (not (isAt Links p) gives 3 ∷ not (eqb (faultCauseOf (p .plan) s) 0) gives faultCauseOf (p .plan) s ∷ [])
+faultSetCause p s = firstCause (not (isAt Links p) gives 3 ∷ given (faultCauseOf (p .plan) s) ∷ [])
 
 unfoldable pub startCause : Progress → (value rounds : ℕ) → ℕ
 startCause p value rounds = firstCause (not (isAt Faults p) gives 3 ∷ not (startSound value rounds) gives 9 ∷ [])

@@ -1,7 +1,7 @@
 -- The text on a file that is refused or accepted, and what was put of it: what is written lies within the lent list, and a list that has room for the text
 -- gets it. Assumes nothing.
 use Prim.Native.Nat.{ℕ, _≤_}
-use mathlib.Core.Path.{_≡_, refl, ap, _∙_}
+use mathlib.Core.Path.{_≡_, refl, ap}
 use mathlib.Core.List.{List}
 use native.Mathlib.Omega.{arith}
 use lib.Dec.{eqb}
@@ -9,7 +9,7 @@ use lib.ListN.{length, take, length-take}
 use borrow.Author.Tests.{eq-eqb, ne-eqb, eqb-true}
 use Rattle.sets.proofs.Bools.{pick-yes, pick-no, pick-case}
 use Rattle.text.specs.Digits.{hexByte, hexPair}
-use Rattle.text.specs.Texts.{writtenOf, putInto}
+use Rattle.text.specs.Texts.{putInto}
 use Rattle.text.proofs.Laws as texts
 use Rattle.frames.specs.declared.FileRead.{FileRead}
 use Rattle.output.specs.declared.Written.{Written}

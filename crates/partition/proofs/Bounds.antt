@@ -12,7 +12,7 @@ use lib.Pow.{pow-mono}
 use mir.Val.{boolByte}
 use borrow.Author.Tests.{ltb-true, ltb-false}
 use Rattle.sets.specs.Tests.{_and_, _implies_}
-use Rattle.sets.specs.Sets.{mem, all, count, size}
+use Rattle.sets.specs.Sets.{mem, all, count, size, outside}
 use Rattle.quorum.specs.Quorum.{enough}
 use Rattle.sets.proofs.Bools.{clash, decide, and-l, and-r, and-i, and-no-r, or-e, or-l, or-r, not-i, not-e, not-yes, no-by, implies-i, implies-e}
 use Rattle.sets.proofs.Laws.{mem-zero, mem-below, mask-lt, all-i, all-at, some-member}
@@ -26,7 +26,7 @@ use Rattle.closure.specs.Closure.{reached, cutOff}
 use Rattle.closure.proofs.Faults.{fault-below, fault-bound, hears-enough-mono}
 use Rattle.closure.proofs.Growth.{joins-enough, reached-closed}
 use Rattle.closure.proofs.Witness.{cut-below, cut-good, cut-unreached, defeats-fault, defeats-cuts}
-use Rattle.partition.specs.Search.{outside, key, Inside, Apart, Settled, Hopeless, Closed, Spread, Grown}
+use Rattle.partition.specs.Search.{key, Inside, Apart, Settled, Hopeless, Closed, Spread, Grown}
 use Rattle.faults.specs.Rows.{over}
 use Rattle.faults.proofs.Rows.{over-mem, over-below, over-why, over-low, word-of}
 use Rattle.partition.proofs.Members.{outside-i, count-split, count-join, grows, inside-le, key-later, size-twenty}
@@ -93,7 +93,7 @@ module _ {p : Plan} {inn r : ℕ} (h : Spread p inn 0 r) where
 
 -- ---- faulty or reached
 
--- how enough of s terminal b hears
+-- how many of s terminal b hears
 abbrev ears : Plan → ℕ → ℕ → ℕ
 ears p b s = count (p .n) (λ a. hears p b a and mem a s)
 
@@ -165,7 +165,7 @@ module _ (p : Plan) (sound : Sound p) (out known s o q : ℕ) (h : Grown p out k
 abbrev away : ℕ → ℕ → ℕ
 away known inn = bitAnd known (4294967295 - inn)
 
--- how enough members a set before best may have, and f
+-- how many members a set before best may have, and f
 abbrev pub need : Plan → ℕ → ℕ → ℕ
 need p inn best = p .f + best / 1048576 + boolByte (ltb inn (bitAnd best 1048575))
 
@@ -195,7 +195,7 @@ module _ (p : Plan) (sound : Sound p) (inn known : ℕ) (hi : inn < 2 ^ p .n) (h
           (λ v. inr (and-i _ _ (and-l _ _ m) v)) (u a (and-l _ _ both))
 
   module _ (rest best : ℕ) (e : rest ≡ outside (p .n) inn known) where
-    -- where everyone of the rest hears too enough, no set that defeats the plan comes before best
+    -- where everyone of the rest hears too many, no set that defeats the plan comes before best
     hopeless-is : ((b : ℕ) → b < p .n → mem b rest ≡ true → need p inn best ≤ ones inn + ears p b (away known inn)) → Hopeless p inn known best
     hopeless-is enough s d i u = go (some-member (p .n) (cutOff p s) (cut-below p s) (defeats-cuts p s d))
       where

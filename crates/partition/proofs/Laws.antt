@@ -5,27 +5,25 @@ use mathlib.Core.Bool.{Bool, true, false, not}
 use native.Mathlib.Omega.{arith}
 use lib.Dec.{eqb}
 use borrow.Author.Tests.{eqb-true, eq-eqb, ne-eqb}
-use Rattle.sets.specs.Tests.{_and_, _implies_, pick}
-use Rattle.sets.specs.Sets.{mem, all, mask, size, within}
-use Rattle.sets.proofs.Bools.{clash, and-l, and-r, and-i, and-no-r, pick-yes, pick-no, pick-case}
+use Rattle.sets.specs.Tests.{_and_, pick}
+use Rattle.sets.specs.Sets.{mem, mask, size}
+use Rattle.sets.proofs.Bools.{pick-yes, pick-no, pick-case}
 use Rattle.sets.proofs.Laws.{count-le}
 use Rattle.plan.specs.declared.Plan.{Plan}
 use Rattle.plan.specs.Plan.{causeOf}
 use Rattle.plan.proofs.Laws.{Sound, sound}
-use Rattle.closure.specs.FaultSet.{hearsEnough, isFaultSet}
-use Rattle.closure.specs.Closure.{reached, rest, cutOff}
+use Rattle.closure.specs.Closure.{reached, cutOff}
 use Rattle.closure.specs.Verdict.{Ahead, defeats, Found, none, found, bestBelow, verdictOf, verdict, accepts}
-use Rattle.closure.proofs.Witness.{IsBest, best-below, verdict-pass, verdict-fail, witness-accepted}
+use Rattle.closure.proofs.Witness.{IsBest, best-below, verdict-fail, witness-accepted}
 use Rattle.partition.specs.declared.Judgement.the-variants.{Pass, Fail}
 use Rattle.partition.specs.declared.search.Best.{Best}
-use Rattle.partition.specs.Answer.{Answer, refused, told, judged, answerOf, Reply, replyOf}
-use Rattle.faults.specs.Check.{faultCauseOf}
+use Rattle.partition.specs.Answer.{Answer, refused, answered, judged, answerOf, Reply, replyOf}
 use Rattle.partition.specs.Search.{StandsFor}
 
 -- ---- the search's memory read as a verdict
 
 pub memory-passes : (p : Plan) → Sound p → (best : Best) (x : Found) → StandsFor (p .n) best x → 20 < best .members
-    → told Pass ≡ judged (verdictOf p x)
+    → answered Pass ≡ judged (verdictOf p x)
 unfolding StandsFor judged verdictOf pick size
 memory-passes p s best none h l = refl
 memory-passes p s best (found b) h l =
@@ -35,13 +33,13 @@ memory-passes p s best (found b) h l =
 
 pub memory-fails : (p : Plan) (best : Best) (x : Found) → StandsFor (p .n) best x → best .members ≤ 20
     → (l r : ℕ) → l ≡ reached p (best .set) → r ≡ mask (p .n) (λ b. not (mem b (best .set)) and not (mem b l))
-    → told (Fail (record { f = best .set; l = l; r = r })) ≡ judged (verdictOf p x)
-unfolding StandsFor judged verdictOf pick cutOff rest
+    → answered (Fail (record { f = best .set; l = l; r = r })) ≡ judged (verdictOf p x)
+unfolding StandsFor judged verdictOf pick cutOff
 memory-fails p best none h m l r e q = absurd (omega arith)
 memory-fails p best (found b) h m l r e q = same l r e q (h .0)
   where
     same : (l r : ℕ) → l ≡ reached p (best .set) → r ≡ mask (p .n) (λ b. not (mem b (best .set)) and not (mem b l)) → best .set ≡ b
-        → told (Fail (record { f = best .set; l = l; r = r })) ≡ judged (verdictOf p (found b))
+        → answered (Fail (record { f = best .set; l = l; r = r })) ≡ judged (verdictOf p (found b))
     same l r e q z =
         let e′ : l ≡ reached p b = e ∙ ap (reached p) z in
         let q′ : r ≡ cutOff p b =
@@ -106,16 +104,6 @@ answer-fails p =
     })
     (λ e h. absurd (omega arith))
 
--- what a passed answer says: no fault set leaves a terminal cut off
-pub answer-passes : (p : Plan) → answerOf p .number ≡ 0 → answerOf p .failed ≡ 0 → (s : ℕ) → isFaultSet p s ≡ true → cutOff p s ≡ 0
-unfolding answerOf judged
-answer-passes p =
-    pick-case (λ (a : Answer). a .number ≡ 0 → a .failed ≡ 0 → (s : ℕ) → isFaultSet p s ≡ true → cutOff p s ≡ 0) (eqb (causeOf p) 0)
-    (judged (verdict p)) (refused (causeOf p))
-    (λ e n h s i. verdict-pass p (pick-zero (verdict p .passed) h) s i)
-    (λ e n h s i. clash (eq-eqb (causeOf p) 0 n) e)
-
--- the verdict's promise: the answer, and that the check accepts what a fail lists
 pub with-check : (p : Plan) (a : Answer) → a ≡ answerOf p → (a ≡ answerOf p) × (a .failed ≡ 1 → accepts p (a .f) (a .l) (a .r) ≡ true)
 with-check p a e =
     (e, subst (λ (x : Answer). x .failed ≡ 1 → accepts p (x .f) (x .l) (x .r) ≡ true) (sym e) (λ h. answer-fails p h .checked))

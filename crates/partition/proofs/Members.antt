@@ -12,12 +12,12 @@ use lib.Pow.{pow-mono, pow-pos}
 use borrow.Author.Tests.{eqb-true, eq-eqb, ltb-false}
 use mir.Val.{boolByte}
 use Rattle.sets.specs.Tests.{_and_, _or_}
-use Rattle.sets.specs.Sets.{bit, mem, count, size, singleton, with}
+use Rattle.sets.specs.Sets.{bit, mem, count, size, singleton, with, outside}
 use Rattle.sets.proofs.Bools.{clash, and-r, and-i, or-l, or-r, or-e, not-i, same-test}
 use Rattle.sets.proofs.Laws.{mask-lt, mem-mask, set-ext, mem-above, mem-below, count-le, count-width, subset-fewer}
 use Rattle.sets.proofs.Masks.{mem-and, mem-shift}
 use Rattle.sets.proofs.Operations.{singleton-narrow, or-with}
-use Rattle.partition.specs.Search.{outside, key, Inside, SomeOf}
+use Rattle.partition.specs.Search.{key, Inside, SomeOf}
 
 -- ---- a set of n terminals with one more
 

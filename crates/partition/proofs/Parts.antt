@@ -9,25 +9,25 @@ use lib.Bits.{bitAnd, bitOr, and-le-l, or-lt}
 use lib.Dec.{eqb}
 use lib.Pow.{pow-mono}
 use Rattle.sets.specs.Tests.{_and_}
-use Rattle.sets.specs.Sets.{mem, count, with}
+use Rattle.sets.specs.Sets.{mem, count, with, outside}
 use Rattle.sets.proofs.Bools.{clash, decide, and-l, and-r, and-i, and-yes, and-no-l, and-no-r, or-e, not-i, not-e, not-yes, no-by, same-test}
 use Rattle.sets.proofs.Laws.{mem-zero, set-ext, some-member, count-mono, count-more}
 use Rattle.sets.proofs.Masks.{mem-and, mem-or}
 use Rattle.plan.specs.declared.Plan.{Plan}
 use Rattle.plan.proofs.Laws.{sound}
 use Rattle.closure.specs.FaultSet.{isFaultSet}
-use Rattle.closure.specs.Closure.{reached, rest, cutOff}
+use Rattle.closure.specs.Closure.{reached, cutOff}
 use Rattle.closure.specs.Verdict.{defeats}
 use Rattle.closure.proofs.Faults.{fault-below}
 use Rattle.closure.proofs.Witness.{defeats-fault}
-use Rattle.partition.specs.Search.{outside, key, Inside, Between, Settled, Hopeless, Spread, Grown, Part, Least}
+use Rattle.partition.specs.Search.{key, Inside, Between, Settled, Hopeless, Spread, Grown, Part, Least}
 use Rattle.partition.proofs.Members.{outside-mem, outside-i, outside-below, with-below, with-keeps, with-one, with-why, key-mono}
 use Rattle.partition.proofs.Bounds.{forced-bounded, forced-least}
 use Rattle.partition.proofs.Tests.{fault-test}
 
 -- what a fault set leaves out decides whether it defeats the plan
 pub defeats-test : (p : Plan) (s l r : ℕ) → isFaultSet p s ≡ true → l ≡ reached p s → r ≡ outside (p .n) s l → not (eqb r 0) ≡ defeats p s
-unfolding defeats cutOff rest
+unfolding defeats cutOff
 defeats-test p s l r i e q = ap (λ (x : ℕ). not (eqb x 0)) (q ∙ ap (outside (p .n) s) e) ∙ sym (and-yes _ _ i)
 
 -- ---- the measure: how many are left to decide

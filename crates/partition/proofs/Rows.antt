@@ -1,32 +1,30 @@
 -- The words that the search computes from a sound plan's rows are the theory's sets. Assumes nothing.
-use Prim.Native.Nat.{ℕ, _+_, _-_, _*_, _%_, _^_, _≤_, _<_}
+use Prim.Native.Nat.{ℕ, _-_, _*_, _%_, _^_, _≤_, _<_}
 use mathlib.Core.Path.{_≡_, refl, sym, ap, ap₂, _∙_, subst}
 use mathlib.Core.Logic.{_⊎_, ⊎-elim}
 use mathlib.Core.Bool.{Bool, true, false, not}
 use mathlib.Core.List.{List}
-use native.Mathlib.Nat.{lt-of-lt-of-le, lt-of-le-of-lt, one-mul, mod-eq-of-lt, sub-zero}
+use native.Mathlib.Nat.{lt-of-le-of-lt, one-mul, mod-eq-of-lt, sub-zero}
 use native.Mathlib.Omega.{arith}
 use lib.Bits.{bitAnd, bitOr, and-le-l, or-lt}
-use lib.Dec.{ltb, eqb}
-use lib.Pow.{pow-mono, pow-lt, pow-pos, ones-lt}
-use mir.Val.{boolByte}
+use lib.Dec.{eqb}
+use lib.Pow.{pow-lt, pow-pos, ones-lt}
 use borrow.Author.Tests.{eqb-true, eq-eqb, lt-ltb}
-use Rattle.sets.specs.Tests.{_and_, _or_, _implies_}
-use Rattle.sets.specs.Sets.{bit, mem, all, count, mask, singleton}
+use Rattle.sets.specs.Tests.{_and_, _or_}
+use Rattle.sets.specs.Sets.{mem, count, mask, singleton}
 use Rattle.quorum.specs.Quorum.{enough}
-use Rattle.sets.proofs.Bools.{clash, decide, and-l, and-r, and-i, and-no-l, or-l, or-r, or-e, not-i, not-e, no-by, same-test}
-use Rattle.sets.proofs.Laws.{below-or-not, mem-zero, mem-above, set-ext, mask-lt, mem-mask, mem-mask-above, mask-of, mask-cong, all-cong, count-none, count-more, count-width, few, mem-below}
+use Rattle.sets.proofs.Bools.{clash, decide, and-l, and-r, and-i, or-l, or-r, or-e, not-i, not-e, no-by, same-test}
+use Rattle.sets.proofs.Laws.{mem-zero, set-ext, mask-lt, mem-mask, mask-of, mask-cong, count-more, mem-below}
 use Rattle.quorum.proofs.Laws.{enough-none}
-use Rattle.sets.proofs.Masks.{mem-and, mem-or, mem-not, mask-or}
-use Rattle.sets.proofs.Operations.{test-inside, singleton-narrow}
+use Rattle.sets.proofs.Masks.{mem-and, mem-or, mem-not}
+use Rattle.sets.proofs.Operations.{singleton-narrow}
 use Rattle.plan.specs.declared.Plan.{Plan}
-use Rattle.plan.specs.Plan.{heardBy, hears}
+use Rattle.plan.specs.Plan.{hears}
 use Rattle.plan.proofs.Laws.{Sound}
-use Rattle.closure.specs.FaultSet.{hearsEnough}
 use Rattle.closure.specs.Closure.{joins, reached}
 use Rattle.closure.proofs.Growth.{joins-good, joins-why, joins-source, joins-enough, reached-closed, reached-source, reached-below, reached-least}
 use Rattle.faults.specs.Rows.{over}
-use Rattle.faults.proofs.Rows.{over-enough, over-mem, over-below, word-of}
+use Rattle.faults.proofs.Rows.{over-enough, word-of}
 use Rattle.partition.specs.Search.{direct, Inside, Closed, Spread}
 
 -- ---- the source alone

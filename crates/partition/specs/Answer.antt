@@ -12,11 +12,11 @@ use Rattle.partition.specs.declared.Judgement.the-variants as judgement
 use Rattle.partition.specs.declared.WitnessCheck.{WitnessCheck}
 use Rattle.partition.specs.declared.WitnessCheck.the-variants as check
 
-abbrev pub told : Judgement → Answer
-told judgement.Pass = record { number = 0; failed = 0; f = 0; l = 0; r = 0 }
-told (judgement.Fail w) = record { number = 0; failed = 1; f = w .f; l = w .l; r = w .r }
-told judgement.WrongRange = refused 4
-told judgement.WrongLink = refused 5
+abbrev pub answered : Judgement → Answer
+answered judgement.Pass = record { number = 0; failed = 0; f = 0; l = 0; r = 0 }
+answered (judgement.Fail w) = record { number = 0; failed = 1; f = w .f; l = w .l; r = w .r }
+answered judgement.WrongRange = refused 4
+answered judgement.WrongLink = refused 5
 
 -- the witness check: the number of a refusal, and 1 for a yes
 pub record Reply : Type 0 where

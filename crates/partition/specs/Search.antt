@@ -1,11 +1,10 @@
 -- What the search's own functions compute, on a plan's rows. No caller sees these. Assumes nothing.
 use Prim.Native.Nat.{ℕ, _+_, _*_, _^_, _≤_, _<_}
-use mathlib.Core.Bool.{true, false, not}
+use mathlib.Core.Bool.{true, false}
 use mathlib.Core.Logic.{_⊎_}
 use mathlib.Core.List.{List}
 use mathlib.Core.Path.{_≡_}
-use Rattle.sets.specs.Tests.{_and_}
-use Rattle.sets.specs.Sets.{mem, mask, size, singleton}
+use Rattle.sets.specs.Sets.{mem, size, singleton}
 use Rattle.plan.specs.declared.Plan.{Plan}
 use Rattle.plan.specs.Plan.{causeOf}
 use Rattle.closure.specs.FaultSet.{hearsEnough, isFaultSet}
@@ -17,10 +16,6 @@ use Rattle.partition.specs.declared.search.Best.{Best}
 -- the terminals that hear the source
 unfoldable pub direct : List ℕ → ℕ → ℕ
 direct rows source = over rows 0 (singleton 32 source)
-
--- the terminals of n outside two sets
-abbrev pub outside : ℕ → ℕ → ℕ → ℕ
-outside n a b = mask n (λ i. not (mem i a) and not (mem i b))
 
 -- the search's memory stands for the best set found: more than 20 members for none
 unfoldable pub StandsFor : ℕ → Best → Found → Type 0

@@ -3,11 +3,11 @@
 ghost use mathlib.Core.Path.{_≡_};
 ghost use mathlib.Core.Bool.{true, false};
 ghost use Prim.Native.Nat.{_<_, _^_};
-ghost use Rattle.sets.specs.Sets.{mem};
+ghost use Rattle.sets.specs.Sets.{mem, outside};
 ghost use Rattle.plan.specs.Plan.{causeOf};
 ghost use Rattle.closure.specs.FaultSet.{isFaultSet};
 ghost use Rattle.closure.specs.Verdict.{defeats};
-ghost use Rattle.partition.specs.Search.{SomeOf, outside, direct, key, Hopeless, Part, Least};
+ghost use Rattle.partition.specs.Search.{SomeOf, direct, key, Hopeless, Part, Least};
 use super::bound;
 use super::search;
 use plan::Plan;
@@ -26,7 +26,7 @@ fn defeats(p: Plan, hearers: u32, s: u32) -> bool
     ensures { λ r. ⌜ r ≡ defeats p s ⌝ }
 {
     let l = search::reach(p, hearers, s);
-    search::left_out(p.n, s, l) != 0
+    search::outside(p.n, s, l) != 0
 }
 
 // The highest terminal of s.
@@ -107,11 +107,11 @@ fn split(p: Plan, hearers: u32, inn: u32, out: u32, known: u32, best: u32) -> u3
     ensures { λ r. ⌜ Least p inn out best r ⌝ }
 {
     let sure = bound::settled(p, out, known);
-    let rest = search::left_out(p.n, inn, sure);
+    let rest = search::outside(p.n, inn, sure);
     if hopeless(p, inn, sure, rest, best) {
         return best;
     }
-    let free = search::left_out(p.n, inn, out);
+    let free = search::outside(p.n, inn, out);
     if free == 0 {
         return best;
     }

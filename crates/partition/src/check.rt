@@ -1,7 +1,7 @@
 // The witness check on a sound plan.
 ghost use mathlib.Core.Path.{_≡_};
 ghost use mathlib.Core.Bool.{not};
-ghost use Prim.Native.Nat.{_<_, _≤_, _^_};
+ghost use Prim.Native.Nat.{_≤_};
 ghost use Rattle.sets.specs.Tests.{_and_, _implies_};
 ghost use Rattle.sets.specs.Sets.{mem, all, within};
 ghost use Rattle.plan.specs.Plan.{hears, causeOf};
@@ -18,7 +18,7 @@ fn is_partition(n: usize, f: u32, l: u32, r: u32) -> bool
     if sets::within(f, n) {
         if sets::within(l, n) {
             if f & l == 0 {
-                return search::left_out(n, f, l) == r;
+                return search::outside(n, f, l) == r;
             }
         }
     }

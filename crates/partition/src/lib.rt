@@ -8,7 +8,7 @@ ghost use mathlib.Core.Path.{_≡_};
 ghost use mathlib.Core.Bool.{true};
 ghost use Rattle.plan.specs.Plan.{causeOf};
 ghost use Rattle.closure.specs.Verdict.{verdict, accepts};
-ghost use Rattle.partition.specs.Answer.{told, judged, answerOf, replied, replyOf};
+ghost use Rattle.partition.specs.Answer.{answered, judged, answerOf, replied, replyOf};
 use plan::Plan;
 use plan::Soundness;
 
@@ -37,7 +37,7 @@ pub enum WitnessCheck {
 // The verdict on a sound plan.
 fn judge(p: Plan) -> Judgement
     requires { ⌜ causeOf p ≡ 0 ⌝ }
-    ensures { λ r. ⌜ told r ≡ judged (verdict p) ⌝ }
+    ensures { λ r. ⌜ answered r ≡ judged (verdict p) ⌝ }
 {
     let rows = p.rows;
     let hearers = faults::over(rows, 0, sets::singleton(p.source));
@@ -47,15 +47,15 @@ fn judge(p: Plan) -> Judgement
     }
     let f = best.set;
     let l = search::reach(p, hearers, f);
-    let r = search::left_out(p.n, f, l);
+    let r = search::outside(p.n, f, l);
     Judgement::Fail(Witness { f: f, l: l, r: r })
 }
 
 // Pass, or fail with the least witness, or why the record is no plan. What a fail lists is accepted
 // by the witness check.
 pub fn verdict(p: Plan) -> Judgement
-    ensures { λ r. ⌜ told r ≡ answerOf p ⌝ }
-    ensures { λ r. ⌜ (told r .failed ≡ 1 → accepts p (told r .f) (told r .l) (told r .r) ≡ true) ⌝ }
+    ensures { λ r. ⌜ answered r ≡ answerOf p ⌝ }
+    ensures { λ r. ⌜ (answered r .failed ≡ 1 → accepts p (answered r .f) (answered r .l) (answered r .r) ≡ true) ⌝ }
 {
     let soundness = plan::check(p);
     match soundness {

@@ -1,11 +1,8 @@
 // The words that the search computes from a sound plan, and its answer.
 ghost use mathlib.Core.Path.{_≡_};
-ghost use mathlib.Core.Bool.{not};
 ghost use Prim.Native.Nat.{_<_, _≤_, _^_};
-ghost use Rattle.sets.specs.Tests.{_and_, _implies_};
-ghost use Rattle.sets.specs.Sets.{mem, all, mask};
+ghost use Rattle.sets.specs.Sets.{outside};
 ghost use Rattle.plan.specs.Plan.{causeOf};
-ghost use Rattle.closure.specs.FaultSet.{hearsEnough};
 ghost use Rattle.closure.specs.Closure.{reached};
 ghost use Rattle.closure.specs.Verdict.{bestBelow};
 ghost use Rattle.partition.specs.Search.{direct, Spread, StandsFor};
@@ -45,9 +42,9 @@ pub(crate) fn reach(p: Plan, hearers: u32, faulty: u32) -> u32
 }
 
 // The terminals outside both sets.
-pub(crate) fn left_out(n: usize, faulty: u32, l: u32) -> u32
+pub(crate) fn outside(n: usize, faulty: u32, l: u32) -> u32
     requires { ⌜ n ≤ 20 ⌝ }
-    ensures { λ r. ⌜ r ≡ mask n (λ b. not (mem b faulty) and not (mem b l)) ⌝ }
+    ensures { λ r. ⌜ r ≡ outside n faulty l ⌝ }
 {
     ((1u32 << n) - 1) & !(faulty | l)
 }

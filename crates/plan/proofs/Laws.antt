@@ -1,14 +1,16 @@
 -- What a plan record is that the check finds sound. Assumes nothing.
 use Prim.Native.Nat.{ℕ, _≤_, _<_, _^_}
 use mathlib.Core.Path.{_≡_, sym, _∙_}
-use mathlib.Core.Bool.{true, false}
+use mathlib.Core.Bool.{true, false, not}
+use mathlib.Core.List.{[], _∷_}
 use native.Mathlib.Nat.{lt-of-lt-of-le}
 use native.Mathlib.Omega.{arith}
 use lib.Dec.{eqb, ltb}
 use borrow.Author.Tests.{leb-true, ltb-true, eqb-true, lt-ltb, le-ltb}
-use Rattle.sets.specs.Tests.{_and_, pick}
+use Rattle.sets.specs.Causes.{_gives_}
 use Rattle.sets.specs.Sets.{mem, within}
-use Rattle.sets.proofs.Bools.{and-l, and-r, not-e, pick-yes, pick-no, pick-case}
+use Rattle.sets.proofs.Bools.{and-l, and-r, not-e, pick-yes, pick-no, not-yes, not-no}
+use Rattle.sets.proofs.Causes.{cause-later, cause-last, cause-none}
 use Rattle.sets.proofs.Laws.{all-at, mem-below}
 use Rattle.quorum.specs.Quorum.{inRange, hearsSoundly}
 use Rattle.plan.specs.declared.Plan.{Plan}
@@ -27,13 +29,15 @@ pub record Sound (p : Plan) : Type 0 where
 
 pub tests : (p : Plan) → causeOf p ≡ 0 → (inRange (p .n) (p .source) (p .f) ≡ true) × (linksSound p ≡ true)
 unfolding causeOf
-tests p =
-    pick-case (λ (x : ℕ). x ≡ 0 → (inRange (p .n) (p .source) (p .f) ≡ true) × (linksSound p ≡ true)) (inRange (p .n) (p .source) (p .f))
-    (pick (linksSound p) 0 5) 4
-    (λ r.
-    pick-case (λ (x : ℕ). x ≡ 0 → (inRange (p .n) (p .source) (p .f) ≡ true) × (linksSound p ≡ true)) (linksSound p) 0 5 (λ l z. (r, l))
-    (λ l z. absurd (omega arith)))
-    (λ r z. absurd (omega arith))
+tests p h =
+    let range = cause-none (not (inRange (p .n) (p .source) (p .f))) 4 (not (linksSound p) gives 5 ∷ []) (λ z. omega arith) h in
+    let links = cause-none (not (linksSound p)) 5 [] (λ z. omega arith) (range .1) in
+    (not-no _ (range .0), not-no _ (links .0))
+
+-- and the other way
+pub tested : (p : Plan) → inRange (p .n) (p .source) (p .f) ≡ true → linksSound p ≡ true → causeOf p ≡ 0
+unfolding causeOf
+tested p range links = cause-later _ 4 (not (linksSound p) gives 5 ∷ []) (not-yes range) ∙ cause-last _ 5 (not-yes links)
 
 pub row-of : (p : Plan) → linksSound p ≡ true → (b : ℕ) → b < p .n → p .n ≤ 20 → hearsSoundly (p .n) b (heardBy p b) ≡ true
 unfolding linksSound rowSound

@@ -1,20 +1,22 @@
 -- The plan record (document 01, "The site"): n terminals, the source, the bound f, and for each terminal the set of those that it hears. Assumes nothing.
 use Prim.Native.Nat.{ℕ}
-use mathlib.Core.Bool.{Bool}
+use mathlib.Core.Bool.{Bool, not}
+use mathlib.Core.List.{[], _∷_}
 use lib.Dec.{eqb, ltb}
 use lib.ListN.{getD}
 use Rattle.sets.specs.Tests.{pick}
-use Rattle.sets.specs.Sets.{mem, all}
-use Rattle.quorum.specs.Quorum.{inRange, hearsSoundly}
+use Rattle.sets.specs.Causes.{_gives_, firstCause}
+use Rattle.sets.specs.Sets.{Terminal, Set, mem, all}
+use Rattle.quorum.specs.Quorum.{mostTerminals, inRange, hearsSoundly}
 use Rattle.plan.specs.declared.Plan.{Plan}
 use Rattle.plan.specs.declared.Soundness.{Soundness}
 use Rattle.plan.specs.declared.Soundness.the-variants.{Sound, WrongRange, WrongLink}
 
 -- the set that terminal b hears; b hears a (there is a link from a to b)
-unfoldable pub heardBy : Plan → ℕ → ℕ
+unfoldable pub heardBy : Plan → (b : Terminal) → Set
 heardBy p b = getD (p .rows) b 0
 
-unfoldable pub hears : Plan → ℕ → ℕ → Bool
+unfoldable pub hears : Plan → (b a : Terminal) → Bool
 hears p b a = mem a (heardBy p b)
 
 -- document 01's number of each answer, 0 where nothing is refused
@@ -24,12 +26,12 @@ numberOf WrongRange = 4
 numberOf WrongLink = 5
 
 -- of a terminal below n: no bit at or above n, and not its own; of a row at or above n: no bit
-unfoldable pub rowSound : ℕ → ℕ → ℕ → Bool
+unfoldable pub rowSound : (n : ℕ) (b : Terminal) (row : Set) → Bool
 rowSound n b row = pick (ltb b n) (hearsSoundly n b row) (eqb row 0)
 
 unfoldable pub linksSound : Plan → Bool
-linksSound p = all 20 (λ b. rowSound (p .n) b (heardBy p b))
+linksSound p = all mostTerminals (λ b. rowSound (p .n) b (heardBy p b))
 
--- the number of the first cause that applies, in the order 4, 5; 0 where none does
+-- the causes, in their order; 0 where none applies
 unfoldable pub causeOf : Plan → ℕ
-causeOf p = pick (inRange (p .n) (p .source) (p .f)) (pick (linksSound p) 0 5) 4
+causeOf p = firstCause (not (inRange (p .n) (p .source) (p .f)) gives 4 ∷ not (linksSound p) gives 5 ∷ [])

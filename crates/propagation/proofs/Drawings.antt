@@ -2,18 +2,20 @@
 use mathlib.Core.Path.{_≡_, refl}
 use mathlib.Core.List.{map}
 use Rattle.sets.specs.Tests.{_and_, _or_, _implies_, pick}
+use Rattle.sets.specs.Causes.{firstCause}
 use Rattle.sets.specs.Sets.{mem, count, all, mask, within, size}
 use Rattle.quorum.specs.Quorum.{enough, inRange, hearsSoundly}
-use Rattle.terminal.specs.Rule.{firstWord, noted, hasNoted, certified, lesser, least, candidate, choice, taking, stepFrom, step}
+use Rattle.terminal.specs.Rule.{firstWord, noted, hasNoted, certified, lesser, least, candidate, choice, taking, stepFrom, step, saysIn}
 use Rattle.plan.specs.Plan.{heardBy, hears, rowSound, linksSound, causeOf}
 use Rattle.closure.specs.FaultSet.{hearsEnough, isBounded, isFaultSet}
-use Rattle.closure.specs.Closure.{joins, grow, reachedAfter, reached, rest, cutOff}
+use Rattle.closure.specs.Closure.{joins, grow, reachedAfter, reached, cutOff}
 use Rattle.closure.specs.Verdict.{defeats, better, bestBelow, verdictOf, verdict}
 use Rattle.closure.specs.Answer.{judged, answerOf}
-use Rattle.propagation.specs.Run.{table, startRecord, saysIn, heardFrom, recordIn, played, sites, site}
+use Rattle.propagation.specs.Run.{startRecord, heardFrom, recordIn, played, sites, site}
+use Rattle.sets.specs.Tables.{table}
 use Rattle.propagation.specs.Drawings.{linked, rowsFrom, drawing, setOf, ofAnswer, ofState, answer, linksF, linksH, chain, rows, Row}
 
 -- the definitions answer every row as the document does
-pub drawings : map (λ (r : Row). answer (r .asked)) rows ≡ map (λ (r : Row). r .told) rows
-unfolding _and_ _or_ _implies_ pick mem count all mask enough within size firstWord noted hasNoted certified lesser least candidate choice taking stepFrom step inRange hearsSoundly heardBy hears rowSound linksSound causeOf hearsEnough isBounded isFaultSet joins grow reachedAfter reached rest cutOff defeats better bestBelow verdictOf verdict judged answerOf table startRecord saysIn heardFrom recordIn played sites site linked rowsFrom drawing setOf ofAnswer ofState answer linksF linksH chain rows
+pub drawings : map (λ (r : Row). answer (r .asked)) rows ≡ map (λ (r : Row). r .expected) rows
+unfolding _and_ _or_ _implies_ pick firstCause mem count all mask enough within size firstWord noted hasNoted certified lesser least candidate choice taking stepFrom step inRange hearsSoundly heardBy hears rowSound linksSound causeOf hearsEnough isBounded isFaultSet joins grow reachedAfter reached cutOff defeats better bestBelow verdictOf verdict judged answerOf table startRecord saysIn heardFrom recordIn played sites site linked rowsFrom drawing setOf ofAnswer ofState answer linksF linksH chain rows
 drawings = refl

@@ -3,9 +3,7 @@ use Prim.Native.Nat.{ℕ, zero, suc, _+_, _≤_, _<_}
 use mathlib.Core.Path.{_≡_, refl, sym, ap, _∙_, fun-ext}
 use mathlib.Core.Logic.{⊎-elim}
 use mathlib.Core.Bool.{true, false}
-use mathlib.Core.List.{List, _∷_}
-use Prim.Native.Nat.{suc-le-suc}
-use native.Mathlib.Nat.{le-of-suc-le-suc, not-suc-le-zero, zero-lt-suc}
+use mathlib.Core.List.{List}
 use native.Mathlib.Omega.{arith}
 use lib.Dec.{eqb}
 use lib.ListN.{length, getD}
@@ -13,30 +11,14 @@ use borrow.Author.Tests.{eq-eqb, ne-eqb}
 use Rattle.sets.specs.Tests.{pick}
 use Rattle.sets.specs.Sets.{mem}
 use Rattle.sets.proofs.Bools.{decide, pick-yes, pick-no, pick-case}
+use Rattle.sets.proofs.Tables.{table-length, table-at, table-same}
 use Rattle.terminal.specs.declared.State.{State}
 use Rattle.terminal.specs.declared.State.the-variants.{Waiting, Taken}
 use Rattle.terminal.specs.declared.Record.{Record}
-use Rattle.terminal.specs.Rule.{start, sourceStart}
+use Rattle.terminal.specs.Rule.{start, sourceStart, saysIn}
 use Rattle.plan.specs.declared.Plan.{Plan}
 use Rattle.plan.specs.Plan.{hears}
-use Rattle.propagation.specs.Run.{Script, stepIn, table, startRecord, saysIn, heardFrom, recordIn, played, sites, site, SameWords}
-
-pub table-length : (n : ℕ) (one : ℕ → Record) → length (table n one) ≡ n
-unfolding table
-table-length zero one = refl
-table-length (suc n) one = ap suc (table-length n (λ b. one (suc b)))
-
-pub table-at : (n : ℕ) (one : ℕ → Record) (b : ℕ) → b < n → getD (table n one) b start ≡ one b
-unfolding table
-table-at zero one b k = absurd (not-suc-le-zero k)
-table-at (suc n) one zero k = refl
-table-at (suc n) one (suc b) k = table-at n (λ b. one (suc b)) b (le-of-suc-le-suc k)
-
-pub table-same : (n : ℕ) (one other : ℕ → Record) → ((b : ℕ) → b < n → one b ≡ other b) → table n one ≡ table n other
-unfolding table
-table-same zero one other e = refl
-table-same (suc n) one other e =
-    let rest = table-same n (λ b. one (suc b)) (λ b. other (suc b)) (λ b k. e (suc b) (suc-le-suc k)) in (λ i. e 0 (zero-lt-suc n) i ∷ rest i)
+use Rattle.propagation.specs.Run.{Script, stepIn, startRecord, heardFrom, recordIn, played, sites, site, SameWords}
 
 -- what a good terminal says is the value that it has taken, in the round after
 pub says-why : (round : ℕ) (s : State) (v : ℕ) → saysIn round s ≡ v → (v ≡ 0 → ⊥) → (at : ℕ) × (s ≡ Taken at v)
@@ -56,41 +38,38 @@ pub says-then-at : (r at v : ℕ) (s : State) → s ≡ Taken at v → at ≡ r 
 says-then-at r at v s e q = ap (saysIn (suc r)) e ∙ ap (λ (x : ℕ). saysIn (suc x) (Taken at v)) (sym q) ∙ says-then at v
 
 module _ (p : Plan) (faulty value : ℕ) (script : Script) where
-  abbrev pub at : ℕ → ℕ → Record
-  at r b = site p faulty value script r b
-
   -- what terminal b hears from terminal j in round r + 1
   abbrev pub word : ℕ → ℕ → ℕ → ℕ
   word r b j = heardFrom p faulty script (suc r) (sites p faulty value script r) b j
 
-  pub at-start : (b : ℕ) → b < p .n → at 0 b ≡ startRecord p value b
+  pub at-start : (b : ℕ) → b < p .n → site p faulty value script 0 b ≡ startRecord p value b
   unfolding site sites
-  at-start b k = table-at (p .n) (startRecord p value) b k
+  at-start b k = table-at (p .n) (startRecord p value) start b k
 
-  pub source-at-start : p .source < p .n → at 0 (p .source) ≡ sourceStart value
+  pub source-at-start : p .source < p .n → site p faulty value script 0 (p .source) ≡ sourceStart value
   unfolding startRecord
   source-at-start k = at-start (p .source) k ∙ pick-yes _ _ _ (eq-eqb (p .source) (p .source) refl)
 
-  pub other-at-start : (b : ℕ) → b < p .n → (b ≡ p .source → ⊥) → at 0 b ≡ start
+  pub other-at-start : (b : ℕ) → b < p .n → (b ≡ p .source → ⊥) → site p faulty value script 0 b ≡ start
   unfolding startRecord
   other-at-start b k z = at-start b k ∙ pick-no _ _ _ (ne-eqb b (p .source) z)
 
   pub at-next : (r b : ℕ) → b < p .n → mem b faulty ≡ false
-      → at (suc r) b ≡ stepIn p b (word r b) (at r b)
+      → site p faulty value script (suc r) b ≡ stepIn p b (word r b) (site p faulty value script r b)
   unfolding site sites played recordIn
-  at-next r b k g = table-at (p .n) (recordIn p faulty script (suc r) (sites p faulty value script r)) b k ∙ pick-no _ _ _ g
+  at-next r b k g = table-at (p .n) (recordIn p faulty script (suc r) (sites p faulty value script r)) start b k ∙ pick-no _ _ _ g
 
   -- a terminal of the fault set stays waiting, round 0, nothing heard
-  pub at-faulty : (r b : ℕ) → b < p .n → mem b faulty ≡ true → at (suc r) b ≡ start
+  pub at-faulty : (r b : ℕ) → b < p .n → mem b faulty ≡ true → site p faulty value script (suc r) b ≡ start
   unfolding site sites played recordIn
-  at-faulty r b k g = table-at (p .n) (recordIn p faulty script (suc r) (sites p faulty value script r)) b k ∙ pick-yes _ _ _ g
+  at-faulty r b k g = table-at (p .n) (recordIn p faulty script (suc r) (sites p faulty value script r)) start b k ∙ pick-yes _ _ _ g
 
   pub sites-length : (r : ℕ) → length (sites p faulty value script r) ≡ p .n
   unfolding sites played
   sites-length zero = table-length (p .n) (startRecord p value)
   sites-length (suc r) = table-length (p .n) (recordIn p faulty script (suc r) (sites p faulty value script r))
 
-  pub word-good : (r b j : ℕ) → hears p b j ≡ true → mem j faulty ≡ false → word r b j ≡ saysIn (suc r) (at r j .state)
+  pub word-good : (r b j : ℕ) → hears p b j ≡ true → mem j faulty ≡ false → word r b j ≡ saysIn (suc r) (site p faulty value script r j .state)
   unfolding heardFrom site
   word-good r b j h g = pick-yes _ _ _ h ∙ pick-no _ _ _ g
 

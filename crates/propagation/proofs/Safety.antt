@@ -17,10 +17,10 @@ use Rattle.plan.specs.declared.Plan.{Plan}
 use Rattle.plan.specs.Plan.{hears}
 use Rattle.plan.proofs.Laws.{Sound}
 use Rattle.closure.specs.FaultSet.{enoughIn, isFaultSet}
-use Rattle.propagation.specs.Run.{Script, stepIn}
+use Rattle.propagation.specs.Run.{Script, stepIn, site}
 use Rattle.closure.proofs.Faults.{fault-source, fault-bound, hears-enough}
 use Rattle.propagation.proofs.Steps.{step-round, step-room, taken-stays, takes, note-said}
-use Rattle.propagation.proofs.Rounds.{at, word, source-at-start, other-at-start, at-next, word-good, says-why}
+use Rattle.propagation.proofs.Rounds.{word, source-at-start, other-at-start, at-next, word-good, says-why}
 
 -- what holds of every good terminal's record after r rounds
 pub record Safe (p : Plan) (faulty value r b : ℕ) (x : Record) : Type 0 where
@@ -54,32 +54,32 @@ module _ (p : Plan) (sound : Sound p) (faulty value : ℕ) (script : Script) (fa
     notes-good = λ j v h g e. clash e (source-start-empty value v j);
   }
 
-  start-safe : (b : ℕ) → b < p .n → Safe p faulty value 0 b (at p faulty value script 0 b)
+  start-safe : (b : ℕ) → b < p .n → Safe p faulty value 0 b (site p faulty value script 0 b)
   start-safe b k =
       ⊎-elim
-      (λ e. subst (λ (c : ℕ). Safe p faulty value 0 c (at p faulty value script 0 c)) (sym e)
+      (λ e. subst (λ (c : ℕ). Safe p faulty value 0 c (site p faulty value script 0 c)) (sym e)
       (subst (Safe p faulty value 0 (p .source)) (sym (source-at-start p faulty value script (sound .source-below))) source-safe))
       (λ z. subst (Safe p faulty value 0 b) (sym (other-at-start p faulty value script b k z)) (private-start b))
       (equal-or-not b (p .source))
 
   -- what a good terminal says is the source's layout
-  good-word : (r : ℕ) → ((b : ℕ) → b < p .n → mem b faulty ≡ false → Safe p faulty value r b (at p faulty value script r b))
+  good-word : (r : ℕ) → ((b : ℕ) → b < p .n → mem b faulty ≡ false → Safe p faulty value r b (site p faulty value script r b))
       → (b j v : ℕ) → b < p .n → hears p b j ≡ true → mem j faulty ≡ false → word p faulty value script r b j ≡ v → (v ≡ 0 → ⊥) → v ≡ value
   good-word r ih b j v k h g e z =
-      let w = says-why (suc r) (at p faulty value script r j .state) v (sym (word-good p faulty value script r b j h g) ∙ e) z in
+      let w = says-why (suc r) (site p faulty value script r j .state) v (sym (word-good p faulty value script r b j h g) ∙ e) z in
       ih j (sound .heard-below b j k h) g .taken (w .0) v (w .1) .0
 
   -- one round: the notes of good neighbours, and then what is taken
-  next-notes : (r : ℕ) → ((b : ℕ) → b < p .n → mem b faulty ≡ false → Safe p faulty value r b (at p faulty value script r b))
+  next-notes : (r : ℕ) → ((b : ℕ) → b < p .n → mem b faulty ≡ false → Safe p faulty value r b (site p faulty value script r b))
       → (b : ℕ) → b < p .n → mem b faulty ≡ false → (j v : ℕ) → hears p b j ≡ true → mem j faulty ≡ false
-      → holds (stepIn p b (word p faulty value script r b) (at p faulty value script r b)) v j ≡ true
+      → holds (stepIn p b (word p faulty value script r b) (site p faulty value script r b)) v j ≡ true
       → v ≡ value
   next-notes r ih b k g j v h gj e =
       ⊎-elim (ih b k g .notes-good j v h gj)
       (λ s.
       good-word r ih b j v k h gj (s .1)
-      (holds-layout (stepIn p b (word p faulty value script r b) (at p faulty value script r b)) v j e))
-      (note-said p b (word p faulty value script r b) (at p faulty value script r b) v j e)
+      (holds-layout (stepIn p b (word p faulty value script r b) (site p faulty value script r b)) v j e))
+      (note-said p b (word p faulty value script r b) (site p faulty value script r b) v j e)
 
   -- more than f neighbours cannot all be faulty, so one of them is good
   certified-good : (b : ℕ) → b < p .n → mem b faulty ≡ false → (x : Record) (v : ℕ)
@@ -96,30 +96,30 @@ module _ (p : Plan) (sound : Sound p) (faulty value : ℕ) (script : Script) (fa
       (fault-bound p faulty fault b k g))
       (equal-or-not v value)
 
-  next-taken : (r : ℕ) → ((b : ℕ) → b < p .n → mem b faulty ≡ false → Safe p faulty value r b (at p faulty value script r b))
+  next-taken : (r : ℕ) → ((b : ℕ) → b < p .n → mem b faulty ≡ false → Safe p faulty value r b (site p faulty value script r b))
       → (b : ℕ) → b < p .n → mem b faulty ≡ false → (t v : ℕ)
-      → stepIn p b (word p faulty value script r b) (at p faulty value script r b) .state ≡ Taken t v
+      → stepIn p b (word p faulty value script r b) (site p faulty value script r b) .state ≡ Taken t v
       → (v ≡ value) × (t ≤ suc r)
   next-taken r ih b k g t v e =
       ⊎-elim
       (λ w.
-      let why = takes p b (word p faulty value script r b) (at p faulty value script r b) t v w e in
-      let q : at p faulty value script r b .round ≡ r = ih b k g .round-is in
-      let o : t ≡ at p faulty value script r b .round + 1 = why .0 in (
+      let why = takes p b (word p faulty value script r b) (site p faulty value script r b) t v w e in
+      let q : site p faulty value script r b .round ≡ r = ih b k g .round-is in
+      let o : t ≡ site p faulty value script r b .round + 1 = why .0 in (
         ⊎-elim (λ s. next-notes r ih b k g (p .source) v (s .0) (fault-source p faulty fault) (s .1))
             (λ m.
-            certified-good b k g (stepIn p b (word p faulty value script r b) (at p faulty value script r b)) v
+            certified-good b k g (stepIn p b (word p faulty value script r b) (site p faulty value script r b)) v
             (λ j h gj n. next-notes r ih b k g j v h gj n) m)
             (why .1),
         omega arith,
       ))
       (λ w.
-      let kept = taken-stays p b (word p faulty value script r b) (at p faulty value script r b) (w .0) (w .1) (w .2) in
+      let kept = taken-stays p b (word p faulty value script r b) (site p faulty value script r b) (w .0) (w .1) (w .2) in
       let old = ih b k g .taken (w .0) (w .1) (w .2) in
       let tt1 : t ≡ w .0 = same-time (sym e ∙ kept) in
       let vv1 : v ≡ w .1 = same-value (sym e ∙ kept) in
       (vv1 ∙ old .0, (let u : w .0 ≤ r = old .1 in omega arith)))
-      (state-cases (at p faulty value script r b .state))
+      (state-cases (site p faulty value script r b .state))
     where
       same-time : {a c x y : ℕ} → Taken a x ≡ Taken c y → a ≡ c
       same-time e = cc
@@ -127,17 +127,17 @@ module _ (p : Plan) (sound : Sound p) (faulty value : ℕ) (script : Script) (fa
       same-value : {a c x y : ℕ} → Taken a x ≡ Taken c y → x ≡ y
       same-value e = cc
 
-  pub safe : (r b : ℕ) → b < p .n → mem b faulty ≡ false → Safe p faulty value r b (at p faulty value script r b)
+  pub safe : (r b : ℕ) → b < p .n → mem b faulty ≡ false → Safe p faulty value r b (site p faulty value script r b)
   safe zero b k g = start-safe b k
   safe (suc r) b k g =
       subst (Safe p faulty value (suc r) b) (sym (at-next p faulty value script r b k g))
       (record {
         round-is =
-            (let e = step-round p b (word p faulty value script r b) (at p faulty value script r b) in
-            let q : at p faulty value script r b .round ≡ r = safe r b k g .round-is in
-            let s : at p faulty value script r b .round + 1 ≡ suc r = omega arith in
+            (let e = step-round p b (word p faulty value script r b) (site p faulty value script r b) in
+            let q : site p faulty value script r b .round ≡ r = safe r b k g .round-is in
+            let s : site p faulty value script r b .round + 1 ≡ suc r = omega arith in
             e ∙ s);
-        room = step-room p b (word p faulty value script r b) (at p faulty value script r b) 20 (safe r b k g .room);
+        room = step-room p b (word p faulty value script r b) (site p faulty value script r b) 20 (safe r b k g .room);
         taken = next-taken r (safe r) b k g;
         notes-good = next-notes r (safe r) b k g;
       })

@@ -59,7 +59,7 @@ answer (stateAfter rounds p b) = ofState (site p 0 7 silence rounds b .state)
 
 pub record Row : Type 0 where
   pub asked : Question
-  pub told : Told
+  pub expected : Told
 
 unfoldable pub linksF : List Link
 linksF = 0 ▷ 1 ∷ 0 ▷ 2 ∷ 0 ▷ 3 ∷ 1 ▷ 4 ∷ 2 ▷ 4 ∷ 3 ▷ 4 ∷ []
@@ -72,21 +72,21 @@ chain = 0 ▷ 1 ∷ 1 ▷ 2 ∷ []
 
 unfoldable pub rows : List Row
 rows =
-    record { asked = judge (drawing 2 0 (0 ▷ 1 ∷ [])); told = pass }
-    ∷ record { asked = judge (drawing 2 0 []); told = fail (setOf []) (setOf (0 ∷ [])) (setOf (1 ∷ [])) }
-    ∷ record { asked = judge (drawing 3 0 chain); told = pass }
-    ∷ record { asked = stateAfter 1 (drawing 3 0 chain) 2; told = waits }
-    ∷ record { asked = stateAfter 2 (drawing 3 0 chain) 2; told = takes 2 7 }
-    ∷ record { asked = judge (drawing 3 1 chain); told = fail (setOf []) (setOf (0 ∷ 1 ∷ [])) (setOf (2 ∷ [])) }
+    record { asked = judge (drawing 2 0 (0 ▷ 1 ∷ [])); expected = pass }
+    ∷ record { asked = judge (drawing 2 0 []); expected = fail (setOf []) (setOf (0 ∷ [])) (setOf (1 ∷ [])) }
+    ∷ record { asked = judge (drawing 3 0 chain); expected = pass }
+    ∷ record { asked = stateAfter 1 (drawing 3 0 chain) 2; expected = waits }
+    ∷ record { asked = stateAfter 2 (drawing 3 0 chain) 2; expected = takes 2 7 }
+    ∷ record { asked = judge (drawing 3 1 chain); expected = fail (setOf []) (setOf (0 ∷ 1 ∷ [])) (setOf (2 ∷ [])) }
     ∷ record {
       asked = judge (drawing 4 1 (0 ▷ 1 ∷ 0 ▷ 2 ∷ 1 ▷ 3 ∷ 2 ▷ 3 ∷ []));
-      told = fail (setOf (1 ∷ [])) (setOf (0 ∷ 2 ∷ [])) (setOf (3 ∷ []));
+      expected = fail (setOf (1 ∷ [])) (setOf (0 ∷ 2 ∷ [])) (setOf (3 ∷ []));
     }
-    ∷ record { asked = judge (drawing 5 1 linksF); told = pass }
-    ∷ record { asked = judge (drawing 5 2 linksF); told = fail (setOf (1 ∷ [])) (setOf (0 ∷ 2 ∷ 3 ∷ [])) (setOf (4 ∷ [])) }
-    ∷ record { asked = judge (drawing 7 1 linksH); told = fail (setOf (1 ∷ 3 ∷ [])) (setOf (0 ∷ 2 ∷ 4 ∷ [])) (setOf (5 ∷ 6 ∷ [])) }
-    ∷ record { asked = judge (drawing 7 1 (linksH ++ (1 ▷ 0 ∷ 2 ▷ 0 ∷ 3 ▷ 0 ∷ 4 ▷ 0 ∷ []))); told = pass }
-    ∷ record { asked = judge (drawing 1 0 []); told = refusal 4 }
-    ∷ record { asked = judge (drawing 5 4 linksF); told = fail (setOf []) (setOf (0 ∷ 1 ∷ 2 ∷ 3 ∷ [])) (setOf (4 ∷ [])) }
-    ∷ record { asked = judge (drawing 5 5 linksF); told = refusal 4 }
+    ∷ record { asked = judge (drawing 5 1 linksF); expected = pass }
+    ∷ record { asked = judge (drawing 5 2 linksF); expected = fail (setOf (1 ∷ [])) (setOf (0 ∷ 2 ∷ 3 ∷ [])) (setOf (4 ∷ [])) }
+    ∷ record { asked = judge (drawing 7 1 linksH); expected = fail (setOf (1 ∷ 3 ∷ [])) (setOf (0 ∷ 2 ∷ 4 ∷ [])) (setOf (5 ∷ 6 ∷ [])) }
+    ∷ record { asked = judge (drawing 7 1 (linksH ++ (1 ▷ 0 ∷ 2 ▷ 0 ∷ 3 ▷ 0 ∷ 4 ▷ 0 ∷ []))); expected = pass }
+    ∷ record { asked = judge (drawing 1 0 []); expected = refusal 4 }
+    ∷ record { asked = judge (drawing 5 4 linksF); expected = fail (setOf []) (setOf (0 ∷ 1 ∷ 2 ∷ 3 ∷ [])) (setOf (4 ∷ [])) }
+    ∷ record { asked = judge (drawing 5 5 linksF); expected = refusal 4 }
     ∷ []

@@ -1,39 +1,32 @@
 -- The run by the rules (document 01, "The run"), for any number of rounds. A script is a function of round, sender and hearer: what the terminals of
 -- the fault set say, 0 for silence. Assumes nothing.
-use Prim.Native.Nat.{ℕ, zero, suc, _+_, _≤_, _<_}
+use Prim.Native.Nat.{ℕ, zero, suc, _+_, _-_, _*_, _≤_, _<_}
 use mathlib.Core.Path.{_≡_}
 use mathlib.Core.Bool.{true}
-use mathlib.Core.List.{List, [], _∷_}
+use mathlib.Core.List.{List}
 use lib.Dec.{eqb}
 use lib.ListN.{getD}
 use Rattle.sets.specs.Tests.{pick}
+use Rattle.sets.specs.Tables.{table}
 use Rattle.sets.specs.Sets.{Terminal, Set, mem}
-use Rattle.terminal.specs.declared.State.{State}
-use Rattle.terminal.specs.declared.State.the-variants.{Waiting, Taken}
 use Rattle.terminal.specs.declared.Record.{Record}
-use Rattle.terminal.specs.Rule.{Layout, Round, start, sourceStart, step}
+use Rattle.terminal.specs.Rule.{Layout, Round, start, sourceStart, step, saysIn}
 use Rattle.plan.specs.declared.Plan.{Plan}
 use Rattle.plan.specs.Plan.{heardBy, hears}
 
 abbrev pub Script : Type 0
 Script = (round : Round) (sender hearer : Terminal) → Layout
 
+-- the script that a lent list of words stands for: round 1 first, then by sender, then by hearer; 0 past its end
+unfoldable pub scriptOf : (n : ℕ) (words : List Layout) → Script
+scriptOf n words round sender hearer = getD words ((round - 1) * (n * n) + sender * n + hearer) 0
+
 abbrev pub silence : Script
 silence round sender hearer = 0
-
--- the records of the terminals below n, one after the other
-unfoldable pub table : (n : ℕ) (one : Terminal → Record) → List Record
-table zero one = []
-table (suc n) one = one 0 ∷ table n (λ b. one (suc b))
 
 -- the source starts as taken in round 0 with its value, all others start waiting
 unfoldable pub startRecord : Plan → (value : Layout) (b : Terminal) → Record
 startRecord p value b = pick (eqb b (p .source)) (sourceStart value) start
-
--- what a good terminal says in a round: its value in the round after it took, and never again
-unfoldable pub saysIn : Round → State → Layout
-saysIn round Waiting = 0
-saysIn round (Taken at value) = pick (eqb (at + 1) round) value 0
 
 -- what terminal b hears from terminal j in a round, where `before` are the records after the round before: the script's word if j is in the fault set
 unfoldable pub heardFrom : Plan → (faulty : Set) (script : Script) (round : Round) (before : List Record) (b j : Terminal) → Layout

@@ -2,19 +2,7 @@
 use super::said;
 use super::say;
 use partition::WitnessCheck;
-use simulation::Outcome as Run;
-use terminal::Outcome as Step;
 use terminal::Record;
-
-fn step_number(o: Step) -> u8 {
-    match o {
-        Step::Accepted => 0,
-        Step::WrongRange => 4,
-        Step::WrongLink => 5,
-        Step::WrongLength => 12,
-        Step::WrongRecord => 13,
-    }
-}
 
 fn step_on(body: &[u8], said_to: &[u16], line: &mut [u8]) -> usize {
     let stepped = terminal::step(
@@ -28,7 +16,7 @@ fn step_on(body: &[u8], said_to: &[u16], line: &mut [u8]) -> usize {
     );
     let outcome = stepped.outcome;
     let after = stepped.after;
-    let one = say::byte(line, 0, step_number(outcome));
+    let one = say::byte(line, 0, terminal::number(outcome));
     say::record(line, one, after)
 }
 
@@ -70,18 +58,6 @@ pub(crate) fn fault_set(body: &[u8], line: &mut [u8]) -> usize {
     say::byte(line, 0, faults::number(checked))
 }
 
-pub(crate) fn run_number(o: Run) -> u8 {
-    match o {
-        Run::Played => 0,
-        Run::WrongRange => 4,
-        Run::WrongLink => 5,
-        Run::WrongMember => 7,
-        Run::OverBound => 8,
-        Run::WrongStart => 9,
-        Run::WrongLength => 12,
-    }
-}
-
 fn record_below(line: &mut [u8], at: usize, below: bool, r: Record) -> usize {
     if below {
         return say::record(line, at, r);
@@ -111,7 +87,7 @@ fn site_on(body: &[u8], words: &[u16], line: &mut [u8]) -> usize {
     );
     let outcome = ran.outcome;
     let list = ran.records;
-    let one = say::byte(line, 0, run_number(outcome));
+    let one = say::byte(line, 0, simulation::number(outcome));
     records(line, one, n, list)
 }
 

@@ -1,6 +1,5 @@
 // The run over records that are lent: five places, so that a plan of four terminals, of five and of
 // six lends one too many, as many as it should, and one too few.
-use super::calls;
 use super::said;
 use super::say;
 use plan::Plan;
@@ -55,7 +54,7 @@ fn lent_on(body: &[u8], words: &[u16], line: &mut [u8]) -> usize {
     );
     let outcome = ran.outcome;
     let after = ran.records;
-    let one = say::byte(line, 0, calls::run_number(outcome));
+    let one = say::byte(line, 0, simulation::number(outcome));
     records(line, one, after)
 }
 

@@ -7,7 +7,7 @@ use native.Mathlib.Omega.{arith}
 use lib.ListN.{length}
 use Rattle.plan.specs.Plan.{causeOf}
 use Rattle.text.specs.declared.Written as text
-use Rattle.text.specs.Texts.{writtenOf, putInto}
+use Rattle.text.specs.Texts.{writtenOf}
 use Rattle.frames.specs.declared.FileRead.{FileRead}
 use Rattle.frames.specs.Reading.{planReading, fileRead}
 use Rattle.frames.proofs.Accepted.{accepted-sound}

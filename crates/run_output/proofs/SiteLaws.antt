@@ -3,15 +3,15 @@ use Prim.Native.Nat.{ℕ, zero, suc, _+_, _*_, _≤_, _<_}
 use mathlib.Core.Path.{_≡_, refl, sym, ap, ap₂, _∙_, subst}
 use mathlib.Core.Logic.{⊎-elim}
 use mathlib.Core.Bool.{Bool, true, false}
-use mathlib.Core.List.{List, _++_, map}
+use mathlib.Core.List.{List, map}
 use native.Mathlib.Nat.{mul-le-mul}
 use native.Mathlib.Numerals.{add-one}
 use native.Mathlib.Omega.{arith}
 use lib.ListN.{length, getD, take, length-append, length-replicate, List·getD-map}
 use lib.Seq.{length-take-le}
-use borrow.Author.Tests.{eq-eqb, leb-true}
+use borrow.Author.Tests.{leb-true}
 use Rattle.sets.specs.Sets.{mem}
-use Rattle.sets.proofs.Bools.{and-r, and-i, pick-yes, pick-no, pick-case}
+use Rattle.sets.proofs.Bools.{and-r, pick-yes, pick-no, pick-case}
 use Rattle.sets.proofs.Laws.{equal-or-not}
 use Rattle.quorum.specs.Words as words
 use Rattle.terminal.specs.declared.State.{State}
@@ -19,10 +19,9 @@ use Rattle.terminal.specs.declared.State.the-variants.{Waiting, Taken}
 use Rattle.terminal.specs.declared.Record.{Record}
 use Rattle.terminal.specs.Rule.{start}
 use Rattle.plan.proofs.Laws.{sound}
-use Rattle.propagation.specs.Run.{site}
-use Rattle.simulation.specs.Turns.{scriptOf}
+use Rattle.propagation.specs.Run.{site, scriptOf}
 use Rattle.simulation.specs.Answer.{startSound, runCause, arrayAfter}
-use Rattle.simulation.proofs.Causes.{cause-played}
+use Rattle.simulation.proofs.Causes.{fits, cause-played}
 use Rattle.simulation.proofs.Promise.{array-at}
 use Rattle.frames.specs.declared.Progress.{Progress}
 use Rattle.frames.specs.declared.FileRead.{FileRead}
@@ -111,7 +110,7 @@ module _ (p : Progress) (play : Playable p) (words : List ℕ) (room : length wo
   not-refused =
       sym
       (cause-played (p .plan) (p .faulty) (p .value) (p .rounds) _ _ (play .bad-set) (play .in-range)
-      (and-i _ _ (eq-eqb _ _ (length-take-le end words end-within)) (eq-eqb (p .plan .n) (p .plan .n) refl)))
+      (fits (p .plan) (p .rounds) _ _ (length-take-le end words end-within) refl))
 
   -- the records are those of the rules, and so are the lines
   pub ran-lines : (records : List Record) → records ≡ arrayAfter (p .plan) (p .faulty) (p .value) (p .rounds) (take end words)

@@ -8,9 +8,8 @@ use Rattle.sets.specs.Tests.{pick}
 use Rattle.sets.specs.Sets.{Terminal, Set, mem}
 use Rattle.terminal.specs.declared.State.{State}
 use Rattle.terminal.specs.declared.State.the-variants.{Waiting, Taken}
-use Rattle.propagation.specs.Run.{Script, site}
+use Rattle.propagation.specs.Run.{Script, site, scriptOf}
 use Rattle.faults.specs.Check.{faultCauseOf}
-use Rattle.simulation.specs.Turns.{scriptOf}
 use Rattle.simulation.specs.Answer.{startSound}
 use Rattle.text.specs.Digits.{hexByte, hexPair}
 use Rattle.frames.specs.declared.Progress.{Progress}

@@ -8,8 +8,8 @@ use native.Mathlib.Omega.{arith}
 use lib.Dec.{eqb, ltb}
 use lib.Pow.{pow-pos}
 use borrow.Author.Count.{below-more}
-use borrow.Author.Tests.{ltb-true, ltb-false, lt-ltb, le-ltb, eqb-true, eqb-false}
-use Rattle.sets.specs.Tests.{_and_, _or_, _implies_}
+use borrow.Author.Tests.{ltb-true, ltb-false, le-ltb, eqb-true, eqb-false}
+use Rattle.sets.specs.Tests.{_and_, _implies_}
 use Rattle.sets.specs.Sets.{bit, mem, count, all, mask}
 use Rattle.sets.proofs.Bools.{clash, decide, and-l, and-r, and-i, implies-e, implies-no-l, implies-no-r, not-e, not-no, no-by, same-test}
 use Rattle.sets.proofs.Digits.{bit-test, low-of, high-of, half-lt, twice-lt, digits-same}

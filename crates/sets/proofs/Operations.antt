@@ -49,6 +49,11 @@ or-with w s i p =
     mask-of w (bitOr s (mask w (λ j. eqb j i))) (λ j. mem j s or eqb j i) (or-lt w s (mask w (λ j. eqb j i)) p (mask-lt w (λ j. eqb j i)))
     (λ j k. mem-or j s (mask w (λ j. eqb j i)) ∙ ap (λ (t : Bool). mem j s or t) (mem-mask w j (λ j. eqb j i) k))
 
+-- a terminal of the set with one more
+pub mem-with : (w s i j : ℕ) → j < w → mem j (with w s i) ≡ mem j s or eqb j i
+unfolding with
+mem-with w s i j k = mem-mask w j (λ j. mem j s or eqb j i) k
+
 -- a test of one word: two sets share no terminal; one lies within the other
 pub test-apart : (n a b : ℕ) → a < 2 ^ n → eqb (bitAnd a b) 0 ≡ all n (λ i. not (mem i a and mem i b))
 test-apart n a b h =

@@ -1,7 +1,8 @@
 -- Causes of refusal, as document 01's table has them: tests with their numbers, of which the first that holds decides. Assumes nothing.
 use Prim.Native.Nat.{ℕ}
-use mathlib.Core.Bool.{Bool}
+use mathlib.Core.Bool.{Bool, not}
 use mathlib.Core.List.{List, [], _∷_}
+use lib.Dec.{eqb}
 use Rattle.sets.specs.Tests.{pick}
 
 -- a row of the table: where the test holds, the call is refused by the number
@@ -13,3 +14,7 @@ pub data Cause : Type 0 where
 unfoldable pub firstCause : List Cause → ℕ
 firstCause [] = 0
 firstCause (test gives number ∷ rest) = pick test number (firstCause rest)
+
+-- the row of a cause that was found before, if there was one
+abbrev pub given : (number : ℕ) → Cause
+given number = not (eqb number 0) gives number

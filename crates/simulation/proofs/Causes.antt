@@ -8,8 +8,8 @@ use types.Run.{OneOf, miss}
 use denote.Enum.Declared.{tagOf}
 use lib.Dec.{eqb}
 use borrow.Author.Tests.{eqb-true, eqb-false, leb-true, eq-eqb}
-use Rattle.sets.specs.Tests.{_and_, pick}
-use Rattle.sets.proofs.Bools.{clash, and-l, and-r, not-e, pick-yes, pick-no, pick-case}
+use Rattle.sets.proofs.Bools.{and-l, and-r, and-i, not-i, not-e, not-yes, not-no, pick-yes, pick-no}
+use Rattle.sets.proofs.Causes.{cause-here, cause-later, cause-last, cause-none, given-passes, given-decides, given-none}
 use Rattle.plan.specs.declared.Plan.{Plan}
 use Rattle.plan.specs.Plan.{causeOf}
 use Rattle.closure.specs.FaultSet.{isFaultSet}
@@ -17,7 +17,7 @@ use Rattle.faults.specs.Check.{faultCauseOf}
 use Rattle.faults.proofs.Laws.{fault-sound}
 use Rattle.simulation.specs.declared.Outcome.{Outcome}
 use Rattle.simulation.specs.declared.Outcome.the-variants.{Played, WrongRange, WrongLink, WrongMember, OverBound, WrongStart, WrongLength}
-use Rattle.simulation.specs.Answer.{numberOf, startSound, runCause, turnsOf}
+use Rattle.simulation.specs.Answer.{numberOf, startSound, listsFit, runCause, turnsOf}
 use Rattle.simulation.proofs.Outcome.{the-type}
 
 -- an outcome other than Played has a number that is not 0
@@ -30,24 +30,28 @@ not-played OverBound h = refl
 not-played WrongStart h = refl
 not-played WrongLength h = refl
 
+pub fits : (p : Plan) (rounds words places : ℕ) → words ≡ rounds * (p .n * p .n) → places ≡ p .n → listsFit p rounds words places ≡ true
+unfolding listsFit
+fits p rounds words places e q = and-i _ _ (eq-eqb _ _ e) (eq-eqb _ _ q)
+
 module _ (p : Plan) (faulty value rounds words places : ℕ) where
-  pub cause-played : faultCauseOf p faulty ≡ 0 → startSound value rounds ≡ true → eqb words (rounds * (p .n * p .n)) and eqb places (p .n) ≡ true
+  pub cause-played : faultCauseOf p faulty ≡ 0 → startSound value rounds ≡ true → listsFit p rounds words places ≡ true
       → 0 ≡ runCause p faulty value rounds words places
   unfolding runCause
-  cause-played f s l = sym (pick-yes _ _ _ (eq-eqb _ _ f) ∙ pick-yes _ _ _ s ∙ pick-yes _ _ _ l)
+  cause-played f s l = sym (given-passes (faultCauseOf p faulty) _ f ∙ cause-later _ 9 _ (not-yes s) ∙ cause-last _ 12 (not-yes l))
 
-  pub cause-length : faultCauseOf p faulty ≡ 0 → startSound value rounds ≡ true → eqb words (rounds * (p .n * p .n)) and eqb places (p .n) ≡ false
+  pub cause-length : faultCauseOf p faulty ≡ 0 → startSound value rounds ≡ true → listsFit p rounds words places ≡ false
       → 12 ≡ runCause p faulty value rounds words places
   unfolding runCause
-  cause-length f s l = sym (pick-yes _ _ _ (eq-eqb _ _ f) ∙ pick-yes _ _ _ s ∙ pick-no _ _ _ l)
+  cause-length f s l = sym (given-passes (faultCauseOf p faulty) _ f ∙ cause-later _ 9 _ (not-yes s) ∙ cause-here _ 12 _ (not-i l))
 
   pub cause-start : faultCauseOf p faulty ≡ 0 → startSound value rounds ≡ false → 9 ≡ runCause p faulty value rounds words places
   unfolding runCause
-  cause-start f s = sym (pick-yes _ _ _ (eq-eqb _ _ f) ∙ pick-no _ _ _ s)
+  cause-start f s = sym (given-passes (faultCauseOf p faulty) _ f ∙ cause-here _ 9 _ (not-i s))
 
   pub cause-fault : (k : ℕ) → k ≡ faultCauseOf p faulty → eqb k 0 ≡ false → k ≡ runCause p faulty value rounds words places
   unfolding runCause
-  cause-fault k e z = e ∙ sym (pick-no _ _ _ (ap (λ (x : ℕ). eqb x 0) (sym e) ∙ z))
+  cause-fault k e z = e ∙ sym (given-decides (faultCauseOf p faulty) _ (λ y. eqb-false k 0 z (e ∙ y)))
 
   pub turns-played : runCause p faulty value rounds words places ≡ 0 → (rounds + 1) * p .n ≡ turnsOf p faulty value rounds words places
   unfolding turnsOf
@@ -60,24 +64,16 @@ module _ (p : Plan) (faulty value rounds words places : ℕ) where
   -- what an accepted call has
   pub accepted-run : runCause p faulty value rounds words places ≡ 0
       → (causeOf p ≡ 0) × (isFaultSet p faulty ≡ true) × (1 ≤ value) × (rounds ≤ 40) × (words ≡ rounds * (p .n * p .n)) × (places ≡ p .n)
-  unfolding runCause startSound
-  accepted-run =
-      pick-case (λ (x : ℕ). x ≡ 0 → (causeOf p ≡ 0) × (isFaultSet p faulty ≡ true) × (1 ≤ value) × (rounds ≤ 40) × (words ≡ rounds * (p .n * p .n)) × (places ≡ p .n))
-      (eqb (faultCauseOf p faulty) 0)
-      (pick (startSound value rounds) (pick (eqb words (rounds * (p .n * p .n)) and eqb places (p .n)) 0 12) 9) (faultCauseOf p faulty)
-      (λ f.
-      pick-case (λ (x : ℕ). x ≡ 0 → (causeOf p ≡ 0) × (isFaultSet p faulty ≡ true) × (1 ≤ value) × (rounds ≤ 40) × (words ≡ rounds * (p .n * p .n)) × (places ≡ p .n))
-      (startSound value rounds) (pick (eqb words (rounds * (p .n * p .n)) and eqb places (p .n)) 0 12) 9
-      (λ s.
-      pick-case (λ (x : ℕ). x ≡ 0 → (causeOf p ≡ 0) × (isFaultSet p faulty ≡ true) × (1 ≤ value) × (rounds ≤ 40) × (words ≡ rounds * (p .n * p .n)) × (places ≡ p .n))
-      (eqb words (rounds * (p .n * p .n)) and eqb places (p .n)) 0 12
-      (λ l z.
-      let g = fault-sound p faulty (eqb-true (faultCauseOf p faulty) 0 f) in
-      let nz : value ≡ 0 → ⊥ = eqb-false value 0 (not-e (eqb value 0) (and-l _ _ s)) in
-      (g .0, g .1, positive value nz, leb-true rounds 40 (and-r _ _ s), eqb-true words (rounds * (p .n * p .n)) (and-l _ _ l), eqb-true places (p .n) (and-r _ _ l)))
-      (λ l z. absurd (omega arith)))
-      (λ s z. absurd (omega arith)))
-      (λ f z. clash (eq-eqb (faultCauseOf p faulty) 0 z) f)
+  unfolding runCause startSound listsFit
+  accepted-run h =
+      let f = given-none (faultCauseOf p faulty) _ h in
+      let s = cause-none _ 9 _ (λ z. omega arith) (f .1) in
+      let l = cause-none _ 12 _ (λ z. omega arith) (s .1) in
+      let g = fault-sound p faulty (f .0) in
+      let started = not-no (startSound value rounds) (s .0) in
+      let fit = not-no (listsFit p rounds words places) (l .0) in
+      let nz : value ≡ 0 → ⊥ = eqb-false value 0 (not-e (eqb value 0) (and-l _ _ started)) in
+      (g .0, g .1, positive value nz, leb-true rounds 40 (and-r _ _ started), eqb-true words (rounds * (p .n * p .n)) (and-l _ _ fit), eqb-true places (p .n) (and-r _ _ fit))
     where
       positive : (v : ℕ) → (v ≡ 0 → ⊥) → 1 ≤ v
       positive Prim.Native.Nat.zero z = absurd (z refl)

@@ -1,33 +1,16 @@
 -- The list of a function's values, and a loop that fills it. Assumes nothing.
-use Prim.Native.Nat.{ℕ, zero, suc, _+_, _<_}
-use mathlib.Core.Path.{_≡_, refl, sym, ap, _∙_, subst}
+use Prim.Native.Nat.{ℕ, _+_, _<_}
+use mathlib.Core.Path.{_≡_, ap, _∙_}
 use mathlib.Core.List.{List}
-use native.Mathlib.Nat.{le-of-suc-le-suc, not-suc-le-zero}
 use native.Mathlib.Omega.{arith}
 use lib.ListN.{length, getD, set}
-use lib.Seq.{ext-getD, getD-set-same, getD-set-other}
+use lib.Seq.{getD-set-same, getD-set-other}
 use borrow.Author.Count.{below-more}
 use Rattle.terminal.specs.declared.Record.{Record}
-use Rattle.propagation.specs.Run.{saysIn}
+use Rattle.terminal.specs.Rule.{saysIn}
 use Rattle.simulation.specs.declared.Turn.{Turn}
 use Rattle.simulation.specs.declared.Made.{Made}
-use Rattle.simulation.specs.Turns.{listOf, recordOf, nextTurn, madeOf}
-
-pub list-length : (n : ℕ) (g : ℕ → ℕ) → length (listOf n g) ≡ n
-unfolding listOf
-list-length zero g = refl
-list-length (suc n) g = ap suc (list-length n (λ j. g (suc j)))
-
-pub list-at : (n : ℕ) (g : ℕ → ℕ) (j : ℕ) → j < n → getD (listOf n g) j 0 ≡ g j
-unfolding listOf
-list-at zero g j k = absurd (not-suc-le-zero k)
-list-at (suc n) g zero k = refl
-list-at (suc n) g (suc j) k = list-at n (λ j. g (suc j)) j (le-of-suc-le-suc k)
-
--- a list of n values that agree with g is the list of g's
-pub list-is : (n : ℕ) (g : ℕ → ℕ) (l : List ℕ) → length l ≡ n → ((j : ℕ) → j < n → getD l j 0 ≡ g j) → l ≡ listOf n g
-list-is n g l e f =
-    ext-getD 0 l (listOf n g) (e ∙ sym (list-length n g)) (λ j k. f j (subst (λ (m : ℕ). j < m) e k) ∙ sym (list-at n g j (subst (λ (m : ℕ). j < m) e k)))
+use Rattle.simulation.specs.Turns.{recordOf, nextTurn, madeOf}
 
 -- a turn that fills place j
 pub filled-more : (g : ℕ → ℕ) (l : List ℕ) (j v : ℕ) → j < length l → v ≡ g j → ((i : ℕ) → i < j → getD l i 0 ≡ g i)

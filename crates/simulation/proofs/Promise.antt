@@ -18,17 +18,18 @@ use Rattle.plan.specs.declared.Plan.{Plan}
 use Rattle.plan.specs.Plan.{causeOf}
 use Rattle.plan.proofs.Laws.{sound}
 use Rattle.closure.specs.FaultSet.{isFaultSet}
-use Rattle.propagation.specs.Run.{Silent, table, sites, site}
+use Rattle.propagation.specs.Run.{Silent, sites, site, scriptOf}
+use Rattle.sets.specs.Tables.{table}
 use Rattle.closure.specs.Verdict.{verdict}
 use Rattle.propagation.proofs.Demand3.{demand3}
 use Rattle.closure.proofs.Witness.{accepts-e}
-use Rattle.propagation.proofs.Rounds.{table-at}
+use Rattle.sets.proofs.Tables.{table-at}
 use Rattle.faults.proofs.Laws.{fault-is}
 use Rattle.simulation.specs.declared.Turn.{Turn}
-use Rattle.simulation.specs.Turns.{scriptOf, firstTurn, playedAfter, CanPlay, leftAfter}
+use Rattle.simulation.specs.Turns.{firstTurn, playedAfter, CanPlay, leftAfter}
 use Rattle.simulation.specs.Answer.{startSound, runCause, turnsOf, recordsAfter, arrayAfter, Demand3Holds, Defeated, noWords}
-use Rattle.simulation.proofs.Causes.{cause-played, accepted-run, turns-played, turns-refused}
-use Rattle.simulation.proofs.Walk.{walk-is, walk-array, turn-placed}
+use Rattle.simulation.proofs.Causes.{fits, cause-played, accepted-run, turns-played, turns-refused}
+use Rattle.simulation.proofs.Meaning.{walk-is, walk-array, turn-placed}
 
 -- records that are, terminal by terminal, those of the rules have demand 3
 pub promised : (p : Plan) → causeOf p ≡ 0 → (faulty value rounds : ℕ) → isFaultSet p faulty ≡ true → 1 ≤ value → (words : List ℕ) (records : List Record)
@@ -109,7 +110,7 @@ module _ (p : Plan) (faulty value rounds : ℕ) (words : List ℕ) where
   array-at e records q b k =
       let t = sound p (accepted-run p faulty value rounds (length words) (p .n) e .0) .twenty in
       ap (λ (l : List Record). getD l b start) (q ∙ pick-yes _ _ _ (eq-eqb _ _ e))
-      ∙ table-at 20 (site p faulty value (scriptOf (p .n) words) rounds) b (omega arith)
+      ∙ table-at 20 (site p faulty value (scriptOf (p .n) words) rounds) start b (omega arith)
 
   pub array-promised : runCause p faulty value rounds (length words) (p .n) ≡ 0 → (records : List Record)
       → records ≡ arrayAfter p faulty value rounds words → Demand3Holds p faulty value rounds words records
@@ -168,7 +169,7 @@ module _ (p : Plan) (c : causeOf p ≡ 0) (value : ℕ) (v : 1 ≤ value) (faile
       sym
       (cause-played p listed value (p .n - 1) (length words) (length before) (fault-is p listed c (accepts-e p listed (verdict p .l) (verdict p .r) (demand3 p c .witness failed) .fault))
       (and-i _ _ (not-i (ne-eqb value 0 (λ z. omega arith))) (le-leb (p .n - 1) 40 (let t = sound p c .twenty in omega arith)))
-      (and-i _ _ (eq-eqb _ _ (length-replicate {A = ℕ} ((p .n - 1) * (p .n * p .n)) 0)) (eq-eqb _ _ places)))
+      (fits p (p .n - 1) (length words) (length before) (length-replicate {A = ℕ} ((p .n - 1) * (p .n * p .n)) 0) places))
 
   pub defeated-run : Defeated p value words before
   defeated-run = record {

@@ -2,22 +2,25 @@
 use Prim.Native.Nat.{ℕ, _+_, _*_, _-_, _≤_, _<_}
 use mathlib.Core.Path.{_≡_}
 use mathlib.Core.Bool.{Bool, true, false, not}
-use mathlib.Core.List.{List}
+use mathlib.Core.List.{List, [], _∷_}
 use lib.Dec.{eqb, leb}
 use lib.ListN.{length, getD, replicate}
 use Rattle.sets.specs.Tests.{_and_, pick}
-use Rattle.sets.specs.Sets.{mem}
+use Rattle.sets.specs.Causes.{_gives_, firstCause, given}
+use Rattle.sets.specs.Sets.{Set, mem}
+use Rattle.quorum.specs.Quorum.{mostTerminals}
 use Rattle.terminal.specs.declared.State.the-variants.{Waiting, Taken}
 use Rattle.terminal.specs.declared.Record.{Record}
-use Rattle.terminal.specs.Rule.{start}
+use Rattle.terminal.specs.Rule.{Layout, start}
+use Rattle.quorum.specs.Words.{mostRounds}
 use Rattle.plan.specs.declared.Plan.{Plan}
 use Rattle.faults.specs.Check.{faultCauseOf}
 use Rattle.closure.specs.Verdict.{verdict}
-use Rattle.propagation.specs.Run.{Silent, table, sites, site}
+use Rattle.propagation.specs.Run.{Silent, sites, site, scriptOf}
+use Rattle.sets.specs.Tables.{table}
 use Rattle.propagation.specs.Demand3.{Good}
 use Rattle.simulation.specs.declared.Outcome.{Outcome}
 use Rattle.simulation.specs.declared.Outcome.the-variants.{Played, WrongRange, WrongLink, WrongMember, OverBound, WrongStart, WrongLength}
-use Rattle.simulation.specs.Turns.{scriptOf}
 
 -- document 01's number of each outcome, 0 where nothing is refused
 abbrev pub numberOf : Outcome → ℕ
@@ -30,30 +33,34 @@ numberOf WrongStart = 9
 numberOf WrongLength = 12
 
 -- a value, and 0 to 40 rounds
-unfoldable pub startSound : ℕ → ℕ → Bool
-startSound value rounds = not (eqb value 0) and leb rounds 40
+unfoldable pub startSound : (value : Layout) (rounds : ℕ) → Bool
+startSound value rounds = not (eqb value 0) and leb rounds mostRounds
 
--- the first cause that applies, in the order 4, 5, 7, 8, 9, 12; 0 where none does
-unfoldable pub runCause : Plan → ℕ → ℕ → ℕ → ℕ → ℕ → ℕ
+-- the words and the records that are lent are as many as they should be
+unfoldable pub listsFit : Plan → (rounds words places : ℕ) → Bool
+listsFit p rounds words places = eqb words (rounds * (p .n * p .n)) and eqb places (p .n)
+
+-- the causes, in their order: first those of the plan and the fault set; 0 where none applies
+unfoldable pub runCause : Plan → (faulty : Set) (value : Layout) (rounds words places : ℕ) → ℕ
 runCause p faulty value rounds words places =
-    pick (eqb (faultCauseOf p faulty) 0)
-    (pick (startSound value rounds) (pick (eqb words (rounds * (p .n * p .n)) and eqb places (p .n)) 0 12) 9)
-    (faultCauseOf p faulty)
+    firstCause (
+    given (faultCauseOf p faulty) ∷ not (startSound value rounds) gives 9 ∷ not (listsFit p rounds words places) gives 12 ∷ []
+    )
 
 -- the turns that the run is played in: one for each terminal in round 0 and in each round after it; none where the call is refused
-unfoldable pub turnsOf : Plan → ℕ → ℕ → ℕ → ℕ → ℕ → ℕ
+unfoldable pub turnsOf : Plan → (faulty : Set) (value : Layout) (rounds words places : ℕ) → ℕ
 turnsOf p faulty value rounds words places = pick (eqb (runCause p faulty value rounds words places) 0) ((rounds + 1) * p .n) 0
 
 -- the records afterwards: those of the run by the rules, or where the call is refused those that were there
-unfoldable pub recordsAfter : Plan → ℕ → ℕ → ℕ → List ℕ → List Record → List Record
+unfoldable pub recordsAfter : Plan → (faulty : Set) (value : Layout) (rounds : ℕ) (words : List Layout) (before : List Record) → List Record
 recordsAfter p faulty value rounds words before =
     pick (eqb (runCause p faulty value rounds (length words) (length before)) 0) (sites p faulty value (scriptOf (p .n) words) rounds) before
 
 -- the same where the records are an array of twenty: terminal b's record after the last round; waiting, round 0, nothing heard for b at or above n, and
 -- for every b where the call is refused
-unfoldable pub arrayAfter : Plan → ℕ → ℕ → ℕ → List ℕ → List Record
+unfoldable pub arrayAfter : Plan → (faulty : Set) (value : Layout) (rounds : ℕ) (words : List Layout) → List Record
 arrayAfter p faulty value rounds words =
-    pick (eqb (runCause p faulty value rounds (length words) (p .n)) 0) (table 20 (site p faulty value (scriptOf (p .n) words) rounds)) (table 20 (λ b. start))
+    pick (eqb (runCause p faulty value rounds (length words) (p .n)) 0) (table mostTerminals (site p faulty value (scriptOf (p .n) words) rounds)) (table mostTerminals (λ b. start))
 
 -- ---- demand 3 of the run itself, for every accepted call: a good terminal is one of the plan outside the fault set
 

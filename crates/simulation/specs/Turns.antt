@@ -1,40 +1,32 @@
 -- The run as the code plays it: one record a turn, terminal by terminal, round by round; round 0 writes the start records. No caller sees this:
 -- proofs/Walk.antt shows that the records are those of the run by the rules. Assumes nothing.
-use Prim.Native.Nat.{ℕ, zero, suc, _+_, _-_, _*_, _≤_, _<_}
-use mathlib.Core.List.{List, [], _∷_}
+use Prim.Native.Nat.{ℕ, zero, suc, _+_, _≤_, _<_}
+use mathlib.Core.List.{List}
 use lib.Dec.{eqb, ltb}
 use lib.ListN.{length, getD, set, take, replicate}
 use Rattle.sets.specs.Tests.{pick}
+use Rattle.sets.specs.Tables.{table}
 use Rattle.sets.specs.Sets.{mem}
 use Rattle.terminal.specs.declared.Record.{Record}
-use Rattle.terminal.specs.Rule.{start}
+use Rattle.terminal.specs.Rule.{start, saysIn}
 use Rattle.terminal.specs.Answer.{recordAfter}
 use Rattle.plan.specs.declared.Plan.{Plan}
 use Rattle.plan.specs.Plan.{heardBy, hears}
-use Rattle.propagation.specs.Run.{Script, startRecord, saysIn}
+use Rattle.propagation.specs.Run.{scriptOf, startRecord}
 use Rattle.simulation.specs.declared.Turn.{Turn}
 use Rattle.simulation.specs.declared.Made.{Made}
-
--- the script that a list of words stands for: round 1 first, then by sender, then by hearer
-unfoldable pub scriptOf : ℕ → List ℕ → Script
-scriptOf n words round sender hearer = getD words ((round - 1) * (n * n) + sender * n + hearer) 0
 
 -- what the terminal whose turn it is hears from terminal j this round
 unfoldable pub heardIn : Turn → List ℕ → ℕ → ℕ
 heardIn t words j =
     pick (hears (t .plan) (t .at) j) (pick (mem j (t .faulty)) (scriptOf (t .plan .n) words (t .round) j (t .at)) (getD (t .spoken) j 0)) 0
 
--- the values of g at 0, 1, .. below n
-unfoldable pub listOf : ℕ → (ℕ → ℕ) → List ℕ
-listOf zero g = []
-listOf (suc n) g = g 0 ∷ listOf n (λ j. g (suc j))
-
 -- its record after the turn: the start record, or what the step answers on the record before
 unfoldable pub recordOf : Turn → List ℕ → Record → Record
 recordOf t words before =
     pick (eqb (t .round) 0) (startRecord (t .plan) (t .value) (t .at))
     (pick (mem (t .at) (t .faulty)) start
-    (recordAfter (t .plan .n) (t .plan .source) (t .plan .f) (t .at) (heardBy (t .plan) (t .at)) before (take (t .plan .n) (listOf 20 (heardIn t words)))))
+    (recordAfter (t .plan .n) (t .plan .source) (t .plan .f) (t .at) (heardBy (t .plan) (t .at)) before (take (t .plan .n) (table 20 (heardIn t words)))))
 
 -- the next turn, where this terminal says `word` in the next round: what is said in a round is fixed before its first step
 unfoldable pub nextTurn : Turn → ℕ → Turn

@@ -2,13 +2,11 @@
 mod playing;
 
 ghost use mathlib.Core.Path.{_≡_};
-ghost use Prim.Native.Nat.{_*_, _≤_};
+ghost use Prim.Native.Nat.{_≤_};
 ghost use lib.ListN.{length};
-ghost use lib.Dec.{eqb};
-ghost use Rattle.sets.specs.Tests.{_and_};
 ghost use Rattle.faults.specs.Check.{faultNumberOf};
 ghost use Rattle.simulation.specs.Turns.{firstTurn, CanPlay, leftAfter};
-ghost use Rattle.simulation.specs.Answer.{numberOf, startSound, runCause, turnsOf, recordsAfter, arrayAfter, Demand3Holds};
+ghost use Rattle.simulation.specs.Answer.{numberOf, startSound, listsFit, runCause, turnsOf, recordsAfter, arrayAfter, Demand3Holds};
 use faults::FaultSetCheck;
 use plan::Plan;
 use terminal::Record;
@@ -21,6 +19,21 @@ pub enum Outcome {
     OverBound,
     WrongStart,
     WrongLength,
+}
+
+// Document 01's number of the outcome, 0 where nothing is refused.
+pub fn number(o: Outcome) -> u8
+    ensures { λ r. ⌜ r ≡ numberOf o ⌝ }
+{
+    match o {
+        Outcome::Played => 0,
+        Outcome::WrongRange => 4,
+        Outcome::WrongLink => 5,
+        Outcome::WrongMember => 7,
+        Outcome::OverBound => 8,
+        Outcome::WrongStart => 9,
+        Outcome::WrongLength => 12,
+    }
 }
 
 // Whose turn it is: terminal `at` in a round. `spoken` is what each good terminal says to all this
@@ -91,10 +104,11 @@ fn start_sound(value: u16, rounds: u8) -> bool
 }
 
 // The lists fit: a word for each round, sender and hearer, and a record for each terminal.
-fn lists_fit(n: usize, rounds: u8, words: usize, places: usize) -> bool
-    requires { ⌜ (n ≤ 20) × (rounds ≤ 40) ⌝ }
-    ensures { λ r. ⌜ r ≡ eqb words (rounds * (n * n)) and eqb places n ⌝ }
+fn lists_fit(p: Plan, rounds: u8, words: usize, places: usize) -> bool
+    requires { ⌜ (p .n ≤ 20) × (rounds ≤ 40) ⌝ }
+    ensures { λ r. ⌜ r ≡ listsFit p rounds words places ⌝ }
 {
+    let n = p.n;
     if words == (rounds as usize) * (n * n) {
         return places == n;
     }
@@ -102,13 +116,13 @@ fn lists_fit(n: usize, rounds: u8, words: usize, places: usize) -> bool
 }
 
 // The first cause that applies.
-fn judge(p: Plan, faulty: u32, value: u16, rounds: u8, words: usize, places: usize) -> Outcome
+fn first_cause(p: Plan, faulty: u32, value: u16, rounds: u8, words: usize, places: usize) -> Outcome
     ensures { λ r. ⌜ numberOf r ≡ runCause p faulty value rounds words places ⌝ }
 {
     let fault = refused(faults::check_fault_set(p, faulty));
     if let Outcome::Played = fault {
         if start_sound(value, rounds) {
-            if lists_fit(p.n, rounds, words, places) {
+            if lists_fit(p, rounds, words, places) {
                 return Outcome::Played;
             }
             return Outcome::WrongLength;
@@ -122,7 +136,7 @@ fn judge(p: Plan, faulty: u32, value: u16, rounds: u8, words: usize, places: usi
 fn begin(p: Plan, faulty: u32, value: u16, rounds: u8, words: usize, places: usize) -> Begun
     ensures { λ r. ⌜ (numberOf (r .outcome) ≡ runCause p faulty value rounds words places) × (r .turn ≡ firstTurn p faulty value) × (r .turns ≡ turnsOf p faulty value rounds words places) ⌝ }
 {
-    let outcome = judge(p, faulty, value, rounds, words, places);
+    let outcome = first_cause(p, faulty, value, rounds, words, places);
     let turn = first_turn(p, faulty, value);
     if let Outcome::Played = outcome {
         return Begun {

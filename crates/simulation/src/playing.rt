@@ -1,8 +1,10 @@
 // One turn: a terminal's record, by value, and the turn that follows.
 ghost use mathlib.Core.Path.{_≡_};
 ghost use Prim.Native.Nat.{_+_, _<_, _≤_};
-ghost use Rattle.propagation.specs.Run.{startRecord, saysIn};
-ghost use Rattle.simulation.specs.Turns.{scriptOf, heardIn, listOf, recordOf, nextTurn, madeOf};
+ghost use Rattle.propagation.specs.Run.{startRecord, scriptOf};
+ghost use Rattle.terminal.specs.Rule.{saysIn};
+ghost use Rattle.simulation.specs.Turns.{heardIn, recordOf, nextTurn, madeOf};
+ghost use Rattle.sets.specs.Tables.{table};
 use super::Made;
 use super::Turn;
 use terminal::Record;
@@ -40,7 +42,7 @@ fn heard_from(t: Turn, words: &[u16], j: usize) -> u16
 // All that the terminal hears this round.
 fn heard(t: Turn, words: &[u16]) -> [u16; 20]
     requires { ⌜ (t .plan .n ≤ 20) × (t .at < t .plan .n) × (1 ≤ t .round) × (t .round ≤ 40) ⌝ }
-    ensures { λ r. ⌜ r ≡ listOf 20 (heardIn t (now (words .entry))) ⌝ }
+    ensures { λ r. ⌜ r ≡ table 20 (heardIn t (now (words .entry))) ⌝ }
 {
     let mut said = [0u16; 20];
     let mut j = 0;

@@ -8,21 +8,27 @@ use mathlib.Core.List.{List}
 use native.Mathlib.Nat.{lt-of-lt-of-le}
 use native.Mathlib.Omega.{arith}
 use lib.Dec.{eqb, ltb, leb}
+use borrow.Author.Tests.{lt-ltb, le-leb, eq-eqb, ne-eqb}
 use lib.ListN.{length, getD, replicate, length-replicate}
-use Rattle.sets.specs.Tests.{_and_, pick}
+use Rattle.sets.specs.Tests.{_and_}
 use Rattle.sets.specs.Sets.{mem}
 use Rattle.quorum.specs.Quorum.{enough, inRange, hearsSoundly}
-use Rattle.sets.proofs.Bools.{clash, no-by, and-no-r, pick-yes, pick-no}
+use Rattle.sets.proofs.Bools.{no-by, and-i, and-no-r, not-i, not-yes, pick-yes, pick-no}
+use Rattle.sets.proofs.Causes.{cause-here, cause-later, cause-last}
 use Rattle.terminal.specs.declared.State.{State}
 use Rattle.terminal.specs.declared.State.the-variants.{Waiting, Taken}
 use Rattle.terminal.specs.declared.Record.{Record}
-use Rattle.terminal.specs.Rule.{start, sourceStart, firstWord, noted, hasNoted, holds, certified, choice, taking, stepFrom, step}
+use Rattle.terminal.specs.Rule.{start, sourceStart, firstWord, noted, hasNoted, holds, certified, choice, taking, stepFrom, step, saysIn, says}
 use Rattle.terminal.specs.Answer.{stateSound, recordSound, causeOf}
 use Rattle.terminal.proofs.Notes.{noted-length, noted-at, noted-change, first-spoken, zeros, has-i, has-layout, has-value, choice-why, choice-none-source, choice-none-certified, choice-least}
 
 -- the record has a note for each of m terminals
 unfoldable pub Room : ℕ → Record → Type 0
 Room m r = m ≤ length (r .notes)
+
+pub room-for : (m n : ℕ) (r : Record) → n ≤ m → Room m r → Room n r
+unfolding Room
+room-for m n r l h = omega arith
 
 -- why a waiting terminal took v: it has it from the source, or from more than f neighbours
 unfoldable pub Reason : ℕ → ℕ → ℕ → ℕ → Record → ℕ → Type 0
@@ -71,7 +77,28 @@ pub source-start-zero : (n source f own heard words : ℕ) → inRange n source 
     → causeOf n source f own heard (sourceStart 0) words ≡ 13
 unfolding causeOf recordSound stateSound
 source-start-zero n source f own heard words r h =
-    pick-yes _ _ _ r ∙ pick-yes _ _ _ h ∙ pick-no _ _ _ (and-no-r (ltb 0 40) _ (and-no-r (ltb own n) _ (and-no-r (leb 0 0) (not (eqb 0 0)) refl)))
+    cause-later _ 4 _ (not-yes r) ∙ cause-later _ 5 _ (not-yes h)
+    ∙ cause-here _ 13 _ (not-i (and-no-r (ltb 0 40) _ (and-no-r (ltb own n) _ (and-no-r (leb 0 0) (not (eqb 0 0)) refl))))
+
+-- ---- a step that is not refused
+
+state-sound : (s : State) (isSource : Bool) (round : ℕ) → (s ≡ Waiting → isSource ≡ false) → ((t v : ℕ) → s ≡ Taken t v → (t ≤ round) × (v ≡ 0 → ⊥))
+    → stateSound s isSource round ≡ true
+unfolding stateSound
+state-sound Waiting isSource round w t = not-i (w refl)
+state-sound (Taken a v) isSource round w t = let h = t a v refl in and-i _ _ (le-leb a round (h .0)) (not-i (ne-eqb v 0 (h .1)))
+
+pub not-refused : (n source f own heard : ℕ) (r : Record) (words : ℕ) → inRange n source f ≡ true → hearsSoundly n own heard ≡ true
+    → r .round < 40 → own < n → (r .state ≡ Waiting → own ≡ source → ⊥) → ((t v : ℕ) → r .state ≡ Taken t v → (t ≤ r .round) × (v ≡ 0 → ⊥))
+    → words ≡ n → causeOf n source f own heard r words ≡ 0
+unfolding causeOf recordSound
+not-refused n source f own heard r words range hears early placed waiting taken fit =
+    cause-later _ 4 _ (not-yes range) ∙ cause-later _ 5 _ (not-yes hears)
+    ∙ cause-later _ 13 _
+    (not-yes
+    (and-i _ _ (lt-ltb (r .round) 40 early)
+    (and-i _ _ (lt-ltb own n placed) (state-sound (r .state) (eqb own source) (r .round) (λ w. ne-eqb own source (waiting w)) taken))))
+    ∙ cause-last _ 12 (not-yes (eq-eqb words n fit))
 
 -- ---- the step: `notes` stands for the notes before it
 
@@ -199,3 +226,28 @@ module _ (n source f heard : ℕ) (said : ℕ → ℕ) where
     has-i (step n source f heard said r .notes) (getD (step n source f heard said r .notes) j 0) j
         (λ z. first-spoken (getD (r .notes) j 0) (said j) s (sym (heard-note r j w m k h) ∙ z)) refl,
   )
+
+-- ---- what a terminal says after a round
+
+says-in-took : (round at value : ℕ) → at ≡ round → saysIn (round + 1) (Taken at value) ≡ value
+unfolding saysIn
+says-in-took round at value e = pick-yes _ _ _ (eq-eqb _ _ (ap (λ (k : ℕ). k + 1) e))
+
+says-in-else : (round at value : ℕ) → (at ≡ round → ⊥) → saysIn (round + 1) (Taken at value) ≡ 0
+unfolding saysIn
+says-in-else round at value ne = pick-no _ _ _ (ne-eqb (at + 1) (round + 1) (λ e. ne (omega (arith, e))))
+
+-- it took in the round that its record shows: its value
+pub says-took : (r : Record) (at value : ℕ) → r .state ≡ Taken at value → at ≡ r .round → says r ≡ value
+unfolding says
+says-took r at value e q = ap (saysIn (r .round + 1)) e ∙ says-in-took (r .round) at value q
+
+-- it took in another round: nothing
+pub says-else : (r : Record) (at value : ℕ) → r .state ≡ Taken at value → (at ≡ r .round → ⊥) → says r ≡ 0
+unfolding says
+says-else r at value e q = ap (saysIn (r .round + 1)) e ∙ says-in-else (r .round) at value q
+
+-- it waits: nothing
+pub says-waits : (r : Record) → r .state ≡ Waiting → says r ≡ 0
+unfolding says saysIn
+says-waits r e = ap (saysIn (r .round + 1)) e

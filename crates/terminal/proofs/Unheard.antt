@@ -8,9 +8,10 @@ use native.Mathlib.Omega.{arith}
 use lib.Dec.{eqb, ltb}
 use lib.ListN.{length, getD}
 use Rattle.sets.specs.Tests.{_and_, pick}
+use Rattle.sets.specs.Causes.{_gives_, firstCause}
 use Rattle.sets.specs.Sets.{mem}
 use Rattle.quorum.specs.Quorum.{enough, inRange, hearsSoundly}
-use Rattle.sets.proofs.Bools.{clash, decide, and-no-l, pick-yes, pick-no, pick-case}
+use Rattle.sets.proofs.Bools.{clash, decide, and-no-l, pick-no, pick-case}
 use Rattle.terminal.specs.declared.State.{State}
 use Rattle.terminal.specs.declared.State.the-variants.{Waiting, Taken}
 use Rattle.terminal.specs.declared.Record.{Record}
@@ -98,10 +99,13 @@ module _ (n source f own heard : ℕ) where
   unfolding causeOf recordSound
   number-same a b e said other s =
       (λ i.
-      pick (inRange n source f)
-      (pick (hearsSoundly n own heard)
-      (pick (ltb (e .round i) 40 and ltb own n and stateSound (e .state i) (eqb own source) (e .round i)) (pick (eqb (s .long i) n) 0 12) 13) 5)
-      4)
+      firstCause (
+      not (inRange n source f) gives 4
+      ∷ not (hearsSoundly n own heard) gives 5
+      ∷ not (ltb (e .round i) 40 and ltb own n and stateSound (e .state i) (eqb own source) (e .round i)) gives 13
+      ∷ not (eqb (s .long i) n) gives 12
+      ∷ []
+      ))
 
   after-same : (a b : Record) → SameRecord heard a b → (said other : List ℕ) → SameHeard heard said other
       → SameRecord heard (recordAfter n source f own heard a said) (recordAfter n source f own heard b other)

@@ -1,7 +1,7 @@
 -- Each fold of the rule taken one terminal further, from the lowest up, as the loops take it; and what the step's answer says of its parts. Assumes nothing.
 use Prim.Native.Nat.{ℕ, zero, suc, _+_, _≤_, _<_, min}
 use mathlib.Core.Path.{_≡_, refl, sym, ap, _∙_}
-use mathlib.Core.Bool.{Bool, true, false}
+use mathlib.Core.Bool.{Bool, false}
 use mathlib.Core.List.{List, [], _∷_}
 use native.Mathlib.Nat.{not-suc-le-zero}
 use native.Mathlib.Numerals.{add-one}
@@ -9,16 +9,16 @@ use native.Mathlib.Omega.{arith}
 use lib.Dec.{eqb}
 use lib.ListN.{length, getD, set}
 use borrow.Author.Tests.{ltb-true, leb-true, eqb-true, eq-eqb}
-use Rattle.sets.specs.Tests.{pick}
 use Rattle.sets.specs.Sets.{bit, count}
-use Rattle.sets.proofs.Bools.{and-l, and-r, pick-yes, pick-no}
+use Rattle.sets.proofs.Bools.{and-l, and-r, pick-yes, pick-no, not-no}
+use Rattle.sets.proofs.Causes.{cause-none}
 use Rattle.sets.proofs.Laws.{count-le, count-next}
 use Rattle.terminal.specs.declared.State.{State}
 use Rattle.terminal.specs.declared.State.the-variants.{Taken}
 use Rattle.terminal.specs.declared.Record.{Record}
 use Rattle.terminal.specs.Rule.{firstWord, noted, lesser, least, taking, step}
 use Rattle.terminal.specs.Answer.{recordSound, causeOf, recordAfter}
-use Rattle.quorum.specs.Quorum.{inRange, hearsSoundly}
+use Rattle.quorum.specs.Quorum.{inRange}
 
 -- ---- the lesser of two values, where 0 is none
 
@@ -95,21 +95,17 @@ taking-some round (suc v) h = refl
 
 -- ---- where no cause of refusal applies, the round can be played
 
-pick-zero : (b : Bool) (x y : ℕ) → pick b x (suc y) ≡ 0 → (b ≡ true) × (x ≡ 0)
-unfolding pick
-pick-zero true x y h = (refl, h)
-pick-zero false x y h = absurd (omega arith)
-
 pub accepted-plays : (n source f own heard : ℕ) (r : Record) (words : ℕ) → causeOf n source f own heard r words ≡ 0
     → (n ≤ 20) × (source < n) × (n ≤ words) × (r .round < 40)
 unfolding causeOf inRange recordSound
 accepted-plays n source f own heard r words h =
-    let a = pick-zero (inRange n source f) _ 3 h in
-    let b = pick-zero (hearsSoundly n own heard) _ 4 (a .1) in
-    let d = pick-zero (recordSound n source own r) _ 12 (b .1) in
-    let e : words ≡ n = eqb-true words n (pick-zero (eqb words n) 0 11 (d .1) .0) in
-    let s = and-r _ _ (and-r _ _ (a .0)) in
-    (leb-true n 20 (and-l _ _ (and-r _ _ (a .0))), ltb-true source n (and-l _ _ s), omega arith, ltb-true (r .round) 40 (and-l _ _ (d .0)))
+    let a = cause-none _ 4 _ (λ z. omega arith) h in
+    let b = cause-none _ 5 _ (λ z. omega arith) (a .1) in
+    let d = cause-none _ 13 _ (λ z. omega arith) (b .1) in
+    let e : words ≡ n = eqb-true words n (not-no _ (cause-none _ 12 _ (λ z. omega arith) (d .1) .0)) in
+    let range = not-no (inRange n source f) (a .0) in
+    let s = and-r _ _ (and-r _ _ range) in
+    (leb-true n 20 (and-l _ _ (and-r _ _ range)), ltb-true source n (and-l _ _ s), omega arith, ltb-true (r .round) 40 (and-l _ _ (not-no (recordSound n source own r) (d .0))))
 
 -- ---- the record that comes back, by the number of the cause
 

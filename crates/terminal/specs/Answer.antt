@@ -1,10 +1,11 @@
 -- What the step answers for all arguments: document 01's number for each cause of refusal, and the record. Assumes nothing.
 use Prim.Native.Nat.{ℕ}
 use mathlib.Core.Bool.{Bool, not}
-use mathlib.Core.List.{List}
+use mathlib.Core.List.{List, [], _∷_}
 use lib.Dec.{eqb, ltb, leb}
 use lib.ListN.{length, getD}
 use Rattle.sets.specs.Tests.{_and_, pick}
+use Rattle.sets.specs.Causes.{_gives_, firstCause}
 use Rattle.sets.specs.Sets.{Terminal, Set}
 use Rattle.quorum.specs.Quorum.{inRange, hearsSoundly}
 use Rattle.quorum.specs.Words.{mostRounds}
@@ -32,12 +33,16 @@ stateSound (Taken at value) isSource round = leb at round and not (eqb value 0)
 unfoldable pub recordSound : (n : ℕ) (source own : Terminal) → Record → Bool
 recordSound n source own r = ltb (r .round) mostRounds and ltb own n and stateSound (r .state) (eqb own source) (r .round)
 
--- the number of the first cause that applies, in the order 4, 5, 13, 12; 0 where none does
+-- the causes, in their order; 0 where none applies
 unfoldable pub causeOf : (n : ℕ) (source : Terminal) (f : ℕ) (own : Terminal) (heard : Set) → Record → (words : ℕ) → ℕ
 causeOf n source f own heard r words =
-    pick (inRange n source f)
-    (pick (hearsSoundly n own heard) (pick (recordSound n source own r) (pick (eqb words n) 0 12) 13) 5)
-    4
+    firstCause (
+    not (inRange n source f) gives 4
+    ∷ not (hearsSoundly n own heard) gives 5
+    ∷ not (recordSound n source own r) gives 13
+    ∷ not (eqb words n) gives 12
+    ∷ []
+    )
 
 -- the record that comes back: the stepped one, or where the step is refused the one that went in
 unfoldable pub recordAfter : (n : ℕ) (source : Terminal) (f : ℕ) (own : Terminal) (heard : Set) → Record → (said : List Layout) → Record

@@ -7,7 +7,7 @@ use lib.Dec.{eqb}
 use lib.ListN.{getD, replicate}
 use Rattle.sets.specs.Tests.{_and_, pick}
 use Rattle.sets.specs.Sets.{Terminal, Set, mem}
-use Rattle.quorum.specs.Quorum.{enough}
+use Rattle.quorum.specs.Quorum.{mostTerminals, enough}
 use Rattle.terminal.specs.declared.State.{State}
 use Rattle.terminal.specs.declared.State.the-variants.{Waiting, Taken}
 use Rattle.terminal.specs.declared.Record.{Record}
@@ -22,10 +22,10 @@ Round = ℕ
 -- ---- the start: every record is at round 0 with nothing heard, the source's too
 
 abbrev pub start : Record
-start = record { state = Waiting; round = 0; notes = replicate 20 0 }
+start = record { state = Waiting; round = 0; notes = replicate mostTerminals 0 }
 
 abbrev pub sourceStart : Layout → Record
-sourceStart value = record { state = Taken 0 value; round = 0; notes = replicate 20 0 }
+sourceStart value = record { state = Taken 0 value; round = 0; notes = replicate mostTerminals 0 }
 
 -- ---- notes: for each neighbour it hears, the first value that this neighbour said
 
@@ -90,3 +90,14 @@ stepFrom (Taken at value) n source f heard said round notes = record { state = T
 
 unfoldable pub step : (n : ℕ) (source : Terminal) (f : ℕ) (heard : Set) (said : Terminal → Layout) → Record → Record
 step n source f heard said r = stepFrom (r .state) n source f heard said (r .round) (r .notes)
+
+-- ---- what it says
+
+-- what a good terminal says in a round: its value in the round after it took, and never again
+unfoldable pub saysIn : Round → State → Layout
+saysIn round Waiting = 0
+saysIn round (Taken at value) = pick (eqb (at + 1) round) value 0
+
+-- what the record after a round has its terminal say in the next one
+unfoldable pub says : Record → Layout
+says r = saysIn (r .round + 1) (r .state)

@@ -5,7 +5,7 @@ ghost use mathlib.Core.Path.{_≡_};
 ghost use Prim.Native.Nat.{_+_, _<_, _≤_};
 ghost use lib.ListN.{length, getD};
 ghost use Rattle.sets.specs.Sets.{mem};
-ghost use Rattle.terminal.specs.Rule.{start, sourceStart, firstWord, noted, choice, taking, step};
+ghost use Rattle.terminal.specs.Rule.{start, sourceStart, firstWord, noted, choice, taking, step, says};
 ghost use Rattle.terminal.specs.Answer.{numberOf, stateSound, recordSound, causeOf, recordAfter};
 
 // A terminal waits, or it has taken a layout in a round and keeps both.
@@ -27,6 +27,19 @@ pub enum Outcome {
     WrongLink,
     WrongLength,
     WrongRecord,
+}
+
+// Document 01's number of the outcome, 0 where nothing is refused.
+pub fn number(o: Outcome) -> u8
+    ensures { λ r. ⌜ r ≡ numberOf o ⌝ }
+{
+    match o {
+        Outcome::Accepted => 0,
+        Outcome::WrongRange => 4,
+        Outcome::WrongLink => 5,
+        Outcome::WrongLength => 12,
+        Outcome::WrongRecord => 13,
+    }
 }
 
 // The record after the step; where it is refused, the record that went in.
@@ -142,7 +155,7 @@ fn record_sound(n: usize, source: usize, own: usize, before: Record) -> bool
 }
 
 // The first cause that applies. A record that cannot be stepped comes before a wrong length.
-fn judge(
+fn first_cause(
     n: usize,
     source: usize,
     f: usize,
@@ -194,7 +207,7 @@ pub fn step(
 ) -> Stepped
     ensures { λ r. ⌜ (numberOf (r .outcome) ≡ causeOf n source f own heard before (length (now (said .entry)))) × (r .after ≡ recordAfter n source f own heard before (now (said .entry))) ⌝ }
 {
-    let outcome = judge(n, source, f, own, heard, before, said.len());
+    let outcome = first_cause(n, source, f, own, heard, before, said.len());
     if let Outcome::Accepted = outcome {
         return Stepped {
             outcome: Outcome::Accepted,
@@ -204,5 +217,23 @@ pub fn step(
     Stepped {
         outcome: outcome,
         after: before,
+    }
+}
+
+// What the terminal says in the round after the one that its record shows: its value if it took in
+// that round, else 0. Any record has an answer.
+pub fn says(record: Record) -> u16
+    ensures { λ r. ⌜ r ≡ says «record» ⌝ }
+{
+    let state = record.state;
+    let round = record.round;
+    match state {
+        State::Waiting => 0,
+        State::Taken(at, value) => {
+            if at == round {
+                return value;
+            }
+            0
+        }
     }
 }

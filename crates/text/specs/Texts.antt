@@ -1,18 +1,17 @@
 -- A text that is put together by value, and a text that is put into a lent list. Assumes nothing.
 use Prim.Native.Nat.{ℕ}
-use mathlib.Core.Bool.{not}
 use mathlib.Core.List.{List, [], _∷_, _++_}
-use lib.Dec.{eqb, ltb}
+use lib.Dec.{ltb}
 use lib.ListN.{length, take}
 use lib.Seq.{sets}
 use Rattle.sets.specs.Tests.{pick}
-use Rattle.sets.specs.Causes.{_gives_, firstCause}
+use Rattle.sets.specs.Causes.{_gives_, firstCause, given}
 use Rattle.text.specs.declared.Text.{Text}
 use Rattle.text.specs.declared.Written.{Written}
 
 -- ---- a text put together
 
--- it has room for so many bytes: a line of 13 for each of 20 terminals, and one line more
+-- it has room for so many bytes; a line of 13 for each of 20 terminals is 260
 abbrev pub textRoom : ℕ
 textRoom = 272
 
@@ -30,7 +29,7 @@ joined bytes part = take textRoom (bytes ++ part)
 -- text gets nothing of it, and that is 12 where nothing else was refused
 unfoldable pub writtenOf : (number len room : ℕ) → Written
 writtenOf number len room = record {
-  number = firstCause (not (eqb number 0) gives number ∷ ltb room len gives 12 ∷ []);
+  number = firstCause (given number ∷ ltb room len gives 12 ∷ []);
   len = pick (ltb room len) 0 len;
 }
 

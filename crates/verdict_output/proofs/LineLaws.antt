@@ -15,7 +15,7 @@ use Rattle.closure.proofs.Growth.{reached-below}
 use Rattle.closure.proofs.Witness.{cut-below}
 use Rattle.partition.specs.declared.Judgement.{Judgement}
 use Rattle.partition.specs.declared.Judgement.the-variants.{Pass, Fail, WrongRange, WrongLink}
-use Rattle.partition.specs.Answer.{Answer, told, answerOf}
+use Rattle.partition.specs.Answer.{Answer, answerOf, answered}
 use Rattle.partition.proofs.Laws.{Failed, answer-fails}
 use Rattle.frames.specs.declared.FileRead.{FileRead}
 use Rattle.text.specs.Digits.{hexByte, hexPair, hexTriple}
@@ -37,10 +37,10 @@ failed-small p a w =
       below (p .n) (a .r) t (subst (λ (s : ℕ). s < 2 ^ p .n) (sym (w .r-is)) (cut-below p (a .f))),
     )
 
-pub answer-small : (p : Plan) (j : Judgement) → told j ≡ answerOf p → (told j .f < 16777216) × (told j .l < 16777216) × (told j .r < 16777216)
+pub answer-small : (p : Plan) (j : Judgement) → answered j ≡ answerOf p → (answered j .f < 16777216) × (answered j .l < 16777216) × (answered j .r < 16777216)
 answer-small p Pass e = omega arith
 answer-small p (Fail w) e =
-    failed-small p (told (Fail w)) (subst (Failed p) (sym e) (answer-fails p (sym (ap (λ (a : Answer). a .failed) e))))
+    failed-small p (answered (Fail w)) (subst (Failed p) (sym e) (answer-fails p (sym (ap (λ (a : Answer). a .failed) e))))
 answer-small p WrongRange e = omega arith
 answer-small p WrongLink e = omega arith
 
@@ -57,16 +57,16 @@ unfolding verdictLine hexTriple hexPair hexByte
 verdict-length failed f l r = refl
 
 module _ (j found : Judgement) (t : List ℕ) (e : j ≡ found) where
-  same-answer : answerText (told found) ≡ answerText (told j)
-  same-answer = ap (λ (x : Judgement). answerText (told x)) (sym e)
+  same-answer : answerText (answered found) ≡ answerText (answered j)
+  same-answer = ap (λ (x : Judgement). answerText (answered x)) (sym e)
 
-  pub says-verdict : told found .number ≡ 0 → t ≡ verdictLine (told found .failed) (told found .f) (told found .l) (told found .r) → t ≡ answerText (told j)
+  pub says-verdict : answered found .number ≡ 0 → t ≡ verdictLine (answered found .failed) (answered found .f) (answered found .l) (answered found .r) → t ≡ answerText (answered j)
   unfolding answerText
-  says-verdict h a = a ∙ sym (pick-yes _ _ _ (eq-eqb (told found .number) 0 h)) ∙ same-answer
+  says-verdict h a = a ∙ sym (pick-yes _ _ _ (eq-eqb (answered found .number) 0 h)) ∙ same-answer
 
-  pub says-refusal : (told found .number ≡ 0 → ⊥) → t ≡ refusalLine (told found .number) 0 → t ≡ answerText (told j)
+  pub says-refusal : (answered found .number ≡ 0 → ⊥) → t ≡ refusalLine (answered found .number) 0 → t ≡ answerText (answered j)
   unfolding answerText
-  says-refusal h a = a ∙ sym (pick-no _ _ _ (ne-eqb (told found .number) 0 h)) ∙ same-answer
+  says-refusal h a = a ∙ sym (pick-no _ _ _ (ne-eqb (answered found .number) 0 h)) ∙ same-answer
 
 -- ---- the line on a plan file
 

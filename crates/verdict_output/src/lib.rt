@@ -2,7 +2,7 @@
 ghost use mathlib.Core.Path.{_≡_};
 ghost use Prim.Native.Nat.{_<_};
 ghost use lib.ListN.{length};
-ghost use Rattle.partition.specs.Answer.{told};
+ghost use Rattle.partition.specs.Answer.{answered};
 ghost use Rattle.text.specs.Texts.{held, putInto};
 ghost use Rattle.frames.specs.Reading.{planReading, fileRead};
 ghost use Rattle.output.specs.OnFile.{answerOn};
@@ -28,8 +28,8 @@ fn line(failed: u8, f: u32, l: u32, r: u32) -> Text
 
 // The verdict's line, or the refusal of a record that is no plan.
 fn answer(j: Judgement) -> Text
-    requires { ⌜ (told j .f < 16777216) × (told j .l < 16777216) × (told j .r < 16777216) ⌝ }
-    ensures { λ r. ⌜ held r ≡ answerText (told j) ⌝ }
+    requires { ⌜ (answered j .f < 16777216) × (answered j .l < 16777216) × (answered j .r < 16777216) ⌝ }
+    ensures { λ r. ⌜ held r ≡ answerText (answered j) ⌝ }
 {
     match j {
         Judgement::Pass => line(0, 0, 0, 0),

@@ -9,7 +9,7 @@ use native.Mathlib.Numerals.{add-one, add-two, add-four, add-six}
 use native.Mathlib.Omega.{arith}
 use lib.ListN.{length, set, length-append}
 use lib.Seq.{sets, length-sets}
-use borrow.Author.Tests.{eq-eqb, ne-eqb}
+use borrow.Author.Tests.{ne-eqb}
 use Rattle.sets.specs.Tests.{pick}
 use Rattle.sets.proofs.Bools.{pick-yes, pick-no}
 use Rattle.plan.specs.declared.Plan.{Plan}

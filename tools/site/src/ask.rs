@@ -1,19 +1,21 @@
-//! The proved programs, asked through the command that builds them where they are missing.
+//! The proved programs, as the script has built them.
 
-use crate::frames::{self, Answer};
+use crate::document::Document;
+use crate::frames::{self, Answer, Plan, State, Verdict};
 use crate::Trouble;
 use std::io::Write;
+use std::path::{Path, PathBuf};
 use std::process::{Command, Output, Stdio};
 use std::thread;
 
 pub struct Programs {
-    command: String,
+    folder: PathBuf,
 }
 
 impl Programs {
-    pub fn new(command: &str) -> Programs {
-        let command = command.to_string();
-        Programs { command }
+    pub fn new(root: &str) -> Programs {
+        let folder = Path::new(root).join("target/bin");
+        Programs { folder }
     }
 
     /// What the program prints on this input, and what that means.
@@ -21,9 +23,10 @@ impl Programs {
         let output = self
             .pipe(name, input)
             .map_err(|error| Trouble::Broken(format!("cannot run '{name}': {error}")))?;
-        // Status 1 is a refusal, which is an answer; the command has told of anything worse.
-        if !matches!(output.status.code(), Some(0 | 1)) {
-            return Err(Trouble::Broken(format!("no answer from '{name}'")));
+        if !output.status.success() {
+            return Err(Trouble::Broken(format!(
+                "the program '{name}' did not end well"
+            )));
         }
         let printed = String::from_utf8_lossy(&output.stdout).into_owned();
         match frames::answer(&printed) {
@@ -34,9 +37,42 @@ impl Programs {
         }
     }
 
+    /// The verdict on frames that are no file of the user's.
+    pub fn verdict(&self, frames: &str) -> Result<Verdict, Trouble> {
+        match self.ask("verdict", frames.as_bytes())?.1 {
+            Answer::Verdict(verdict) => Ok(verdict),
+            _ => Err(Trouble::Broken("'verdict' gave no verdict".into())),
+        }
+    }
+
+    /// The verdict on a document's plan.
+    pub fn verdict_of(&self, document: &Document) -> Result<Verdict, Trouble> {
+        match self.ask("verdict", document.plan_frames())?.1 {
+            Answer::Verdict(verdict) => Ok(verdict),
+            Answer::Refused(refusal) => Err(document.refused("verdict", &refusal)),
+            _ => Err(Trouble::Broken("'verdict' gave no verdict".into())),
+        }
+    }
+
+    /// A document's plan, once the program that reads all of it has accepted it.
+    pub fn accepted(&self, document: &Document) -> Result<Plan, Trouble> {
+        let program = if document.is_run() { "run" } else { "rewrite" };
+        match self.ask(program, document.frames())?.1 {
+            Answer::Refused(refusal) => Err(document.refused(program, &refusal)),
+            _ => Ok(document.plan()),
+        }
+    }
+
+    /// The states after a run of frames that are no file of the user's.
+    pub fn states(&self, frames: &str) -> Result<Vec<(u8, State)>, Trouble> {
+        match self.ask("run", frames.as_bytes())?.1 {
+            Answer::Terminals(states) => Ok(states),
+            _ => Err(Trouble::Broken("'run' gave no states".into())),
+        }
+    }
+
     fn pipe(&self, name: &str, input: &[u8]) -> std::io::Result<Output> {
-        let mut child = Command::new(&self.command)
-            .args([name, "-"])
+        let mut child = Command::new(self.folder.join(name))
             .stdin(Stdio::piped())
             .stdout(Stdio::piped())
             .spawn()?;

@@ -1,6 +1,9 @@
 //! Frames, one a line: from bytes to numbers and back. Nothing is checked here but the form:
 //! what comes in has been accepted by a proved program, or was printed by one.
 
+use std::collections::BTreeSet;
+
+#[derive(Clone)]
 pub struct Plan {
     pub terminals: u8,
     pub source: u8,
@@ -8,6 +11,27 @@ pub struct Plan {
     /// (sender, hearer), in the file's order.
     pub links: Vec<(u8, u8)>,
 }
+
+/// A liar's word.
+#[derive(Clone, Copy)]
+pub struct Word {
+    pub round: u8,
+    pub from: u8,
+    pub to: u8,
+    pub value: u16,
+}
+
+/// What a run file has beside its plan.
+#[derive(Clone)]
+pub struct Run {
+    pub bad: Vec<u8>,
+    pub value: u16,
+    pub rounds: u8,
+    pub words: Vec<Word>,
+}
+
+/// The most rounds of a run, and those of a start frame without its rounds byte.
+pub const MOST_ROUNDS: u8 = 40;
 
 /// Cause and line of a refused file; line 0 is the whole file.
 pub struct Refusal {
@@ -23,6 +47,7 @@ pub struct Verdict {
     pub cut_off: Vec<u8>,
 }
 
+#[derive(Clone, Copy, PartialEq, Eq)]
 pub enum State {
     Waiting,
     Taken { round: u8, value: u16 },
@@ -44,6 +69,53 @@ pub fn head(terminals: u8, source: u8, bound: u8) -> String {
 
 pub fn link(from: u8, to: u8) -> String {
     format!("02{from:02x}{to:02x}\n")
+}
+
+/// The set as a number: bit i stands for terminal i.
+pub fn bad_set(set: u32) -> String {
+    format!("03{set:06x}\n")
+}
+
+pub fn start(value: u16, rounds: Option<u8>) -> String {
+    match rounds {
+        Some(rounds) => format!("04{value:04x}{rounds:02x}\n"),
+        None => format!("04{value:04x}\n"),
+    }
+}
+
+pub fn word(word: Word) -> String {
+    let Word {
+        round,
+        from,
+        to,
+        value,
+    } = word;
+    format!("05{round:02x}{from:02x}{to:02x}{value:04x}\n")
+}
+
+impl Plan {
+    pub fn to_frames(&self) -> String {
+        let links = self.links.iter().map(|&(from, to)| link(from, to));
+        head(self.terminals, self.source, self.bound) + &links.collect::<String>()
+    }
+
+    /// Whom a terminal hears, ascending.
+    pub fn heard_by(&self, terminal: u8) -> Vec<u8> {
+        let heard = self.links.iter().filter(|(_, to)| *to == terminal);
+        let senders: BTreeSet<u8> = heard.map(|(from, _)| *from).collect();
+        senders.into_iter().collect()
+    }
+}
+
+impl Run {
+    /// The frames of the run after those of its plan. Words past the last round would be refused.
+    pub fn to_frames(&self) -> String {
+        let set = self.bad.iter().fold(0, |set, terminal| set | 1 << terminal);
+        let played = self.words.iter().filter(|word| word.round <= self.rounds);
+        bad_set(set)
+            + &start(self.value, Some(self.rounds))
+            + &played.map(|&one| word(one)).collect::<String>()
+    }
 }
 
 /// Kinds 03 to 05 are those that only `run` has.
@@ -70,6 +142,33 @@ pub fn plan(file: &[u8]) -> Plan {
         }
     }
     plan
+}
+
+/// The bad set, the start and the words of an accepted run file.
+pub fn run(file: &[u8]) -> Run {
+    let mut run = Run {
+        bad: Vec::new(),
+        value: 0,
+        rounds: MOST_ROUNDS,
+        words: Vec::new(),
+    };
+    for line in String::from_utf8_lossy(file).lines() {
+        match bytes(line).unwrap_or_default()[..] {
+            [3, a, b, c] => run.bad = members([a, b, c]),
+            [4, high, low] => run.value = u16::from_be_bytes([high, low]),
+            [4, high, low, rounds] => {
+                (run.value, run.rounds) = (u16::from_be_bytes([high, low]), rounds);
+            }
+            [5, round, from, to, high, low] => run.words.push(Word {
+                round,
+                from,
+                to,
+                value: u16::from_be_bytes([high, low]),
+            }),
+            _ => {}
+        }
+    }
+    run
 }
 
 /// What a program printed, by the kind of its first frame.
@@ -117,14 +216,14 @@ fn terminal(frame: &[u8]) -> Option<(u8, State)> {
 }
 
 /// A set is a number whose bit i stands for terminal i, high byte first.
-fn members([high, middle, low]: [u8; 3]) -> Vec<u8> {
+pub fn members([high, middle, low]: [u8; 3]) -> Vec<u8> {
     let set = u32::from_be_bytes([0, high, middle, low]);
     (0..24)
         .filter(|&terminal| set >> terminal & 1 == 1)
         .collect()
 }
 
-fn bytes(line: &str) -> Option<Vec<u8>> {
+pub fn bytes(line: &str) -> Option<Vec<u8>> {
     let digits: Option<Vec<u32>> = line.chars().map(|digit| digit.to_digit(16)).collect();
     let pairs = digits?;
     let byte = |pair: &[u32]| Some((pair.first()? * 16 + pair.get(1)?) as u8);

@@ -27,8 +27,8 @@ impl Point {
     }
 }
 
-/// What the verdict says of a terminal; `Plain` where the plan passes.
-#[derive(Clone, Copy)]
+/// What the verdict or a run says of a terminal; `Plain` where the plan passes.
+#[derive(Clone, Copy, PartialEq, Eq)]
 pub enum Role {
     Plain,
     Bad,
@@ -100,31 +100,55 @@ fn diamond(at: Point, half: f64, look: &str) -> String {
     )
 }
 
-/// How links are drawn; thin and half-transparent where there are many.
+/// How links are drawn; thin and pale where there are many, so that the terminals stand out.
 pub struct Pen {
-    pub width: f64,
-    pub opacity: f64,
-    pub head_length: f64,
-    pub head_half: f64,
+    width: f64,
+    opacity: f64,
+    head_length: f64,
+    head_half: f64,
+    colour: &'static str,
+    /// Links that are not there yet.
+    dashed: bool,
 }
 
 impl Pen {
     pub fn for_links(links: usize) -> Pen {
         let (width, opacity, head_length, head_half) = match links {
             0..=60 => (1.8, 0.9, 12.0, 4.5),
-            61..=200 => (1.0, 0.55, 9.0, 3.0),
-            _ => (0.8, 0.4, 8.0, 2.2),
+            61..=120 => (1.0, 0.5, 9.0, 3.0),
+            121..=220 => (0.8, 0.35, 8.0, 2.4),
+            _ => (0.6, 0.22, 7.0, 2.0),
         };
         Pen {
             width,
             opacity,
             head_length,
             head_half,
+            colour: "#333333",
+            dashed: false,
         }
     }
 
+    pub fn for_new_links() -> Pen {
+        Pen {
+            width: 3.0,
+            opacity: 1.0,
+            head_length: 14.0,
+            head_half: 6.0,
+            colour: "#007a5a",
+            dashed: true,
+        }
+    }
+
+    fn class(&self, what: &str) -> String {
+        if self.dashed {
+            return format!("new-{what}");
+        }
+        what.to_string()
+    }
+
     /// A head with its tip here, pointing in a direction.
-    pub fn head(&self, tip: Point, direction: Point) -> String {
+    fn head(&self, tip: Point, direction: Point) -> String {
         let base = tip.moved(direction, -self.head_length);
         let side = Point {
             x: -direction.y,
@@ -135,15 +159,35 @@ impl Pen {
             base.moved(side, -self.head_half),
         );
         format!(
-            r##"<polygon class="head" points="{:.1},{:.1} {:.1},{:.1} {:.1},{:.1}" fill="#333333" fill-opacity="{}"/>"##,
-            tip.x, tip.y, left.x, left.y, right.x, right.y, self.opacity
+            r##"<polygon class="{}" points="{:.1},{:.1} {:.1},{:.1} {:.1},{:.1}" fill="{}" fill-opacity="{}"/>"##,
+            self.class("head"),
+            tip.x,
+            tip.y,
+            left.x,
+            left.y,
+            right.x,
+            right.y,
+            self.colour,
+            self.opacity
         )
     }
 
-    pub fn line(&self, from: Point, to: Point) -> String {
+    fn line(&self, from: Point, to: Point) -> String {
+        let dashes = if self.dashed {
+            r#" stroke-dasharray="9 5""#
+        } else {
+            ""
+        };
         format!(
-            r##"<line class="link" x1="{:.1}" y1="{:.1}" x2="{:.1}" y2="{:.1}" stroke="#333333" stroke-width="{}" stroke-opacity="{}"/>"##,
-            from.x, from.y, to.x, to.y, self.width, self.opacity
+            r##"<line class="{}" x1="{:.1}" y1="{:.1}" x2="{:.1}" y2="{:.1}" stroke="{}" stroke-width="{}" stroke-opacity="{}"{dashes}/>"##,
+            self.class("link"),
+            from.x,
+            from.y,
+            to.x,
+            to.y,
+            self.colour,
+            self.width,
+            self.opacity
         )
     }
 
@@ -164,4 +208,31 @@ impl Pen {
         }
         drawn + "\n"
     }
+}
+
+/// A tick in a circle, or a cross in a square: told apart without colours.
+pub fn mark(at: Point, good: bool) -> String {
+    let Point { x, y } = at;
+    if good {
+        return circle(at, 15.0, r##"class="mark pass" fill="#007a5a""##)
+            + &stroke(&[(x - 7.0, y + 0.5), (x - 2.0, y + 6.0), (x + 7.5, y - 6.0)])
+            + "\n";
+    }
+    let (left, top) = (x - 14.0, y - 14.0);
+    format!(
+        r##"<rect class="mark fail" x="{left:.1}" y="{top:.1}" width="28" height="28" fill="#b34700"/>"##
+    ) + &stroke(&[(x - 6.5, y - 6.5), (x + 6.5, y + 6.5)])
+        + &stroke(&[(x - 6.5, y + 6.5), (x + 6.5, y - 6.5)])
+        + "\n"
+}
+
+fn stroke(points: &[(f64, f64)]) -> String {
+    let points: Vec<String> = points
+        .iter()
+        .map(|(x, y)| format!("{x:.1},{y:.1}"))
+        .collect();
+    format!(
+        r##"<polyline points="{}" fill="none" stroke="#ffffff" stroke-width="4"/>"##,
+        points.join(" ")
+    )
 }

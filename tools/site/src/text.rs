@@ -1,116 +1,68 @@
-//! The text form of a plan: three lines for the head, then `a > b c` where b and c hear a.
+//! The text form: three lines for the head, links, names and places, and a run under the plan.
+//! docs/help/text.txt has it for people.
 
-use crate::ask::Programs;
-use crate::frames::{self, Answer, Plan, Refusal};
-use crate::words;
-use crate::{Trouble, LONGEST_INPUT};
+use crate::document::Extras;
+use crate::frames::{self, Word};
+use crate::numbers::{byte, layout, measure, number, quoted, set};
+use std::collections::BTreeSet;
 
 const HEAD: [&str; 3] = ["terminals", "source", "bound"];
 
-/// A number or a link of the text: its line and its words, to be told of where it is refused.
-struct Part {
-    line: usize,
-    words: String,
-    numbers: Vec<u8>,
+/// Where a part of the text stands, to be told of where it is refused.
+#[derive(Clone)]
+pub struct Place {
+    pub line: usize,
+    pub words: String,
 }
 
-/// The head's parts by their place in `HEAD`, and the links in the order given.
+struct Part<T> {
+    place: Place,
+    is: T,
+}
+
+/// The head's parts by their place in `HEAD`, and the others in the order given.
 #[derive(Default)]
-struct Draft {
-    head: [Option<Part>; 3],
-    links: Vec<Part>,
+pub struct Draft {
+    head: [Option<Part<u8>>; 3],
+    links: Vec<Part<(u8, u8)>>,
+    bad: Option<Part<u32>>,
+    value: Option<Part<u16>>,
+    rounds: Option<Part<u8>>,
+    says: Vec<Part<Word>>,
+    pub extras: Extras,
 }
 
-/// Frames from text, put in order by the proved reader and writer.
-pub fn to_frames(input: &[u8], programs: &Programs) -> Result<String, Trouble> {
-    let (head, links) = read(input).map_err(Trouble::Refused)?;
-    let mut written = head_frame(&head, 3);
-    for part in &links {
-        written += &frames::link(part.numbers[0], part.numbers[1]);
-    }
-    match programs.ask("rewrite", written.as_bytes())? {
-        (printed, Answer::Plan) => Ok(printed),
-        (_, Answer::Refused(refusal)) => {
-            let part = match refusal.line {
-                0 => None,
-                1 => Some(refused_part(&head, programs)?),
-                line => links.get(line - 2),
-            };
-            Err(Trouble::Refused(refused(part, &refusal)))
-        }
-        _ => Err(Trouble::Broken("'rewrite' gave no plan".into())),
-    }
-}
-
-/// Text from a plan whose links are in order: one line a sender.
-pub fn from_plan(plan: &Plan) -> String {
-    let mut text = String::new();
-    for (word, number) in HEAD.iter().zip([plan.terminals, plan.source, plan.bound]) {
-        text += &format!("{word} {number}\n");
-    }
-    for hearers in plan.links.chunk_by(|one, next| one.0 == next.0) {
-        text += &format!("{} >", hearers[0].0);
-        for (_, hearer) in hearers {
-            text += &format!(" {hearer}");
-        }
-        text += "\n";
-    }
-    text
-}
-
-/// The head's frame with its first `known` numbers and 0 for the others.
-fn head_frame(head: &[Part; 3], known: usize) -> String {
-    let number = |place: usize| {
-        if place < known {
-            head[place].numbers[0]
-        } else {
-            0
-        }
-    };
-    frames::head(number(0), number(1), number(2))
-}
-
-/// The head is one frame but three lines of text. Which of them is out of range is not ours to
-/// judge, so the reader is asked again with the later ones at 0, which is in every range.
-fn refused_part<'a>(head: &'a [Part; 3], programs: &Programs) -> Result<&'a Part, Trouble> {
-    for known in 1..3 {
-        let (_, answer) = programs.ask("rewrite", head_frame(head, known).as_bytes())?;
-        if matches!(answer, Answer::Refused(_)) {
-            return Ok(&head[known - 1]);
-        }
-    }
-    Ok(&head[2])
-}
-
-fn refused(part: Option<&Part>, refusal: &Refusal) -> String {
-    let cause = words::cause(refusal);
-    match part {
-        Some(part) => format!("refused, line {} ({}): {cause}", part.line, part.words),
-        None => format!("refused, the whole file: {cause}"),
-    }
-}
-
-fn read(input: &[u8]) -> Result<([Part; 3], Vec<Part>), String> {
-    if input.len() > LONGEST_INPUT {
-        return Err("the file is longer than any plan".into());
-    }
+pub fn read(text: &str) -> Result<Draft, String> {
     let mut draft = Draft::default();
-    for (line, text) in (1..).zip(String::from_utf8_lossy(input).lines()) {
-        let text = text.split('#').next().unwrap_or_default().trim();
-        let taken = match text.split_once('>') {
-            _ if text.is_empty() => Ok(()),
-            Some((sender, hearers)) => draft.take_links(line, sender, hearers),
-            None => draft.take_head(line, text),
+    for (line, text) in (1..).zip(text.lines()) {
+        let text = without_comment(text).trim();
+        let taken = if text.is_empty() {
+            Ok(())
+        } else {
+            draft.take(line, text)
         };
         taken.map_err(|why| format!("line {line}: {why}"))?;
     }
     if let Some(word) = draft.missing() {
         return Err(format!("end of the file: expected '{word} NUMBER'"));
     }
-    let [Some(terminals), Some(source), Some(bound)] = draft.head else {
-        unreachable!("nothing is missing");
-    };
-    Ok(([terminals, source, bound], draft.links))
+    if draft.value.is_none() && draft.has_run_part() {
+        return Err("end of the file: expected 'value NUMBER', since it has a run".into());
+    }
+    Ok(draft)
+}
+
+/// A '#' in quotes is part of a name.
+fn without_comment(line: &str) -> &str {
+    let mut quoted = false;
+    for (place, character) in line.char_indices() {
+        match character {
+            '"' => quoted = !quoted,
+            '#' if !quoted => return &line[..place],
+            _ => {}
+        }
+    }
+    line
 }
 
 impl Draft {
@@ -119,56 +71,226 @@ impl Draft {
         Some(HEAD[place])
     }
 
-    fn take_head(&mut self, line: usize, text: &str) -> Result<(), String> {
+    fn has_run_part(&self) -> bool {
+        self.bad.is_some() || self.rounds.is_some() || !self.says.is_empty()
+    }
+
+    fn take(&mut self, line: usize, text: &str) -> Result<(), String> {
         let (word, rest) = text.split_once(char::is_whitespace).unwrap_or((text, ""));
-        let Some(place) = HEAD.iter().position(|known| *known == word) else {
-            return Err(format!(
-                "expected 'terminals', 'source', 'bound' or a link 'A > B', found '{text}'"
-            ));
-        };
-        if let Some(first) = &self.head[place] {
-            let given = first.line;
-            return Err(format!("expected '{word}' once, and line {given} has it"));
+        let rest = rest.trim();
+        if let Some(place) = HEAD.iter().position(|known| *known == word) {
+            return take_once(&mut self.head[place], line, text, byte(word, rest)?);
         }
-        let numbers = vec![number(rest.trim(), &format!("one number after '{word}'"))?];
-        let words = format!("{word} {}", rest.trim());
-        self.head[place] = Some(Part {
-            line,
-            words,
-            numbers,
-        });
+        let starts_with_letter = text.starts_with(|c: char| c.is_ascii_alphabetic());
+        if let Some(missing) = self.missing() {
+            return match (word, starts_with_letter) {
+                ("site", _) => self.take_site(rest),
+                (_, false) if text.contains(['>', '-']) => {
+                    Err(format!("expected '{missing} NUMBER' before the first link"))
+                }
+                (known, _) if LATER.contains(&known) => {
+                    Err(format!("expected '{missing} NUMBER' before '{word}'"))
+                }
+                _ => Err(unknown(text)),
+            };
+        }
+        match word {
+            "site" => self.take_site(rest),
+            "name" => self.take_name(rest),
+            "at" => self.take_place(rest),
+            "bad" => take_once(&mut self.bad, line, text, set(rest)?),
+            "value" => take_once(&mut self.value, line, text, layout("value", rest)?),
+            "rounds" => take_once(&mut self.rounds, line, text, byte(word, rest)?),
+            "round" => self.take_words(line, rest),
+            _ if starts_with_letter => Err(unknown(text)),
+            _ => self.take_links(line, text),
+        }
+    }
+
+    fn take_links(&mut self, line: usize, text: &str) -> Result<(), String> {
+        let sign = match (text.find('>'), text.find('-')) {
+            (Some(one), Some(other)) if other < one => '-',
+            (Some(_), _) => '>',
+            (None, Some(_)) => '-',
+            (None, None) => return Err(unknown(text)),
+        };
+        let (sender, hearers) = text.split_once(sign).expect("the sign was found");
+        let sender = sender.trim();
+        let from = number(sender, &format!("one terminal before '{sign}'"))?;
+        if hearers.trim().is_empty() {
+            return Err(format!("expected a terminal after '{sign}', found nothing"));
+        }
+        for hearer in hearers.split_whitespace() {
+            let to = number(hearer, &format!("a terminal after '{sign}'"))?;
+            let words = format!("{sender} {sign} {hearer}");
+            let place = Place { line, words };
+            let mut push = |is| {
+                let place = place.clone();
+                self.links.push(Part { place, is });
+            };
+            push((from, to));
+            if sign == '-' {
+                push((to, from));
+            }
+        }
         Ok(())
     }
 
-    fn take_links(&mut self, line: usize, sender: &str, hearers: &str) -> Result<(), String> {
-        if let Some(word) = self.missing() {
-            return Err(format!("expected '{word} NUMBER' before the first link"));
-        }
-        let sender = sender.trim();
-        let from = number(sender, "one terminal before '>'")?;
+    /// After 'round': `2: 3 says 9 to 6 7`.
+    fn take_words(&mut self, line: usize, text: &str) -> Result<(), String> {
+        let form = "expected 'round NUMBER: TERMINAL says LAYOUT to TERMINAL'";
+        let (round, rest) = text.split_once(':').ok_or(form)?;
+        let (from, rest) = rest.split_once("says").ok_or(form)?;
+        let (value, hearers) = rest.split_once("to").ok_or(form)?;
+        let (round, from, value) = (round.trim(), from.trim(), value.trim());
         if hearers.trim().is_empty() {
-            return Err("expected a terminal after '>', found nothing".into());
+            return Err("expected a terminal after 'to', found nothing".into());
         }
         for hearer in hearers.split_whitespace() {
-            let to = number(hearer, "a terminal after '>'")?;
-            self.links.push(Part {
-                line,
-                words: format!("{sender} > {hearer}"),
-                numbers: vec![from, to],
-            });
+            let word = Word {
+                round: number(round, "a round after 'round'")?,
+                from: number(from, "one terminal before 'says'")?,
+                to: number(hearer, "a terminal after 'to'")?,
+                value: layout("says", value)?,
+            };
+            let words = format!("round {round}: {from} says {value} to {hearer}");
+            let place = Place { line, words };
+            self.says.push(Part { place, is: word });
         }
         Ok(())
+    }
+
+    fn take_site(&mut self, text: &str) -> Result<(), String> {
+        let name = quoted(text)?;
+        match self.extras.site.replace(name) {
+            Some(_) => Err("expected 'site' once".into()),
+            None => Ok(()),
+        }
+    }
+
+    fn take_name(&mut self, text: &str) -> Result<(), String> {
+        let (terminal, name) = text.split_once(char::is_whitespace).unwrap_or((text, ""));
+        let terminal = self.known(terminal, "name")?;
+        match self.extras.names.insert(terminal, quoted(name.trim())?) {
+            Some(_) => Err(format!("expected one name of {terminal}")),
+            None => Ok(()),
+        }
+    }
+
+    fn take_place(&mut self, text: &str) -> Result<(), String> {
+        let words: Vec<&str> = text.split_whitespace().collect();
+        let [terminal, x, y] = words[..] else {
+            return Err("expected 'at TERMINAL ACROSS DOWN'".into());
+        };
+        let terminal = self.known(terminal, "at")?;
+        let spot = (measure(x)?, measure(y)?);
+        let mut others = self.extras.places.iter();
+        let same = others.find(|(_, (x, y))| measure(x) == Ok(spot.0) && measure(y) == Ok(spot.1));
+        if let Some((other, _)) = same {
+            return Err(format!("{other} stands at {x} {y} already"));
+        }
+        let written = (x.to_string(), y.to_string());
+        match self.extras.places.insert(terminal, written) {
+            Some(_) => Err(format!("expected one place of {terminal}")),
+            None => Ok(()),
+        }
+    }
+
+    /// A terminal with a name or a place: no frame has these, so no program can refuse it.
+    fn known(&self, word: &str, what: &str) -> Result<u8, String> {
+        let terminal = number(word, &format!("a terminal after '{what}'"))?;
+        match self.head[0].as_ref().map_or(0, |part| part.is) {
+            terminals if terminal < terminals => Ok(terminal),
+            terminals => Err(format!(
+                "'{what} {word}', and the terminals are 0 to {}",
+                terminals.saturating_sub(1)
+            )),
+        }
+    }
+
+    /// Each frame with its places in the text, and how many frames are the plan's.
+    pub fn frames(&self) -> (Vec<(String, Vec<Place>)>, usize) {
+        let [Some(terminals), Some(source), Some(bound)] = &self.head else {
+            unreachable!("nothing is missing");
+        };
+        let head = [terminals, source, bound].map(|part| part.place.clone());
+        let frame = frames::head(terminals.is, source.is, bound.is);
+        let mut lines = vec![(frame, head.to_vec())];
+        for Part { place, is } in &self.links {
+            lines.push((frames::link(is.0, is.1), vec![place.clone()]));
+        }
+        let plan_lines = lines.len();
+        if let Some(value) = &self.value {
+            lines.extend(self.run_frames(value));
+        }
+        (lines, plan_lines)
+    }
+
+    /// Without a 'bad' line nobody is bad.
+    fn run_frames(&self, value: &Part<u16>) -> Vec<(String, Vec<Place>)> {
+        let start = value.place.clone();
+        let (set, place) = match &self.bad {
+            Some(bad) => (bad.is, bad.place.clone()),
+            None => (0, start.clone()),
+        };
+        let rounds = self.rounds.as_ref().map(|rounds| rounds.is);
+        let mut places = vec![start];
+        places.extend(self.rounds.iter().map(|rounds| rounds.place.clone()));
+        let mut lines = vec![
+            (frames::bad_set(set), vec![place]),
+            (frames::start(value.is, rounds), places),
+        ];
+        for Part { place, is } in &self.says {
+            lines.push((frames::word(*is), vec![place.clone()]));
+        }
+        lines
+    }
+
+    /// Links without their other direction, where most links have theirs.
+    pub fn warnings(&self) -> Vec<String> {
+        let links: BTreeSet<(u8, u8)> = self.links.iter().map(|part| part.is).collect();
+        let one_way =
+            |&&Part { is: (from, to), .. }: &&Part<(u8, u8)>| !links.contains(&(to, from));
+        let alone: Vec<String> = self
+            .links
+            .iter()
+            .filter(one_way)
+            .map(
+                |Part {
+                     place,
+                     is: (from, to),
+                 }| format!("{from} > {to} (line {})", place.line),
+            )
+            .collect();
+        if alone.is_empty() || 2 * alone.len() >= self.links.len() {
+            return Vec::new();
+        }
+        vec![format!(
+            "warning: most links here are two-way, and these are not: {}",
+            alone.join(", ")
+        )]
     }
 }
 
-/// A frame has one byte a number. A larger one stands there as 255, which is out of range
-/// wherever a plan has a number, so it is refused with the right cause.
-fn number(word: &str, expected: &str) -> Result<u8, String> {
-    if word.is_empty() {
-        return Err(format!("expected {expected}, found nothing"));
+/// Words that come after the head.
+const LATER: [&str; 6] = ["name", "at", "bad", "value", "rounds", "round"];
+
+fn unknown(text: &str) -> String {
+    format!(
+        "expected 'terminals', 'source', 'bound', a link 'A > B' or 'A - B', or a word of './hulmayek help text', found '{text}'"
+    )
+}
+
+fn take_once<T>(part: &mut Option<Part<T>>, line: usize, text: &str, is: T) -> Result<(), String> {
+    let words = text.split_whitespace().collect::<Vec<_>>().join(" ");
+    if let Some(first) = part {
+        let (given, word) = (
+            first.place.line,
+            words.split(' ').next().unwrap_or_default(),
+        );
+        return Err(format!("expected '{word}' once, and line {given} has it"));
     }
-    if !word.bytes().all(|byte| byte.is_ascii_digit()) {
-        return Err(format!("expected {expected}, found '{word}'"));
-    }
-    Ok(word.parse().unwrap_or(u8::MAX))
+    let place = Place { line, words };
+    *part = Some(Part { place, is });
+    Ok(())
 }

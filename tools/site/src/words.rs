@@ -1,90 +1,136 @@
 //! Answers in words for a person.
 
-use crate::frames::{self, Answer, Refusal, State, Verdict};
+use crate::ask::Programs;
+use crate::document::{Document, Extras};
+use crate::frames::{self, Plan, Refusal, Run, State, Verdict};
+use crate::Trouble;
 
-/// The lines under the frames.
-pub fn explained(file: &[u8], answer: &Answer) -> String {
-    let plan = frames::plan(file);
-    let lines = match answer {
-        Answer::Refused(refusal) => vec![refused(file, refusal)],
-        Answer::Verdict(verdict) if verdict.fails => failed(verdict),
-        Answer::Verdict(_) => vec![passed(plan.terminals)],
-        Answer::Terminals(states) => states
-            .iter()
-            .map(|(number, state)| stated(*number, *number == plan.source, state))
-            .collect(),
-        Answer::Plan => Vec::new(),
+/// The lines under a verdict's frame. How fast a notice is when nobody lies is asked of `run`.
+pub fn of_verdict(
+    document: &Document,
+    verdict: &Verdict,
+    programs: &Programs,
+) -> Result<Vec<String>, Trouble> {
+    let plan = document.plan();
+    if verdict.fails {
+        return Ok(failed(&plan, &document.extras, verdict));
+    }
+    let run = Run {
+        bad: Vec::new(),
+        value: 1,
+        rounds: plan.terminals - 1,
+        words: Vec::new(),
     };
-    lines.iter().map(|line| format!("{line}\n")).collect()
+    let states = programs.states(&(plan.to_frames() + &run.to_frames()))?;
+    Ok(vec![
+        format!(
+            "pass: whatever a bad set says, every good terminal has the source's layout after {} (n-1)",
+            rounds(plan.terminals - 1)
+        ),
+        format!(
+            "if nobody is bad, the last one has it after {}",
+            rounds(last_take(&states))
+        ),
+    ])
 }
 
-/// A passed plan is done after one round less than it has terminals.
-fn passed(terminals: u8) -> String {
-    let rounds = match terminals.saturating_sub(1) {
+pub fn rounds(count: u8) -> String {
+    match count {
         1 => "1 round".to_string(),
         more => format!("{more} rounds"),
-    };
-    format!(
-        "pass: whatever a bad set says, every good terminal has the source's layout after {rounds}"
-    )
+    }
 }
 
-fn failed(verdict: &Verdict) -> Vec<String> {
+/// The round in which the last of them took.
+pub fn last_take(states: &[(u8, State)]) -> u8 {
+    let round = |(_, state): &(u8, State)| match state {
+        State::Taken { round, .. } => *round,
+        _ => 0,
+    };
+    states.iter().map(round).max().unwrap_or(0)
+}
+
+fn failed(plan: &Plan, extras: &Extras, verdict: &Verdict) -> Vec<String> {
     let why = if verdict.bad.is_empty() {
         "fail: even with no bad terminal, the cut-off ones wait for ever"
     } else {
         "fail: if the bad ones only stay silent, the cut-off ones wait for ever"
     };
-    vec![
+    let mut lines = vec![
         why.to_string(),
-        format!("bad (F): {}", listed(&verdict.bad)),
-        format!("reached (L): {}", listed(&verdict.reached)),
-        format!("cut off (R): {}", listed(&verdict.cut_off)),
-    ]
+        format!("bad (F): {}", extras.listed(&verdict.bad)),
+        format!("reached (L): {}", extras.listed(&verdict.reached)),
+        format!("cut off (R): {}", extras.listed(&verdict.cut_off)),
+    ];
+    for &terminal in &verdict.cut_off {
+        lines.push(short_of(plan, extras, verdict, terminal));
+    }
+    if !verdict.bad.is_empty() {
+        lines.push(format!(
+            "the bound, {}, counts the bad ones that one good terminal hears, not those of the site ({})",
+            plan.bound,
+            verdict.bad.len()
+        ));
+    }
+    lines
 }
 
-fn stated(number: u8, is_source: bool, state: &State) -> String {
-    let name = if is_source { ", the source" } else { "" };
-    match state {
-        State::Waiting => format!("terminal {number}{name}: waiting"),
-        State::Bad => format!("terminal {number}{name}: bad"),
-        State::Taken { round, value } => {
-            format!("terminal {number}{name}: took layout {value} in round {round}")
-        }
-    }
-}
-
-pub fn listed(terminals: &[u8]) -> String {
-    if terminals.is_empty() {
-        return "none".into();
-    }
-    let numbers: Vec<String> = terminals.iter().map(u8::to_string).collect();
-    numbers.join(", ")
-}
-
-/// A refused file of frames, with its line as it stands there.
-pub fn refused(file: &[u8], refusal: &Refusal) -> String {
-    if refusal.line == 0 {
-        return format!("refused, the whole file: {}", cause(refusal));
-    }
-    let line = file.split(|&byte| byte == b'\n').nth(refusal.line - 1);
-    let line = line.unwrap_or_default();
-    let text = if line.len() > 40 {
-        format!("{}...", line[..40].escape_ascii())
-    } else {
-        line.escape_ascii().to_string()
+/// How many reached neighbours a cut-off terminal hears, and how many it would need.
+fn short_of(plan: &Plan, extras: &Extras, verdict: &Verdict, terminal: u8) -> String {
+    let heard = plan.heard_by(terminal);
+    let reached: Vec<u8> = heard
+        .into_iter()
+        .filter(|one| verdict.reached.contains(one))
+        .collect();
+    let whom = match reached.len() {
+        0 => "no reached terminal".to_string(),
+        1 => format!("1 reached terminal ({})", reached[0]),
+        more => format!("{more} reached terminals ({})", plain(&reached)),
     };
     format!(
-        "refused, line {} ({text}): {}",
-        refusal.line,
-        cause(refusal)
+        "terminal {} hears {whom} and needs {}, or the source",
+        extras.called(terminal),
+        plan.bound + 1
     )
+}
+
+fn plain(terminals: &[u8]) -> String {
+    Extras::default().listed(terminals)
+}
+
+pub fn of_states(document: &Document, states: &[(u8, State)]) -> Vec<String> {
+    let source = document.plan().source;
+    let line = |(number, state): &(u8, State)| {
+        let called = document.extras.called(*number);
+        let source = if *number == source {
+            ", the source"
+        } else {
+            ""
+        };
+        match state {
+            State::Waiting => format!("terminal {called}{source}: waiting"),
+            State::Bad => format!("terminal {called}{source}: bad"),
+            State::Taken { round, value } => {
+                format!("terminal {called}{source}: took layout {value} in round {round}")
+            }
+        }
+    };
+    states.iter().map(line).collect()
+}
+
+/// A line of the file as it stands there, the start of it where it is long.
+pub fn line_of(file: &[u8], line: usize) -> String {
+    let line = file.split(|&byte| byte == b'\n').nth(line - 1);
+    match line.unwrap_or_default() {
+        long if long.len() > 40 => format!("{}...", long[..40].escape_ascii()),
+        line => line.escape_ascii().to_string(),
+    }
 }
 
 /// The specification's table of causes, where it speaks of files. Two rows name a whole-file
 /// part, line 0, and the words follow the line.
-pub fn cause(refusal: &Refusal) -> String {
-    let words = match (refusal.cause, refusal.line) {
+pub fn cause(refusal: &Refusal) -> &'static str {
+    match (refusal.cause, refusal.line) {
         (1, 0) => "file empty or too long",
         (1, _) => "foreign character, empty line, odd digits, no line end",
         (2, _) => "unknown kind, one this program lacks, wrong length",
@@ -99,6 +145,15 @@ pub fn cause(refusal: &Refusal) -> String {
         (10, _) => "word with round 0 or past the last, no such link, good sender, value 0",
         (11, _) => "second word on one link in one round",
         _ => "a cause that files do not have",
-    };
-    format!("{words} (cause {})", refusal.cause)
+    }
+}
+
+/// One line for each, ended.
+pub fn ended(lines: &[String]) -> String {
+    lines.iter().map(|line| format!("{line}\n")).collect()
+}
+
+/// The run of a document that the program has accepted.
+pub fn run_of(document: &Document) -> Run {
+    frames::run(document.frames())
 }

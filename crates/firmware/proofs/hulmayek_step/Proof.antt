@@ -11,20 +11,20 @@ record-of-requires c κs = search needs
 step-requires : tie.Need-step-requires
 step-requires c κs = search needs
 
-number-of-requires : tie.Need-number-of-requires
-number-of-requires c κs = search needs
+number-requires : tie.Need-number-requires
+number-requires c κs = search needs
 
 board-of-requires : tie.Need-board-of-requires
 board-of-requires c κs = search needs
 
 returns : tie.Need-returns
 returns c = let s = c .before .before .before .before .step .ensures in
-    let k = c .before .before .number-of .ensures ∙ s .0 in
+    let k = c .before .before .number .ensures ∙ s .0 in
     answer-stepped _ _ _ _ _ _ _ _ (c .before .before .before .before .before .record-of .ensures) _ k (c .before .if1 .taken) _ (s .1) _ (c .board-of .ensures)
 
 returns-2 : tie.Need-returns-2
 returns-2 c = let s = c .before .before .before .step .ensures in
-    let k = c .before .number-of .ensures ∙ s .0 in
+    let k = c .before .number .ensures ∙ s .0 in
     answer-refused _ _ _ _ _ _ _ _ (c .before .before .before .before .record-of .ensures) _ k (c .if1 .left)
 
 pub hulmayek-step-spec : {M : Type 1} → statement M
@@ -33,7 +33,7 @@ hulmayek-step-spec =
     (tie.spec
     record-of-requires
     step-requires
-    number-of-requires
+    number-requires
     board-of-requires
     returns
     returns-2)

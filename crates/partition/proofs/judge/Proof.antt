@@ -28,16 +28,16 @@ reach-requires c κs =
     let hearers = direct-by _ _ _ _ (c .before .before .before .before .singleton .ensures) (c .before .before .before .over .ensures) in
     (given, hearers, memory-below _ _ (c .before .before .search .ensures) (c .if1 .left))
 
-left-out-requires : tie.Need-left-out-requires
-left-out-requires c κs = sound _ (c .before .before .before .before .before .before .before .pre) .twenty
+outside-requires : tie.Need-outside-requires
+outside-requires c κs = sound _ (c .before .before .before .before .before .before .before .pre) .twenty
 
 returns-2 : tie.Need-returns-2
 unfolding verdict
 returns-2 c =
     let best = c .before .before .before .before .search .ensures in
-    memory-fails _ _ _ best (c .before .before .if1 .left) _ _ (c .before .reach .ensures) (c .left-out .ensures)
+    memory-fails _ _ _ best (c .before .before .if1 .left) _ _ (c .before .reach .ensures) (c .outside .ensures)
 
 pub judge-spec : {M : Type 1} → statement M
 judge-spec =
     tie.close
-    (tie.spec singleton-requires over-requires search-requires returns reach-requires left-out-requires returns-2)
+    (tie.spec singleton-requires over-requires search-requires returns reach-requires outside-requires returns-2)

@@ -9,8 +9,8 @@ use borrow.Author.Needs.{needs}
 use Rattle.simulation.proofs.begin.Statement.{statement}
 use Rattle.simulation.proofs.begin.Tie as tie
 
-judge-requires : tie.Need-judge-requires
-judge-requires c κs = search needs
+first-cause-requires : tie.Need-first-cause-requires
+first-cause-requires c κs = search needs
 
 first-turn-requires : tie.Need-first-turn-requires
 first-turn-requires c κs = search needs
@@ -22,18 +22,18 @@ add-t11 : tie.Need-add-t11
 add-t11 c = search needs
 
 mul-t12 : tie.Need-mul-t12
-mul-t12 c = let z = sym (c .before .before .before .before .judge .ensures) ∙ ap numberOf (c .before .enum-told .given .1) in
+mul-t12 c = let z = sym (c .before .before .before .before .first-cause .ensures) ∙ ap numberOf (c .before .enum-told .given .1) in
     let a = accepted-run _ _ _ _ _ _ z in
     omega (arith, turns-le (c .before .before .before .before .before .args .p .n) (c .before .before .before .before .before .args .rounds) (sound _ (a .0) .twenty) (a .3))
 
 returns : tie.Need-returns
-returns c = let z = sym (c .before .before .before .before .judge .ensures) ∙ ap numberOf (c .before .enum-told .given .1) in
+returns c = let z = sym (c .before .before .before .before .first-cause .ensures) ∙ ap numberOf (c .before .enum-told .given .1) in
     (sym z, c .before .before .before .first-turn .ensures, turns-played _ _ _ _ _ _ z)
 
 returns-2 : tie.Need-returns-2
-returns-2 c = (c .before .before .judge .ensures, c .before .first-turn .ensures, turns-refused _ _ _ _ _ _ _ (c .before .before .judge .ensures) (not-played (c .before .before .judge .result) (c .match .keys2)))
+returns-2 c = (c .before .before .first-cause .ensures, c .before .first-turn .ensures, turns-refused _ _ _ _ _ _ _ (c .before .before .first-cause .ensures) (not-played (c .before .before .first-cause .result) (c .match .keys2)))
 
 pub begin-spec : {M : Type 1} → statement M
 begin-spec =
     tie.close
-    (tie.spec judge-requires first-turn-requires enum-told add-t11 mul-t12 returns returns-2)
+    (tie.spec first-cause-requires first-turn-requires enum-told add-t11 mul-t12 returns returns-2)

@@ -15,8 +15,8 @@ use Rattle.terminal.proofs.Walks.{accepted-plays, after-accepted, after
 use Rattle.terminal.proofs.step.Statement.{statement}
 use Rattle.terminal.proofs.step.Tie as tie
 
-judge-requires : tie.Need-judge-requires
-judge-requires c κs = search needs
+first-cause-requires : tie.Need-first-cause-requires
+first-cause-requires c κs = search needs
 
 enum-told : tie.Need-enum-told
 enum-told c = search needs
@@ -25,7 +25,7 @@ enum-told c = search needs
 accepted : (c : tie.After-enum-told)
     → let a = c .before .before .before .before .args in
     0 ≡ causeOf (a .n) (a .source) (a .f) (a .own) (a .heard) (a .before) (length (a .said .now))
-accepted c = ap numberOf (sym (c .enum-told .given .1)) ∙ c .before .before .judge .ensures
+accepted c = ap numberOf (sym (c .enum-told .given .1)) ∙ c .before .before .first-cause .ensures
 
 play-requires : tie.Need-play-requires
 play-requires c κs = accepted-plays _ _ _ _ _ _ _ (sym (accepted c))
@@ -43,7 +43,7 @@ refused WrongRecord h = refl
 
 returns-2 : tie.Need-returns-2
 returns-2 c =
-    (c .before .judge .ensures, after-refused _ _ _ _ _ _ _ _ (c .before .judge .ensures) (refused (c .before .judge .result) (c .match .keys2)))
+    (c .before .first-cause .ensures, after-refused _ _ _ _ _ _ _ _ (c .before .first-cause .ensures) (refused (c .before .first-cause .result) (c .match .keys2)))
 
 pub step-spec : {M : Type 1} → statement M
-step-spec = tie.close (tie.spec judge-requires enum-told play-requires returns returns-2)
+step-spec = tie.close (tie.spec first-cause-requires enum-told play-requires returns returns-2)

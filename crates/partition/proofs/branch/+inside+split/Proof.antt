@@ -21,7 +21,7 @@ use Rattle.partition.proofs.branch.chosen.Reads as chosen-reads
 use Rattle.partition.proofs.branch.defeats.Reads as defeats-reads
 use Rattle.partition.proofs.branch.hopeless.Reads as hopeless-reads
 use Rattle.partition.proofs.branch.key.Reads as key-reads
-use Rattle.partition.proofs.search.left_out.Reads as left-out-reads
+use Rattle.partition.proofs.search.outside.Reads as outside-reads
 use Rattle.partition.proofs.search.spread.Reads as spread-reads
 use Rattle.sets.proofs.with.Reads as with-reads
 use Rattle.partition.proofs.branch.+inside+split.{statement}
@@ -61,8 +61,8 @@ abbrev split-calls : ℕ → split-lts.Claims
 split-calls t = (
   settled-reads.Asked,
   settled-reads.Learnt,
-  left-out-reads.Asked,
-  left-out-reads.Learnt,
+  outside-reads.Asked,
+  outside-reads.Learnt,
   hopeless-reads.Asked,
   hopeless-reads.Learnt,
   heard-reads.Asked,
@@ -117,26 +117,26 @@ inside-returns-4 t c =
 split-settled-requires : (t : ℕ) → split-lts.Need-settled-requires (split-calls t) (split-at t) split.Post
 split-settled-requires t c κs = (c .pre .1 .0 .plan, c .pre .1 .0 .known-below)
 
-split-left-out-requires : (t : ℕ) → split-lts.Need-left-out-requires (split-calls t) (split-at t) split.Post
-split-left-out-requires t c κs = sound _ (c .before .pre .1 .0 .plan) .twenty
+split-outside-requires : (t : ℕ) → split-lts.Need-outside-requires (split-calls t) (split-at t) split.Post
+split-outside-requires t c κs = sound _ (c .before .pre .1 .0 .plan) .twenty
 
 split-hopeless-requires : (t : ℕ) → split-lts.Need-hopeless-requires (split-calls t) (split-at t) split.Post
 split-hopeless-requires t c κs =
     let part = c .before .before .pre .1 .0 in
-    (part .plan, part .inn-below, c .before .settled .ensures .below, c .left-out .ensures)
+    (part .plan, part .inn-below, c .before .settled .ensures .below, c .outside .ensures)
 
 split-returns : (t : ℕ) → split-lts.Need-returns (split-calls t) (split-at t) split.Post
 split-returns t c =
     let part = c .before .before .before .before .pre .1 .0 in
     no-hope part (c .before .before .before .settled .ensures) _ (c .before .hopeless .ensures (c .if1 .taken))
 
-split-left-out-requires-2 : (t : ℕ) → split-lts.Need-left-out-requires-2 (split-calls t) (split-at t) split.Post
-split-left-out-requires-2 t c κs = sound _ (c .before .before .before .before .pre .1 .0 .plan) .twenty
+split-outside-requires-2 : (t : ℕ) → split-lts.Need-outside-requires-2 (split-calls t) (split-at t) split.Post
+split-outside-requires-2 t c κs = sound _ (c .before .before .before .before .pre .1 .0 .plan) .twenty
 
 split-returns-2 : (t : ℕ) → split-lts.Need-returns-2 (split-calls t) (split-at t) split.Post
 split-returns-2 t c =
     let given = c .before .before .before .before .before .before .pre .1 in
-    only-inn (given .0) _ _ (given .1) (c .before .left-out2 .ensures) (c .if2 .taken)
+    only-inn (given .0) _ _ (given .1) (c .before .outside2 .ensures) (c .if2 .taken)
 
 split-heard-requires : (t : ℕ) → split-lts.Need-heard-requires (split-calls t) (split-at t) split.Post
 split-heard-requires t c κs = search needs
@@ -150,7 +150,7 @@ split-with-requires t c κs = search needs
 split-split-requires : (t : ℕ) → split-lts.Need-split-requires (split-calls t) (split-at t) split.Post
 split-split-requires t c κs =
     let given = c .before .before .before .before .before .before .before .before .before .before .pre .1 in
-    let free = c .before .before .before .before .before .left-out2 .ensures in
+    let free = c .before .before .before .before .before .outside2 .ensures in
     let sure = c .before .before .before .before .before .before .before .before .before .settled .ensures in
     let l = without-less (given .0) _ _ free (c .before .chosen .ensures) _ (c .with .ensures) in
     (omega arith, (part-without (given .0) _ _ free (c .before .chosen .ensures) _ (c .with .ensures) sure, given .1))
@@ -161,7 +161,7 @@ split-with-requires-2 t c κs = search needs
 split-inside-requires : (t : ℕ) → split-lts.Need-inside-requires (split-calls t) (split-at t) split.Post
 split-inside-requires t c κs =
     let part = c .before .before .before .before .before .before .before .before .before .before .before .before .pre .1 .0 in
-    let free = c .before .before .before .before .before .before .before .left-out2 .ensures in
+    let free = c .before .before .before .before .before .before .before .outside2 .ensures in
     let sure = c .before .before .before .before .before .before .before .before .before .before .before .settled .ensures in
     let one = c .before .before .before .chosen .ensures in
     let l = with-less part _ _ free one _ (c .with2 .ensures) in
@@ -170,7 +170,7 @@ split-inside-requires t c κs =
 split-returns-3 : (t : ℕ) → split-lts.Need-returns-3 (split-calls t) (split-at t) split.Post
 split-returns-3 t c =
     let part = c .before .before .before .before .before .before .before .before .before .before .before .before .before .pre .1 .0 in
-    let free = c .before .before .before .before .before .before .before .before .left-out2 .ensures in
+    let free = c .before .before .before .before .before .before .before .before .outside2 .ensures in
     let one = c .before .before .before .before .chosen .ensures in
     both part _ _ free one _ _ (c .before .before .before .with .ensures) (c .before .with2 .ensures)
     (c .before .before .split .ensures) (c .inside .ensures)
@@ -191,10 +191,10 @@ pub +inside+split-spec : {M : Type 1} → statement M
     (λ t.
     split-lts.spec (split-calls t) (split-at t) split.Post
     (split-settled-requires t)
-    (split-left-out-requires t)
+    (split-outside-requires t)
     (split-hopeless-requires t)
     (split-returns t)
-    (split-left-out-requires-2 t)
+    (split-outside-requires-2 t)
     (split-returns-2 t)
     (split-heard-requires t)
     (split-chosen-requires t)

@@ -9,11 +9,11 @@ use Rattle.partition.proofs.branch.defeats.Tie as tie
 reach-requires : tie.Need-reach-requires
 reach-requires c κs = (c .pre .0, c .pre .1, fault-below _ _ (c .pre .2))
 
-left-out-requires : tie.Need-left-out-requires
-left-out-requires c κs = let s = sound _ (c .before .pre .0) in omega arith
+outside-requires : tie.Need-outside-requires
+outside-requires c κs = let s = sound _ (c .before .pre .0) in omega arith
 
 returns : tie.Need-returns
-returns c = defeats-test _ _ _ _ (c .before .before .pre .2) (c .before .reach .ensures) (c .left-out .ensures)
+returns c = defeats-test _ _ _ _ (c .before .before .pre .2) (c .before .reach .ensures) (c .outside .ensures)
 
 pub defeats-spec : {M : Type 1} → statement M
-defeats-spec = tie.close (tie.spec reach-requires left-out-requires returns)
+defeats-spec = tie.close (tie.spec reach-requires outside-requires returns)

@@ -1,11 +1,9 @@
 -- The definition's tests in its own order. Assumes nothing.
-use Prim.Native.Nat.{_^_}
 use mathlib.Core.Path.{sym, _∙_}
-use borrow.Author.Tests.{ltb-true, eq-eqb, ne-eqb}
-use Rattle.sets.specs.Sets.{within}
-use Rattle.sets.proofs.Bools.{and-l, and-no-l, and-no-r, not-i, not-yes, and-yes}
+use borrow.Author.Tests.{eq-eqb, ne-eqb}
+use Rattle.sets.proofs.Bools.{and-no-l, and-no-r, not-i, not-yes, and-yes}
 use Rattle.plan.proofs.Laws.{sound}
-use Rattle.closure.specs.Verdict.{isPartition, accepts}
+use Rattle.closure.specs.Verdict.{accepts}
 use native.Mathlib.Omega.{arith}
 use borrow.Author.Needs.{needs}
 use Rattle.partition.proofs.check.accepts.Statement.{statement}

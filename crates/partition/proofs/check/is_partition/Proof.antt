@@ -11,11 +11,11 @@ within-requires c κs = search needs
 within-requires-2 : tie.Need-within-requires-2
 within-requires-2 c κs = search needs
 
-left-out-requires : tie.Need-left-out-requires
-left-out-requires c κs = search needs
+outside-requires : tie.Need-outside-requires
+outside-requires c κs = search needs
 
 returns : tie.Need-returns
-returns c = part-test (c .before .before .before .before .before .before .args .n) (c .before .before .before .before .before .before .args .f) (c .before .before .before .before .before .before .args .l) (c .before .before .before .before .before .before .args .r) (c .left-out .result) (sym (c .before .before .before .before .before .within .ensures) ∙ c .before .before .before .before .if1 .taken) (sym (c .before .before .before .within2 .ensures) ∙ c .before .before .if2 .taken) (c .before .if3 .taken) (c .left-out .ensures)
+returns c = part-test (c .before .before .before .before .before .before .args .n) (c .before .before .before .before .before .before .args .f) (c .before .before .before .before .before .before .args .l) (c .before .before .before .before .before .before .args .r) (c .outside .result) (sym (c .before .before .before .before .before .within .ensures) ∙ c .before .before .before .before .if1 .taken) (sym (c .before .before .before .within2 .ensures) ∙ c .before .before .if2 .taken) (c .before .if3 .taken) (c .outside .ensures)
 
 returns-2 : tie.Need-returns-2
 returns-2 c = sym (part-overlap (c .before .before .before .before .before .args .n) (c .before .before .before .before .before .args .f) (c .before .before .before .before .before .args .l) (c .before .before .before .before .before .args .r) (sym (c .before .before .before .before .within .ensures) ∙ c .before .before .before .if1 .taken) (c .if3 .left))
@@ -32,7 +32,7 @@ is-partition-spec =
     (tie.spec
     within-requires
     within-requires-2
-    left-out-requires
+    outside-requires
     returns
     returns-2
     returns-3

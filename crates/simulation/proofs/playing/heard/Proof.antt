@@ -3,7 +3,8 @@ use Prim.Native.Nat.{ℕ, _≤_, _<_, _-_}
 use mathlib.Core.Path.{_≡_, refl, _∙_}
 use lib.ListN.{length, getD, length-set}
 use Rattle.simulation.specs.Turns.{heardIn}
-use Rattle.simulation.proofs.Lists.{list-is, filled-more}
+use Rattle.simulation.proofs.Lists.{filled-more}
+use Rattle.sets.proofs.Tables.{table-is}
 use native.Mathlib.Omega.{arith}
 use Rattle.simulation.proofs.playing.heard.Statement.{statement}
 use Rattle.simulation.proofs.playing.heard.Tie as tie
@@ -41,7 +42,7 @@ loop-again c = (
 
 returns : tie.Need-returns Inv-loop μ-loop
 returns c = let e : c .before .loop .j ≡ 20 = omega arith in
-    list-is 20 _ _ (c .before .loop .inv .1) (λ i h. c .before .loop .inv .2 i (omega arith))
+    table-is 20 _ 0 _ (c .before .loop .inv .1) (λ i h. c .before .loop .inv .2 i (omega arith))
 
 pub heard-spec : {M : Type 1} → statement M
 heard-spec =

@@ -9,7 +9,7 @@ use Rattle.sets.proofs.Bools.{pick-yes, pick-no}
 use Rattle.terminal.specs.Answer.{recordAfter}
 use Rattle.plan.specs.Plan.{heardBy}
 use Rattle.simulation.specs.Turns.{recordOf}
-use Rattle.simulation.proofs.Lists.{list-length}
+use Rattle.sets.proofs.Tables.{table-length}
 use native.Mathlib.Omega.{arith}
 use borrow.Author.Needs.{needs}
 use Rattle.simulation.proofs.playing.record_of.Statement.{statement}
@@ -45,7 +45,7 @@ array-share-prefix-said : tie.Need-array-share-prefix-said
 array-share-prefix-said c = search needs
 
 slice-aggregate-step : tie.Need-slice-aggregate-step
-slice-aggregate-step c = let e : length (c .before .heard .result) ≡ 20 = ap length (c .before .heard .ensures) ∙ list-length 20 _ in
+slice-aggregate-step c = let e : length (c .before .heard .result) ≡ 20 = ap length (c .before .heard .ensures) ∙ table-length 20 _ in
     sym (length-take-le (c .before .before .before .before .before .before .before .before .before .args .t .plan .n) (c .before .heard .result) (omega arith))
 
 step-requires : tie.Need-step-requires

@@ -3,7 +3,7 @@ use native.Mathlib.Omega.{arith}
 use mathlib.Core.Path.{sym, ap, _∙_}
 use borrow.Author.Tests.{eq-eqb, ne-eqb}
 use Rattle.sets.proofs.Bools.{pick-yes, pick-no}
-use Rattle.propagation.specs.Run.{saysIn}
+use Rattle.terminal.specs.Rule.{saysIn}
 use borrow.Author.Needs.{needs}
 use Rattle.simulation.proofs.playing.says_in.Statement.{statement}
 use Rattle.simulation.proofs.playing.says_in.Tie as tie

@@ -1,7 +1,7 @@
 -- The place is that of the script; past the list's end there is silence. Assumes nothing.
 use mathlib.Core.Path.{refl, sym}
 use lib.ListN.{List·getD-eq-default}
-use Rattle.simulation.specs.Turns.{scriptOf}
+use Rattle.propagation.specs.Run.{scriptOf}
 use Rattle.simulation.proofs.Places.{square-le, rounds-le, row-le}
 use native.Mathlib.Omega.{arith}
 use borrow.Author.Needs.{needs}

@@ -1,11 +1,12 @@
--- `judge` meets its contract: it asks the causes in the order in which `causeOf` picks the first. Assumes nothing.
+-- `first_cause` meets its contract: it asks the causes in the order in which `causeOf` picks the first. Assumes nothing.
 use mathlib.Core.Path.{sym, _∙_}
 use borrow.Author.Tests.{eq-eqb, ne-eqb}
 use borrow.Author.Needs.{needs}
 use Rattle.sets.specs.Tests.{pick}
+use Rattle.sets.specs.Causes.{firstCause}
 use Rattle.terminal.specs.Answer.{causeOf}
-use Rattle.terminal.proofs.judge.Statement.{statement}
-use Rattle.terminal.proofs.judge.Tie as tie
+use Rattle.terminal.proofs.first_cause.Statement.{statement}
+use Rattle.terminal.proofs.first_cause.Tie as tie
 
 in-range-requires : tie.Need-in-range-requires
 in-range-requires c κs = search needs
@@ -17,7 +18,7 @@ record-sound-requires : tie.Need-record-sound-requires
 record-sound-requires c κs = search needs
 
 returns : tie.Need-returns
-unfolding causeOf pick
+unfolding causeOf firstCause pick
 returns c =
     simp (
       sym (c .before .before .before .before .before .before .in-range .ensures) ∙ c .before .before .before .before .before .if1 .taken,
@@ -27,7 +28,7 @@ returns c =
     )
 
 returns-2 : tie.Need-returns-2
-unfolding causeOf pick
+unfolding causeOf firstCause pick
 returns-2 c =
     simp (
       sym (c .before .before .before .before .before .before .in-range .ensures) ∙ c .before .before .before .before .before .if1 .taken,
@@ -37,7 +38,7 @@ returns-2 c =
     )
 
 returns-3 : tie.Need-returns-3
-unfolding causeOf pick
+unfolding causeOf firstCause pick
 returns-3 c =
     simp (
       sym (c .before .before .before .before .before .in-range .ensures) ∙ c .before .before .before .before .if1 .taken,
@@ -46,7 +47,7 @@ returns-3 c =
     )
 
 returns-4 : tie.Need-returns-4
-unfolding causeOf pick
+unfolding causeOf firstCause pick
 returns-4 c =
     simp (
       sym (c .before .before .before .in-range .ensures) ∙ c .before .before .if1 .taken,
@@ -54,11 +55,11 @@ returns-4 c =
     )
 
 returns-5 : tie.Need-returns-5
-unfolding causeOf pick
+unfolding causeOf firstCause pick
 returns-5 c = simp (sym (c .before .in-range .ensures) ∙ c .if1 .left)
 
-pub judge-spec : {M : Type 1} → statement M
-judge-spec =
+pub first-cause-spec : {M : Type 1} → statement M
+first-cause-spec =
     tie.close
     (tie.spec
     in-range-requires

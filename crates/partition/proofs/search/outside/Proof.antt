@@ -4,8 +4,8 @@ use mathlib.Core.Path.{sym, subst}
 use lib.Pow.{pow-pos}
 use Rattle.partition.proofs.Rows.{left-is, one-shift}
 use borrow.Author.Needs.{needs}
-use Rattle.partition.proofs.search.left_out.Statement.{statement}
-use Rattle.partition.proofs.search.left_out.Tie as tie
+use Rattle.partition.proofs.search.outside.Statement.{statement}
+use Rattle.partition.proofs.search.outside.Tie as tie
 
 cast-result : tie.Need-cast-result
 cast-result c = search needs
@@ -19,5 +19,5 @@ sub-result c = subst (λ (x : ℕ). 1 ≤ x) (sym (one-shift (c .args .n) (c .pr
 returns : tie.Need-returns
 returns c = left-is (c .args .n) (c .args .faulty) (c .args .l) (c .pre) (c .fits .faulty .fits) (c .fits .l .fits)
 
-pub left-out-spec : {M : Type 1} → statement M
-left-out-spec = tie.close (tie.spec cast-result shl-result sub-result returns)
+pub outside-spec : {M : Type 1} → statement M
+outside-spec = tie.close (tie.spec cast-result shl-result sub-result returns)

@@ -7,8 +7,8 @@ use Rattle.faults.proofs.Laws.{fault-sound}
 use Rattle.simulation.specs.Answer.{numberOf, startSound}
 use Rattle.simulation.proofs.Causes.{cause-played, cause-length, cause-start, cause-fault, not-played}
 use borrow.Author.Needs.{needs}
-use Rattle.simulation.proofs.judge.Statement.{statement}
-use Rattle.simulation.proofs.judge.Tie as tie
+use Rattle.simulation.proofs.first_cause.Statement.{statement}
+use Rattle.simulation.proofs.first_cause.Tie as tie
 
 check-fault-set-requires : tie.Need-check-fault-set-requires
 check-fault-set-requires c κs = search needs
@@ -40,8 +40,8 @@ returns-3 c = cause-start _ _ _ _ _ _ (sym (c .before .before .before .before .b
 returns-4 : tie.Need-returns-4
 returns-4 c = cause-fault _ _ _ _ _ _ _ (c .before .refused .ensures ∙ c .before .before .check-fault-set .ensures) (not-played (c .before .refused .result) (c .match .keys2))
 
-pub judge-spec : {M : Type 1} → statement M
-judge-spec =
+pub first-cause-spec : {M : Type 1} → statement M
+first-cause-spec =
     tie.close
     (tie.spec
     check-fault-set-requires

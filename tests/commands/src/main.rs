@@ -1,0 +1,53 @@
+//! `commands CHECKOUT [TOPIC..]`: the tables of each topic against the checkout's ./hulmayek.
+
+mod answers;
+mod builds;
+mod calls;
+mod checks;
+mod mends;
+mod pictures;
+mod plans;
+mod readme;
+mod reasons;
+mod runs;
+mod standins;
+mod svg;
+mod text_form;
+
+use checks::Checks;
+use std::process::ExitCode;
+
+type Topic = (&'static str, fn(&mut Checks));
+
+const TOPICS: [Topic; 10] = [
+    ("answers", answers::check),
+    ("calls", calls::check),
+    ("plans", plans::check),
+    ("reasons", reasons::check),
+    ("text", text_form::check),
+    ("runs", runs::check),
+    ("mends", mends::check),
+    ("pictures", pictures::check),
+    ("readme", readme::check),
+    ("builds", builds::check),
+];
+
+fn main() -> ExitCode {
+    let words: Vec<String> = std::env::args().skip(1).collect();
+    let Some((top, wanted)) = words.split_first() else {
+        eprintln!("usage: commands CHECKOUT [TOPIC..]");
+        return ExitCode::from(2);
+    };
+    let room = std::env::temp_dir().join(format!("hulmayek-{}", std::process::id()));
+    std::fs::create_dir_all(&room).expect("a folder for the test's files");
+    let mut checks = Checks::new(top, room.clone());
+    // The programs are built first, so that no check sees the waiting.
+    checks.call(&["check", "plans/a.txt"]);
+    for (name, check) in TOPICS {
+        if wanted.is_empty() || wanted.iter().any(|one| one == name) {
+            check(&mut checks);
+        }
+    }
+    drop(std::fs::remove_dir_all(room));
+    ExitCode::from(u8::from(!checks.finish()))
+}

@@ -1,0 +1,134 @@
+//! The example runs, round by round. What each terminal takes, and when, is worked out by hand.
+
+use crate::checks::{lines, Checks};
+
+pub fn check(checks: &mut Checks) {
+    traces(checks);
+    table(checks);
+    no_run(checks);
+    with_bad(checks);
+    for name in ["example", "liars", "silence"] {
+        same_in_frames(checks, name);
+    }
+}
+
+/// liars: 2, 3, 4 and 7 hear the source. In round 2, 5 has 7 from 2 and 4, and 6 from 2, 3 and 7;
+/// 8 has it from 4 alone until 5 speaks in round 3, when 9 has it from 5 and 6. The word 9 has one
+/// voter wherever it is heard.
+fn traces(checks: &mut Checks) {
+    let table: [(&str, &[&str]); 3] = [
+        (
+            "example",
+            &[
+                "round 0: 0, the source, has 7",
+                "round 1: 2 takes 7",
+                "round 2: bad 1 says 9 to 3; nobody takes",
+                "round 3: nobody takes",
+                "after 3 rounds: 2 of 3 good terminals have layout 7, the last since round 1; waiting: 3; bad: 1",
+            ],
+        ),
+        (
+            "liars",
+            &[
+                "round 0: 0 (office), the source, has 7",
+                "round 1: bad 1 says 9 to 2, 4, 5 (crusher); 2 takes 7; 3 takes 7; 4 takes 7; 7 takes 7",
+                "round 2: bad 10 (east gate) says 9 to 6, 7, 9; 5 (crusher) takes 7; 6 takes 7",
+                "round 3: 8 takes 7; 9 takes 7",
+                "round 4: nobody takes",
+                "round 5: nobody takes",
+                "after 5 rounds: 9 of 9 good terminals have layout 7, the last since round 3; waiting: none; bad: 1, 10 (east gate)",
+            ],
+        ),
+        (
+            "silence",
+            &[
+                "round 0: 0, the source, has 7",
+                "round 1: 2 takes 7; 4 takes 7",
+                "round 2: nobody takes",
+                "round 3: nobody takes",
+                "after 3 rounds: 3 of 5 good terminals have layout 7, the last since round 1; waiting: 5, 6; bad: 1, 3",
+            ],
+        ),
+    ];
+    for (name, told) in table {
+        let done = checks.call(&["trace", &format!("runs/{name}.txt")]);
+        checks.ends(&format!("trace of {name}"), &done, 0, &lines(told), "");
+    }
+}
+
+/// For a script: every terminal after every round.
+fn table(checks: &mut Checks) {
+    let wanted = lines(&[
+        "round,terminal,state,taken_in,value",
+        "0,0,taken,0,7",
+        "0,1,bad,,",
+        "0,2,waiting,,",
+        "0,3,waiting,,",
+        "1,0,taken,0,7",
+        "1,1,bad,,",
+        "1,2,taken,1,7",
+        "1,3,waiting,,",
+    ]);
+    let text = "terminals 4\nsource 0\nbound 1\n0 > 1 2\n1 > 3\n2 > 3\nbad 1\nvalue 7\nrounds 1\n";
+    for words in [["trace", "--csv", "-"], ["trace", "-", "--csv"]] {
+        let done = checks.call_with(&words, text.as_bytes());
+        checks.ends(&format!("{words:?}"), &done, 0, &wanted, "");
+    }
+}
+
+fn no_run(checks: &mut Checks) {
+    let done = checks.call(&["trace", "plans/e.txt"]);
+    let why =
+        "a plan without a run: 'trace' wants 'value' (and 'bad', 'rounds', 'round') under the plan";
+    checks.tells("trace of a plan", &done, 1, why);
+}
+
+/// Drawing H and drawing F; who may be bad is document 01's bad set.
+fn with_bad(checks: &mut Checks) {
+    let may = |who: &str| {
+        format!("{who} may be bad: no good terminal hears more than 1 of the bad ones\n")
+    };
+    let waits = "if they stay silent, these wait for ever:";
+    let table = [
+        ("plans/h.txt", vec!["1", "3"], 3, format!("{}{waits} 5, 6\n", may("1 and 3"))),
+        ("plans/h.hex", vec!["3", "1"], 3, format!("{}{waits} 5, 6\n", may("1 and 3"))),
+        ("plans/h.txt", vec!["1"], 0, format!("{}if they stay silent, all others have the notice after 3 rounds\n", may("1"))),
+        ("plans/f.txt", vec!["2"], 0, format!("{}if they stay silent, all others have the notice after 2 rounds\n", may("2"))),
+        ("plans/h.txt", vec!["1", "2"], 1, "no: 1 and 2 may not be bad: terminal 5 hears 1 and 2, both bad, and the bound is 1 (cause 8)\n".into()),
+        ("plans/h.txt", vec!["0"], 1, "no: 0 may not be bad: bad 0: it is the source, which is good (cause 7)\n".into()),
+        ("plans/h.txt", vec!["1", "9"], 1, "no: 1 and 9 may not be bad: bad 9: the terminals are 0 to 6 (cause 7)\n".into()),
+        ("runs/silence.txt", vec!["3"], 0, format!("{}if they stay silent, all others have the notice after 3 rounds\n", may("3"))),
+    ];
+    for (file, terminals, status, wanted) in table {
+        let words = [&["with-bad", file], &terminals[..]].concat();
+        let done = checks.call(&words);
+        checks.ends(&format!("{words:?}"), &done, status, &wanted, "");
+    }
+    let named = checks.call(&["with-bad", "plans/pit.txt", "2"]);
+    let wanted = format!(
+        "{}{waits} 4, 5 (crusher), 6, 7, 8, 9, 10 (east gate)\n",
+        may("2")
+    );
+    checks.ends("with-bad and names", &named, 3, &wanted, "");
+}
+
+/// A run's text and its frames are the same run.
+fn same_in_frames(checks: &mut Checks, name: &str) {
+    let text = format!("runs/{name}.txt");
+    let frames = checks.call(&["plan", &text]).out;
+    checks.holds(&format!("{name} has frames"), frames.starts_with("01"));
+    let run = checks.call(&["run", &text]);
+    let again = checks.call_with(&["run"], frames.as_bytes());
+    checks.same(
+        &format!("run of {name} and of its frames"),
+        &run.out,
+        &again.out,
+    );
+    let shown = checks.call_with(&["show"], frames.as_bytes());
+    let back = checks.call_with(&["plan"], shown.out.as_bytes());
+    checks.same(
+        &format!("frames of {name} shown and back"),
+        &frames,
+        &back.out,
+    );
+}

@@ -1,0 +1,75 @@
+//! Numbers, sets, names and coordinates as the text form has them.
+
+const LONGEST_NAME: usize = 40;
+
+pub fn byte(word: &str, text: &str) -> Result<u8, String> {
+    number(text, &format!("one number after '{word}'"))
+}
+
+/// A frame has one byte a number. A larger one stands there as 255, which is out of range
+/// wherever a plan or a run has such a number, so it is refused with the right cause.
+pub fn number(word: &str, expected: &str) -> Result<u8, String> {
+    digits(word, expected)?;
+    Ok(word.parse().unwrap_or(u8::MAX))
+}
+
+/// A layout has two bytes, all of them in range but 0: a larger one stands there as 0.
+pub fn layout(word: &str, text: &str) -> Result<u16, String> {
+    digits(text, &format!("one layout after '{word}'"))?;
+    Ok(text.parse().unwrap_or(0))
+}
+
+fn digits(word: &str, expected: &str) -> Result<(), String> {
+    if word.is_empty() {
+        return Err(format!("expected {expected}, found nothing"));
+    }
+    if !word.bytes().all(|byte| byte.is_ascii_digit()) {
+        return Err(format!("expected {expected}, found '{word}'"));
+    }
+    Ok(())
+}
+
+/// Bits above 23 have no place in a frame; bit 23 is out of range on any site.
+pub fn set(text: &str) -> Result<u32, String> {
+    if text == "none" {
+        return Ok(0);
+    }
+    if text.is_empty() {
+        return Err("expected terminals or 'none' after 'bad', found nothing".into());
+    }
+    let mut set = 0;
+    for word in text.split_whitespace() {
+        set |= 1 << number(word, "terminals after 'bad'")?.min(23);
+    }
+    Ok(set)
+}
+
+pub fn quoted(text: &str) -> Result<String, String> {
+    let inner = text
+        .strip_prefix('"')
+        .and_then(|rest| rest.strip_suffix('"'));
+    match inner {
+        Some(name) if name.contains(['"']) || name.contains(char::is_control) => {
+            Err("expected a name without quotes and control characters in it".into())
+        }
+        Some(name) if name.contains(char::REPLACEMENT_CHARACTER) => {
+            Err("expected a name in UTF-8; save the file so".into())
+        }
+        Some(name) if name.trim().is_empty() => Err("expected a name in the quotes".into()),
+        Some(name) if name.chars().count() > LONGEST_NAME => {
+            Err(format!("expected a name of at most {LONGEST_NAME} letters"))
+        }
+        Some(name) => Ok(name.to_string()),
+        None => Err(format!(
+            "expected a name in quotes, as \"east gate\", found '{text}'"
+        )),
+    }
+}
+
+/// A coordinate; huge ones would leave no picture.
+pub fn measure(word: &str) -> Result<f64, String> {
+    match word.parse::<f64>() {
+        Ok(number) if number.abs() <= 1e9 => Ok(number),
+        _ => Err(format!("expected a number for the place, found '{word}'")),
+    }
+}

@@ -1,0 +1,335 @@
+//! Which of a cause's alternatives it was. The cause and the line are the proved program's; this
+//! looks at the file once more, and says nothing where it cannot tell.
+
+use crate::digits::bad_line;
+use crate::frames::{self, Plan, Refusal, Run, Word};
+
+const LONGEST_FILE: usize = 24_576;
+/// Each kind's name, its lengths after the kind byte, and what they hold.
+const KINDS: [(&str, &[usize], &str); 5] = [
+    ("head", &[3], "n, source, f"),
+    ("link", &[2], "from, to"),
+    ("bad set", &[3], "a set of three bytes"),
+    ("start", &[2, 3], "value (2 bytes), rounds"),
+    ("word", &[5], "round, from, to, value (2 bytes)"),
+];
+
+/// What is wrong, and what would be right.
+pub struct Reason {
+    /// Which number of the frame it is about, where the text form has a line for each.
+    pub field: usize,
+    pub subject: String,
+    pub rule: String,
+}
+
+impl Reason {
+    /// For frames, whose line does not show the number in decimal digits.
+    pub fn whole(self) -> String {
+        if self.subject.is_empty() {
+            return self.rule;
+        }
+        format!("{}: {}", self.subject, self.rule)
+    }
+}
+
+pub fn because(subject: impl Into<String>, rule: impl Into<String>) -> Option<Reason> {
+    Some(Reason {
+        field: 0,
+        subject: subject.into(),
+        rule: rule.into(),
+    })
+}
+
+pub fn plainly(rule: impl Into<String>) -> Option<Reason> {
+    because("", rule)
+}
+
+/// The file up to the refused line, which the program has accepted so far.
+struct Scene<'a> {
+    before: Vec<Vec<u8>>,
+    plan: Plan,
+    run: Run,
+    line: &'a [u8],
+    frame: Vec<u8>,
+    line_of: &'a dyn Fn(usize) -> usize,
+}
+
+pub fn find(
+    file: &[u8],
+    program: &str,
+    refusal: &Refusal,
+    line_of: &dyn Fn(usize) -> usize,
+) -> Option<Reason> {
+    if refusal.line == 0 {
+        return whole_file(file, refusal.cause);
+    }
+    let mut lines = file.split_inclusive(|&byte| byte == b'\n');
+    let before: Vec<&[u8]> = lines.by_ref().take(refusal.line - 1).collect();
+    let line = lines.next()?;
+    if refusal.cause == 1 {
+        return bad_line(line);
+    }
+    let before = before.concat();
+    let read = |line: &[u8]| frames::bytes(std::str::from_utf8(line).ok()?.trim_end());
+    let scene = Scene {
+        plan: frames::plan(&before),
+        run: frames::run(&before),
+        before: before
+            .split(|&byte| byte == b'\n')
+            .filter_map(read)
+            .collect(),
+        frame: read(line)?,
+        line,
+        line_of,
+    };
+    scene.reason(program, refusal.cause)
+}
+
+fn whole_file(file: &[u8], cause: u8) -> Option<Reason> {
+    let has = |kind: u8| {
+        let mut lines = file.split(|&byte| byte == b'\n');
+        lines.any(|line| line.starts_with(&[b'0', b'0' + kind]))
+    };
+    match cause {
+        1 if file.is_empty() => plainly("the file is empty"),
+        1 if file.len() > LONGEST_FILE => plainly(format!(
+            "the file is too long: {LONGEST_FILE} bytes are allowed"
+        )),
+        3 if !has(3) => plainly("a run needs its bad set, a line 03, and there is none"),
+        3 if !has(4) => plainly("a run needs its value and rounds, a line 04, and there is none"),
+        _ => None,
+    }
+}
+
+fn counted(bytes: usize) -> String {
+    match bytes {
+        1 => "1 byte".into(),
+        more => format!("{more} bytes"),
+    }
+}
+
+fn rounds(count: u8) -> String {
+    match count {
+        0 => "the run has no round".into(),
+        1 => "the run has round 1 only".into(),
+        more => format!("the run has rounds 1 to {more}"),
+    }
+}
+
+impl Scene<'_> {
+    fn reason(&self, program: &str, cause: u8) -> Option<Reason> {
+        match cause {
+            2 => self.wrong_kind(program),
+            3 => self.wrong_order(),
+            4 => self.out_of_range(),
+            5 => self.wrong_link(),
+            6 => self.second_link(),
+            7 => self.wrong_bad_set(),
+            8 => self.too_many_bad(),
+            9 => self.wrong_start(),
+            10 => self.wrong_word(),
+            11 => self.second_word(),
+            _ => None,
+        }
+    }
+
+    fn wrong_kind(&self, program: &str) -> Option<Reason> {
+        let kind = *self.frame.first()?;
+        let Some((name, lengths, holds)) = usize::from(kind)
+            .checked_sub(1)
+            .and_then(|at| KINDS.get(at))
+        else {
+            return because(format!("kind {kind:02x}"), "there are 01 to 05");
+        };
+        if kind > 2 && program != "run" {
+            return because(
+                format!("kind {kind:02x}, a run's {name}"),
+                format!("'{program}' has 01 and 02 only"),
+            );
+        }
+        let found = self.frame.len() - 1;
+        if lengths.contains(&found) {
+            return None;
+        }
+        let wanted: Vec<String> = lengths.iter().map(usize::to_string).collect();
+        because(
+            format!("kind {kind:02x} with {} after it", counted(found)),
+            format!("a {name} has {} ({holds})", wanted.join(" or ")),
+        )
+    }
+
+    fn has(&self, kind: u8) -> bool {
+        self.before.iter().any(|frame| frame.first() == Some(&kind))
+    }
+
+    fn wrong_order(&self) -> Option<Reason> {
+        let kind = *self.frame.first()?;
+        match kind {
+            1 if self.has(1) => plainly("a second head: 01 stands once, in the first line"),
+            _ if !self.has(1) => plainly("the first line is the head, 01"),
+            2 if self.has(3) || self.has(4) => plainly("links, 02, stand before 03 and 04"),
+            3 if self.has(3) => plainly("a second bad set: 03 stands once"),
+            4 if self.has(4) => plainly("a second start: 04 stands once"),
+            3 if self.has(4) => plainly("the bad set, 03, stands before 04"),
+            4 => plainly("the start, 04, stands after the bad set, 03"),
+            5 if !self.has(4) => plainly("a word, 05, stands after the start, 04"),
+            _ => None,
+        }
+    }
+
+    fn out_of_range(&self) -> Option<Reason> {
+        let [_, n, source, bound] = self.frame[..] else {
+            return None;
+        };
+        let allowed = format!("0 to {} are allowed for {n} terminals", n.saturating_sub(1));
+        let (field, subject, rule) = match n {
+            0 | 1 | 21.. => (0, format!("n {n}"), "2 to 20 terminals are allowed".into()),
+            _ if source >= n => (1, format!("source {source}"), allowed),
+            _ if bound >= n => (2, format!("bound {bound}"), allowed),
+            _ => return None,
+        };
+        Some(Reason {
+            field,
+            subject,
+            rule,
+        })
+    }
+
+    fn terminals(&self) -> String {
+        format!(
+            "the terminals are 0 to {}",
+            self.plan.terminals.saturating_sub(1)
+        )
+    }
+
+    fn wrong_link(&self) -> Option<Reason> {
+        let [_, from, to] = self.frame[..] else {
+            return None;
+        };
+        let n = self.plan.terminals;
+        match (from, to) {
+            _ if from >= n => because(format!("sender {from}"), self.terminals()),
+            _ if to >= n => because(format!("hearer {to}"), self.terminals()),
+            _ if from == to => plainly(format!("a link from {from} to itself joins nobody")),
+            _ => None,
+        }
+    }
+
+    /// The line of the first frame before this one that starts with these bytes.
+    fn earlier(&self, start: &[u8]) -> Option<usize> {
+        let place = self
+            .before
+            .iter()
+            .position(|frame| frame.starts_with(start))?;
+        Some((self.line_of)(place + 1))
+    }
+
+    fn second_link(&self) -> Option<Reason> {
+        let line = self.earlier(&self.frame)?;
+        let [_, from, to] = self.frame[..] else {
+            return None;
+        };
+        because(
+            format!("{from} > {to}"),
+            format!("line {line} has this link already"),
+        )
+    }
+
+    fn named(&self) -> Option<Vec<u8>> {
+        let [_, a, b, c] = self.frame[..] else {
+            return None;
+        };
+        Some(frames::members([a, b, c]))
+    }
+
+    fn wrong_bad_set(&self) -> Option<Reason> {
+        let named = self.named()?;
+        let source = self.plan.source;
+        if named.contains(&source) {
+            return because(format!("bad {source}"), "it is the source, which is good");
+        }
+        let above = named.iter().find(|one| **one >= self.plan.terminals)?;
+        because(format!("bad {above}"), self.terminals())
+    }
+
+    fn too_many_bad(&self) -> Option<Reason> {
+        let named = self.named()?;
+        let bound = self.plan.bound;
+        let heard = |terminal: u8| -> Vec<u8> {
+            let all = self.plan.heard_by(terminal);
+            all.into_iter().filter(|one| named.contains(one)).collect()
+        };
+        let mut good = (0..self.plan.terminals).filter(|one| !named.contains(one));
+        let hearer = good.find(|one| heard(*one).len() > usize::from(bound))?;
+        let bad = heard(hearer);
+        let all = match bad.len() {
+            1 => "bad",
+            2 => "both bad",
+            _ => "all bad",
+        };
+        plainly(format!(
+            "terminal {hearer} hears {}, {all}, and the bound is {bound}",
+            with_and(&bad)
+        ))
+    }
+
+    fn wrong_start(&self) -> Option<Reason> {
+        match self.frame[..] {
+            [_, 0, 0, ..] => because("value 0", "layouts are 1 to 65535"),
+            [_, _, _, rounds] if rounds > frames::MOST_ROUNDS => Some(Reason {
+                field: 1,
+                subject: format!("{rounds} rounds"),
+                rule: "0 to 40 are allowed".into(),
+            }),
+            _ => None,
+        }
+    }
+
+    fn wrong_word(&self) -> Option<Reason> {
+        let said = frames::run(self.line).words;
+        let Word {
+            round,
+            from,
+            to,
+            value,
+        } = *said.first()?;
+        let (run, n) = (&self.run, self.plan.terminals);
+        if round == 0 || round > run.rounds {
+            return because(format!("round {round}"), rounds(run.rounds));
+        }
+        for end in [from, to] {
+            if end >= n {
+                return because(format!("terminal {end}"), self.terminals());
+            }
+        }
+        if !self.plan.links.contains(&(from, to)) {
+            return plainly(format!("{to} does not hear {from}"));
+        }
+        if !run.bad.contains(&from) {
+            return plainly(format!(
+                "{from} is good, and the rules say what a good one says"
+            ));
+        }
+        if value == 0 {
+            return because("value 0", "layouts are 1 to 65535; silence needs no word");
+        }
+        None
+    }
+
+    fn second_word(&self) -> Option<Reason> {
+        let line = self.earlier(self.frame.get(..4)?)?;
+        plainly(format!(
+            "line {line} has a word on this link in this round already"
+        ))
+    }
+}
+
+/// "1 and 3", "1, 3 and 4".
+pub fn with_and(terminals: &[u8]) -> String {
+    let words: Vec<String> = terminals.iter().map(u8::to_string).collect();
+    match words.split_last() {
+        Some((last, [])) => last.clone(),
+        Some((last, others)) => format!("{} and {last}", others.join(", ")),
+        None => "nobody".into(),
+    }
+}

@@ -1,0 +1,264 @@
+//! The sheet of a picture: heading, links, terminals, labels and legend.
+
+use crate::document::Document;
+use crate::frames::Plan;
+use crate::places::{self, Layout};
+use crate::search::Link;
+use crate::shapes::{circle, mark, Pen, Point, Role};
+use std::collections::BTreeMap;
+
+const LEFT: f64 = 40.0;
+const HEADING: f64 = 140.0;
+const ROW: f64 = 34.0;
+const SOURCE_RING: f64 = 6.0;
+/// Room around the terminals, and what a letter of a label takes.
+const MARGIN: f64 = 75.0;
+const LETTER: f64 = 7.5;
+const NARROWEST: f64 = 800.0;
+
+/// What the heading, the shapes and the legend say.
+pub struct Told {
+    pub good: bool,
+    pub says: String,
+    pub why: String,
+    pub roles: Vec<Role>,
+    pub legend: Vec<(Role, String)>,
+    /// A word beside a terminal.
+    pub beside: BTreeMap<u8, String>,
+}
+
+pub struct Sheet<'a> {
+    plan: &'a Plan,
+    document: &'a Document,
+    told: Told,
+    new: Vec<Link>,
+    layout: Layout,
+    corner: Point,
+    width: f64,
+}
+
+impl<'a> Sheet<'a> {
+    pub fn new(plan: &'a Plan, document: &'a Document, told: Told, new: Vec<Link>) -> Sheet<'a> {
+        let layout = places::layout(plan, &document.extras);
+        let mut sheet = Sheet {
+            plan,
+            document,
+            told,
+            new,
+            layout,
+            corner: Point {
+                x: 0.0,
+                y: HEADING + 60.0,
+            },
+            width: 0.0,
+        };
+        let labels = (0..plan.terminals).filter_map(|terminal| sheet.beside(terminal));
+        let longest = labels.map(|words| words.chars().count()).max().unwrap_or(0);
+        let side = f64::max(MARGIN + 35.0, longest as f64 * LETTER + 50.0);
+        sheet.width = f64::max(sheet.layout.width + 2.0 * side, NARROWEST);
+        sheet.corner.x = (sheet.width - sheet.layout.width) / 2.0;
+        sheet
+    }
+
+    /// The whole file. Lines come first and labels last, so that no line covers a label.
+    pub fn picture(&self) -> String {
+        let legend = self.legend();
+        let bottom = self.corner.y + self.layout.height + MARGIN;
+        let height = bottom + ROW * legend.len() as f64 + 10.0;
+        let mut svg = self.opening(height) + &self.heading() + &self.links();
+        for terminal in 0..self.plan.terminals {
+            svg += &self.terminal(terminal);
+        }
+        for terminal in 0..self.plan.terminals {
+            svg += &self.label(terminal);
+        }
+        for (row, (sample, words)) in (0..).zip(legend) {
+            svg += &key(bottom + ROW * f64::from(row), &sample, &words);
+        }
+        svg + "</svg>\n"
+    }
+
+    fn opening(&self, height: f64) -> String {
+        let width = self.width;
+        format!(
+            r##"<svg xmlns="http://www.w3.org/2000/svg" viewBox="0 0 {width:.0} {height:.0}" width="{width:.0}" height="{height:.0}" font-family="sans-serif" fill="#111111">
+<title>{}</title>
+<rect width="{width:.0}" height="{height:.0}" fill="#ffffff"/>
+"##,
+            escaped(&self.told.says)
+        )
+    }
+
+    fn heading(&self) -> String {
+        let plan = self.plan;
+        let facts = format!(
+            "{} terminals, source {}, bound {}, {} links",
+            plan.terminals,
+            plan.source,
+            plan.bound,
+            plan.links.len()
+        );
+        let line = |x: f64, y: u32, size: u32, class: &str, text: &str| {
+            let text = escaped(text);
+            format!(
+                "<text class=\"{class}\" x=\"{x}\" y=\"{y}\" font-size=\"{size}\">{text}</text>\n"
+            )
+        };
+        line(LEFT, 36, 18, "title", &self.document.title())
+            + &mark(
+                Point {
+                    x: LEFT + 15.0,
+                    y: 66.0,
+                },
+                self.told.good,
+            )
+            + &line(LEFT + 42.0, 75, 26, "says", &self.told.says)
+            + &line(LEFT, 104, 16, "why", &self.told.why)
+            + &line(LEFT, 128, 16, "facts", &facts)
+    }
+
+    fn spot(&self, terminal: u8) -> Point {
+        let spot = self.layout.spots[usize::from(terminal)];
+        Point {
+            x: spot.x + self.corner.x,
+            y: spot.y + self.corner.y,
+        }
+    }
+
+    fn role(&self, terminal: u8) -> Role {
+        self.told.roles[usize::from(terminal)]
+    }
+
+    /// A pair of links is one line with two heads.
+    fn links(&self) -> String {
+        let mut pairs: BTreeMap<(u8, u8), [bool; 2]> = BTreeMap::new();
+        for &(from, to) in &self.plan.links {
+            let heads = pairs.entry((from.min(to), from.max(to))).or_default();
+            heads[usize::from(from < to)] = true;
+        }
+        let pen = Pen::for_links(self.plan.links.len());
+        let arrow = |pen: &Pen, (one, other): (u8, u8), heads| {
+            pen.arrow([self.tip(one, other), self.tip(other, one)], heads)
+        };
+        let old = pairs
+            .into_iter()
+            .map(|(pair, heads)| arrow(&pen, pair, heads));
+        let new_pen = Pen::for_new_links();
+        let new = self
+            .new
+            .iter()
+            .map(|link| arrow(&new_pen, *link, [false, true]));
+        old.chain(new).collect()
+    }
+
+    fn ring(&self, terminal: u8) -> f64 {
+        if terminal == self.plan.source {
+            SOURCE_RING
+        } else {
+            0.0
+        }
+    }
+
+    /// Where a link from the other one ends: just outside this one's outline.
+    fn tip(&self, terminal: u8, other: u8) -> Point {
+        let here = self.spot(terminal);
+        let direction = here.towards(self.spot(other));
+        let reach = self.role(terminal).reach(self.layout.size, direction);
+        here.moved(direction, reach + self.ring(terminal) + 4.0)
+    }
+
+    fn terminal(&self, terminal: u8) -> String {
+        let (role, at) = (self.role(terminal), self.spot(terminal));
+        let ring = if terminal == self.plan.source {
+            source_ring(at, self.layout.size)
+        } else {
+            String::new()
+        };
+        format!(
+            "<g class=\"terminal {}\">{ring}{}</g>\n",
+            role.name(),
+            role.outline(at, self.layout.size)
+        )
+    }
+
+    /// The source's word, a name, when it took.
+    fn beside(&self, terminal: u8) -> Option<String> {
+        let source = (terminal == self.plan.source).then(|| "source".to_string());
+        let name = self.document.extras.names.get(&terminal).cloned();
+        let when = self.told.beside.get(&terminal).cloned();
+        let words: Vec<String> = [name, source, when].into_iter().flatten().collect();
+        (!words.is_empty()).then(|| words.join(", "))
+    }
+
+    /// The number in the terminal; beside it what else is known, away from the lines.
+    fn label(&self, terminal: u8) -> String {
+        let at = self.spot(terminal);
+        let size = self.layout.size * 0.9;
+        let number = format!(
+            "<text class=\"label\" x=\"{:.1}\" y=\"{:.1}\" font-size=\"{size:.1}\" font-weight=\"bold\" text-anchor=\"middle\">{terminal}</text>\n",
+            at.x,
+            at.y + size * 0.36
+        );
+        let Some(words) = self.beside(terminal) else {
+            return number;
+        };
+        let out = self.layout.outwards[usize::from(terminal)];
+        let place = at.moved(out, self.layout.size * 1.4 + self.ring(terminal) + 12.0);
+        let anchor = match out.x {
+            x if x > 0.3 => "start",
+            x if x < -0.3 => "end",
+            _ => "middle",
+        };
+        // A white edge keeps the words apart from the lines that they may stand on.
+        number
+            + &format!(
+                "<text class=\"beside\" x=\"{:.1}\" y=\"{:.1}\" font-size=\"14\" text-anchor=\"{anchor}\" stroke=\"#ffffff\" stroke-width=\"4\" paint-order=\"stroke\">{}</text>\n",
+                place.x,
+                place.y + 5.0,
+                escaped(&words)
+            )
+    }
+
+    /// Samples, drawn around (0, 0), with their words.
+    fn legend(&self) -> Vec<(String, String)> {
+        let here = Point { x: 0.0, y: 0.0 };
+        let tips = [Point { x: -24.0, y: 0.0 }, Point { x: 24.0, y: 0.0 }];
+        let pen = Pen::for_links(0);
+        let roles = self.told.legend.iter();
+        let mut rows: Vec<(String, String)> = roles
+            .map(|(role, words)| (role.outline(here, 11.0), words.clone()))
+            .collect();
+        let source = self.document.extras.called(self.plan.source);
+        rows.push((source_ring(here, 8.0), format!("the source: {source}")));
+        let right = "the right one hears the left one".to_string();
+        rows.push((pen.arrow(tips, [false, true]), right));
+        rows.push((pen.arrow(tips, [true, true]), "each hears the other".into()));
+        if !self.new.is_empty() {
+            let links: Vec<String> = self.new.iter().map(|(a, b)| format!("{a} > {b}")).collect();
+            let words = format!("to be added: {}", links.join(", "));
+            rows.push((Pen::for_new_links().arrow(tips, [false, true]), words));
+        }
+        rows
+    }
+}
+
+fn source_ring(at: Point, size: f64) -> String {
+    let look = r##"fill="#ffffff" stroke="#111111" stroke-width="2.5""##;
+    circle(at, size + SOURCE_RING, look)
+}
+
+fn key(y: f64, sample: &str, words: &str) -> String {
+    format!(
+        "<g class=\"key\" transform=\"translate({:.1} {y:.1})\">{sample}<text x=\"44\" y=\"5\" font-size=\"15\">{}</text></g>\n",
+        LEFT + 24.0,
+        escaped(words)
+    )
+}
+
+/// Names may have any letter, and file names any character.
+fn escaped(text: &str) -> String {
+    text.replace(char::is_control, " ")
+        .replace('&', "&amp;")
+        .replace('<', "&lt;")
+        .replace('>', "&gt;")
+}

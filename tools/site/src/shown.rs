@@ -1,0 +1,80 @@
+//! The text form of a plan whose links are in order, with its names and places and a run under it.
+
+use crate::document::Extras;
+use crate::frames::{Plan, Run, Word};
+use std::collections::BTreeSet;
+
+pub fn plan(plan: &Plan, extras: &Extras) -> String {
+    let mut text = String::new();
+    if let Some(site) = &extras.site {
+        text += &format!("site \"{site}\"\n");
+    }
+    for (word, number) in [
+        ("terminals", plan.terminals),
+        ("source", plan.source),
+        ("bound", plan.bound),
+    ] {
+        text += &format!("{word} {number}\n");
+    }
+    text += &links(&plan.links);
+    for (terminal, name) in &extras.names {
+        text += &format!("name {terminal} \"{name}\"\n");
+    }
+    for (terminal, (across, down)) in &extras.places {
+        text += &format!("at {terminal} {across} {down}\n");
+    }
+    text
+}
+
+/// For each terminal whom it hears and is heard by, once for a pair, and then who only hears it.
+pub fn links(links: &[(u8, u8)]) -> String {
+    let all: BTreeSet<(u8, u8)> = links.iter().copied().collect();
+    let mut text = String::new();
+    for sender in 0..=u8::MAX {
+        let of = |both: bool| -> Vec<u8> {
+            let own = all.iter().filter(|(from, _)| *from == sender);
+            own.map(|(_, to)| *to)
+                .filter(|to| all.contains(&(*to, sender)) == both)
+                .filter(|to| !both || *to > sender)
+                .collect()
+        };
+        text += &line(sender, '-', &of(true));
+        text += &line(sender, '>', &of(false));
+    }
+    text
+}
+
+fn line(sender: u8, sign: char, hearers: &[u8]) -> String {
+    if hearers.is_empty() {
+        return String::new();
+    }
+    format!("{sender} {sign}{}\n", spaced(hearers))
+}
+
+/// Each number after a blank.
+fn spaced(numbers: &[u8]) -> String {
+    numbers.iter().map(|number| format!(" {number}")).collect()
+}
+
+pub fn run(run: &Run) -> String {
+    let bad = if run.bad.is_empty() {
+        " none".to_string()
+    } else {
+        spaced(&run.bad)
+    };
+    let mut text = format!("bad{bad}\nvalue {}\nrounds {}\n", run.value, run.rounds);
+    let alike = |one: &Word, next: &Word| {
+        (one.round, one.from, one.value) == (next.round, next.from, next.value)
+    };
+    for words in run.words.chunk_by(alike) {
+        let Word {
+            round, from, value, ..
+        } = words[0];
+        let hearers: Vec<u8> = words.iter().map(|word| word.to).collect();
+        text += &format!(
+            "round {round}: {from} says {value} to{}\n",
+            spaced(&hearers)
+        );
+    }
+    text
+}

@@ -1,0 +1,82 @@
+//! "What if these die": may they be bad together, and whom does their silence cut off? Asked of
+//! the proved `run`, with that bad set, no words, and more rounds than any notice needs.
+
+use crate::ask::Programs;
+use crate::document::Document;
+use crate::frames::{self, Answer, State, MOST_ROUNDS};
+use crate::reason::{self, with_and};
+use crate::{words, Told, Trouble};
+use std::collections::BTreeSet;
+
+const NOT_ALLOWED: u8 = 1;
+const CUTS_OFF: u8 = 3;
+
+pub fn with_bad(
+    document: &Document,
+    terminals: &[String],
+    programs: &Programs,
+) -> Result<Told, Trouble> {
+    let bad = numbers(terminals)?;
+    let plan = programs.accepted(document)?;
+    let mut file = plan.to_frames();
+    let set = bad.iter().fold(0, |set, one| set | 1 << one);
+    file += &(frames::bad_set(set) + &frames::start(1, Some(MOST_ROUNDS)));
+    let who = with_and(&bad);
+    match programs.ask("run", file.as_bytes())?.1 {
+        Answer::Terminals(states) => Ok(silent(document, &who, plan.bound, &states)),
+        Answer::Refused(refusal) => {
+            let why = reason::find(file.as_bytes(), "run", &refusal, &|line| line);
+            let why = why.map_or_else(|| words::cause(&refusal).to_string(), |why| why.whole());
+            Ok(Told {
+                text: format!(
+                    "no: {who} may not be bad: {why} (cause {})\n",
+                    refusal.cause
+                ),
+                status: NOT_ALLOWED,
+            })
+        }
+        _ => Err(Trouble::Broken("'run' gave no states".into())),
+    }
+}
+
+/// Ascending, each once. A bad set has 24 bits; which of them are terminals is the program's to say.
+fn numbers(terminals: &[String]) -> Result<Vec<u8>, Trouble> {
+    let mut numbers = BTreeSet::new();
+    for word in terminals {
+        match word.parse::<u8>() {
+            Ok(number) if number < 24 => numbers.insert(number),
+            _ => {
+                let why = format!("'{word}' is no terminal: they are 0 to 19 at most");
+                return Err(Trouble::Broken(why));
+            }
+        };
+    }
+    Ok(numbers.into_iter().collect())
+}
+
+fn silent(document: &Document, who: &str, bound: u8, states: &[(u8, State)]) -> Told {
+    let waiting: Vec<u8> = states
+        .iter()
+        .filter(|(_, state)| *state == State::Waiting)
+        .map(|(terminal, _)| *terminal)
+        .collect();
+    let may =
+        format!("{who} may be bad: no good terminal hears more than {bound} of the bad ones\n");
+    let (then, status) = if waiting.is_empty() {
+        let last = words::rounds(words::last_take(states));
+        (
+            format!("if they stay silent, all others have the notice after {last}\n"),
+            0,
+        )
+    } else {
+        let listed = document.extras.listed(&waiting);
+        (
+            format!("if they stay silent, these wait for ever: {listed}\n"),
+            CUTS_OFF,
+        )
+    };
+    Told {
+        text: may + &then,
+        status,
+    }
+}
