@@ -16,6 +16,7 @@ use Rattle.sets.specs.Sets.{mem, mask, with, within}
 use Rattle.sets.proofs.Bools.{clash, and-l, and-i, and-yes, or-no, not-i, not-no, pick-yes, pick-case}
 use Rattle.sets.proofs.Causes.{cause-none, given-none}
 use Rattle.sets.proofs.Laws.{equal-or-not, below-or-not, mem-zero, mem-above, set-ext, mask-lt, mem-mask, mem-mask-above, all-at, all-i}
+use Rattle.sets.proofs.Operations.{mem-with}
 use Rattle.quorum.specs.Quorum.{inRange, hearsSoundly}
 use Rattle.quorum.specs.Words.{startSound}
 use Rattle.plan.specs.declared.Plan.{Plan}
@@ -66,10 +67,6 @@ with-narrow w n s i h k l =
     go j (inl m) = mem-mask n j (λ j. mem j s or eqb j i) m
     go j (inr m) =
         mem-mask-above n j (λ j. mem j s or eqb j i) m ∙ sym (or-no _ _ (mem-above n j s k m) (ne-eqb j i (λ e. omega arith)))
-
-mem-with : (w s i j : ℕ) → j < w → mem j (with w s i) ≡ mem j s or eqb j i
-unfolding with
-mem-with w s i j h = mem-mask w j (λ j. mem j s or eqb j i) h
 
 module _ (p : Plan) (w : Whole p) (from to : ℕ) (f : from < p .n) (t : to < p .n) (d : from ≡ to → ⊥) where
   s : Sound p

@@ -15,7 +15,8 @@ use Rattle.sets.specs.Tests.{_and_, _or_}
 use Rattle.sets.specs.Sets.{mem, with}
 use Rattle.sets.proofs.Bools.{and-i, and-yes, and-swap, and-no-l, and-no-r, or-r, or-no, not-yes, same-test, pick-yes, pick-case, clash}
 use Rattle.sets.proofs.Causes.{cause-later, cause-last}
-use Rattle.sets.proofs.Laws.{equal-or-not, below-or-not, mem-zero, mem-above, set-ext, mask-lt, mem-mask}
+use Rattle.sets.proofs.Laws.{equal-or-not, below-or-not, mem-zero, mem-above, set-ext, mask-lt}
+use Rattle.sets.proofs.Operations.{mem-with}
 use Rattle.quorum.specs.Quorum.{inRange}
 use Rattle.plan.specs.declared.Plan.{Plan}
 use Rattle.plan.specs.Plan.{heardBy, hears, causeOf}
@@ -33,10 +34,6 @@ or-false : (x y : Bool) → y ≡ false → x or y ≡ x
 unfolding _or_
 or-false true y h = refl
 or-false false y h = h
-
-mem-with : (w s i j : ℕ) → j < w → mem j (with w s i) ≡ mem j s or eqb j i
-unfolding with
-mem-with w s i j h = mem-mask w j (λ j. mem j s or eqb j i) h
 
 with-lt : (w s i : ℕ) → with w s i < 2 ^ w
 unfolding with

@@ -14,7 +14,8 @@ use borrow.Author.Tests.{eq-eqb, ne-eqb, eqb-true, eqb-false}
 use Rattle.sets.specs.Tests.{_and_, _or_}
 use Rattle.sets.specs.Sets.{mem, with}
 use Rattle.sets.proofs.Bools.{clash, or-l, or-r, or-e, or-no, pick-case}
-use Rattle.sets.proofs.Laws.{equal-or-not, below-or-not, mem-zero, mem-above, mem-mask, mem-mask-above}
+use Rattle.sets.proofs.Laws.{equal-or-not, below-or-not, mem-zero, mem-above, mem-mask-above}
+use Rattle.sets.proofs.Operations.{mem-with}
 use Rattle.plan.specs.declared.Plan.{Plan}
 use Rattle.plan.specs.Plan.{heardBy, hears}
 use Rattle.plan.proofs.Laws.{sound}
@@ -27,11 +28,11 @@ use Rattle.frames.specs.Reading.{mostBytes, stageOf, nothingRead, noWords, caus
 use Rattle.frames.proofs.Accepted.{Whole, head-accepted, link-accepted, frame-stage, frame-whole}
 use Rattle.writer.specs.RoundTrip.{Tells}
 
--- a set with one terminal more
-mem-with : (w s i j : ℕ) → s < 2 ^ w → i < w → mem j (with w s i) ≡ mem j s or eqb j i
+-- a set with one terminal more, whatever terminal is asked for
+with-any : (w s i j : ℕ) → s < 2 ^ w → i < w → mem j (with w s i) ≡ mem j s or eqb j i
 unfolding with
-mem-with w s i j h k =
-    ⊎-elim (λ l. mem-mask w j (λ j. mem j s or eqb j i) l)
+with-any w s i j h k =
+    ⊎-elim (λ l. mem-with w s i j l)
     (λ l. mem-mask-above w j (λ j. mem j s or eqb j i) l ∙ sym (or-no _ _ (mem-above w j s h l) (ne-eqb j i (λ e. omega arith))))
     (below-or-not j w)
 
@@ -56,7 +57,7 @@ module _ (p : Plan) (w : Whole p) (from to : ℕ) (f : from < p .n) (t : to < p 
   row-more =
       let s = sound p (w .0) in
       let n : p .n ≤ 32 = omega (arith, s .twenty) in
-      mem-with 32 (heardBy p to) from a (lt-of-lt-of-le (s .row-below to t) (pow-mono n)) (omega arith)
+      with-any 32 (heardBy p to) from a (lt-of-lt-of-le (s .row-below to t) (pow-mono n)) (omega arith)
 
   hears-same : b ≡ to → hears (linked p from to) b a ≡ hears p to a or eqb a from
   unfolding hears heardBy linked
