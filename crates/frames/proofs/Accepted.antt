@@ -1,7 +1,7 @@
 -- What an accepted file tells: its plan is sound, its bad set is one of the plan, its value and rounds are in range. Assumes nothing.
 use Prim.Native.Nat.{ℕ, _+_, _^_, _≤_, _<_}
 use mathlib.Core.Path.{_≡_, refl, sym, ap, _∙_}
-use mathlib.Core.Logic.{_⊎_, inl, inr}
+use mathlib.Core.Logic.{_⊎_, inl, inr, ⊎-elim}
 use mathlib.Core.Bool.{Bool, true, false, not}
 use mathlib.Core.List.{List, [], _∷_, _++_}
 use native.Mathlib.Nat.{lt-of-lt-of-le}
@@ -12,11 +12,12 @@ use lib.Pow.{pow-mono, pow-pos}
 use lib.Seq.{getD-set-same, getD-set-other}
 use borrow.Author.Tests.{eq-eqb, ne-eqb, eqb-true, eqb-false, lt-ltb, leb-true, leb-false}
 use Rattle.sets.specs.Tests.{_and_, _or_}
+use Rattle.sets.specs.Causes.{_gives_, firstCause}
 use Rattle.sets.specs.Sets.{mem, mask, with, within}
 use Rattle.sets.proofs.Bools.{clash, and-l, and-i, and-yes, or-no, not-i, not-no, pick-yes, pick-case}
-use Rattle.sets.proofs.Causes.{cause-none, given-none}
-use Rattle.sets.proofs.Laws.{equal-or-not, below-or-not, mem-zero, mem-above, set-ext, mask-lt, mem-mask, mem-mask-above, all-at, all-i}
+use Rattle.sets.proofs.Causes.{cause-here, cause-none}
 use Rattle.sets.proofs.Operations.{mem-with}
+use Rattle.sets.proofs.Laws.{equal-or-not, below-or-not, mem-zero, mem-above, set-ext, mask-lt, mem-mask, mem-mask-above, all-at, all-i}
 use Rattle.quorum.specs.Quorum.{inRange, hearsSoundly}
 use Rattle.quorum.specs.Words.{startSound}
 use Rattle.plan.specs.declared.Plan.{Plan}
@@ -37,6 +38,9 @@ use Rattle.frames.specs.Reading.{mostBytes, planKinds, runKinds, stageOf
 abbrev pub Whole : Plan → Type 0
 Whole p = (causeOf p ≡ 0) × (length (p .rows) ≡ 20)
 
+plan-sound : (p : Plan) → inRange (p .n) (p .source) (p .f) ≡ true → linksSound p ≡ true → causeOf p ≡ 0
+plan-sound p r l = tested p r l
+
 -- ---- the head: no links yet
 
 zero-sound : (n b : ℕ) → rowSound n b 0 ≡ true
@@ -48,7 +52,7 @@ zero-sound n b =
 head-whole : (n source f : ℕ) → inRange n source f ≡ true → Whole (record { n = n; source = source; f = f; rows = replicate 20 0 })
 unfolding linksSound heardBy
 head-whole n source f r = (
-  tested (record { n = n; source = source; f = f; rows = replicate 20 0 }) r
+  plan-sound (record { n = n; source = source; f = f; rows = replicate 20 0 }) r
       (all-i 20 (λ b. rowSound n b (getD (replicate 20 0) b 0)) (λ b h. ap (rowSound n b) (getD-replicate {A = ℕ} 20 b 0 0 h) ∙ zero-sound n b)),
   length-replicate {A = ℕ} 20 0,
 )
@@ -94,7 +98,7 @@ module _ (p : Plan) (w : Whole p) (from to : ℕ) (f : from < p .n) (t : to < p 
   link-whole : Whole (linked p from to)
   unfolding linked linksSound
   link-whole = (
-    tested (linked p from to) (tests p (w .0) .0)
+    plan-sound (linked p from to) (tests p (w .0) .0)
         (all-i 20 (λ b. rowSound (p .n) b (heardBy (linked p from to) b)) (λ b h. rows-kept b h (equal-or-not b to))),
     length-set (p .rows) to (with 32 (heardBy p to) from) ∙ w .1,
   )
@@ -105,6 +109,10 @@ or-none : (a b : Bool) → a or b ≡ false → (a ≡ false) × (b ≡ false)
 unfolding _or_
 or-none true b h = clash refl h
 or-none false b h = (refl, h)
+
+-- a row whose number is a cause of its own
+row-none : (cause : ℕ) → firstCause (not (eqb cause 0) gives cause ∷ []) ≡ 0 → cause ≡ 0
+row-none cause h = ⊎-elim (λ z. z) (λ n. sym (cause-here _ _ _ (not-i (ne-eqb cause 0 n))) ∙ h) (equal-or-not cause 0)
 
 module _ (p : Progress) (words : List ℕ) where
   at-stage : (stage : Stage) → not (isAt stage p) ≡ false → stageOf (p .stage) ≡ stageOf stage
@@ -133,7 +141,7 @@ module _ (p : Progress) (words : List ℕ) where
   unfolding causeIn faultSetCause
   fault-set-accepted s h =
       let a = cause-none _ 3 _ (λ z. omega arith) h in
-      (at-stage Links (a .0), given-none (faultCauseOf (p .plan) s) [] (a .1) .0)
+      (at-stage Links (a .0), row-none (faultCauseOf (p .plan) s) (a .1))
 
   pub start-accepted : (value : ℕ) (rounds : Rounds) → causeIn p words (Start value rounds) ≡ 0
       → (stageOf (p .stage) ≡ 2) × (startSound value (roundsOf rounds) ≡ true)

@@ -8,7 +8,7 @@ use native.Mathlib.Omega.{arith}
 use lib.Dec.{eqb, leb}
 use lib.ListN.{getD}
 use borrow.Author.Tests.{eq-eqb, ne-eqb, lt-ltb, le-ltb, le-leb, lt-leb, leb-true, ltb-true}
-use Rattle.sets.specs.Tests.{_and_, _or_, pick}
+use Rattle.sets.specs.Tests.{_or_, pick}
 use Rattle.sets.specs.Causes.{_gives_, firstCause}
 use Rattle.sets.specs.Sets.{mem}
 use Rattle.sets.proofs.Bools.{and-l, and-r, and-yes, and-no-l, and-no-r, or-l, or-r, or-no, not-i, not-yes}

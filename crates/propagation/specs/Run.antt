@@ -1,6 +1,6 @@
 -- The run by the rules (document 01, "The run"), for any number of rounds. A script is a function of round, sender and hearer: what the terminals of
 -- the fault set say, 0 for silence. Assumes nothing.
-use Prim.Native.Nat.{ℕ, zero, suc, _+_, _-_, _*_, _≤_, _<_}
+use Prim.Native.Nat.{ℕ, zero, suc, _≤_, _<_}
 use mathlib.Core.Path.{_≡_}
 use mathlib.Core.Bool.{true}
 use mathlib.Core.List.{List}
@@ -9,6 +9,7 @@ use lib.ListN.{getD}
 use Rattle.sets.specs.Tests.{pick}
 use Rattle.sets.specs.Tables.{table}
 use Rattle.sets.specs.Sets.{Terminal, Set, mem}
+use Rattle.quorum.specs.Words.{placeOf}
 use Rattle.terminal.specs.declared.Record.{Record}
 use Rattle.terminal.specs.Rule.{Layout, Round, start, sourceStart, step, saysIn}
 use Rattle.plan.specs.declared.Plan.{Plan}
@@ -19,7 +20,7 @@ Script = (round : Round) (sender hearer : Terminal) → Layout
 
 -- the script that a lent list of words stands for: round 1 first, then by sender, then by hearer; 0 past its end
 unfoldable pub scriptOf : (n : ℕ) (words : List Layout) → Script
-scriptOf n words round sender hearer = getD words ((round - 1) * (n * n) + sender * n + hearer) 0
+scriptOf n words round sender hearer = getD words (placeOf n round sender hearer) 0
 
 abbrev pub silence : Script
 silence round sender hearer = 0

@@ -13,14 +13,14 @@ use borrow.Author.Tests.{leb-true}
 use Rattle.sets.specs.Sets.{mem}
 use Rattle.sets.proofs.Bools.{and-r, pick-yes, pick-no, pick-case}
 use Rattle.sets.proofs.Laws.{equal-or-not}
-use Rattle.quorum.specs.Words as words
 use Rattle.terminal.specs.declared.State.{State}
 use Rattle.terminal.specs.declared.State.the-variants.{Waiting, Taken}
 use Rattle.terminal.specs.declared.Record.{Record}
 use Rattle.terminal.specs.Rule.{start}
 use Rattle.plan.proofs.Laws.{sound}
 use Rattle.propagation.specs.Run.{site, scriptOf}
-use Rattle.simulation.specs.Answer.{startSound, runCause, arrayAfter}
+use Rattle.simulation.specs.Answer.{runCause, arrayAfter}
+use Rattle.quorum.specs.Words.{startSound}
 use Rattle.simulation.proofs.Causes.{fits, cause-played}
 use Rattle.simulation.proofs.Promise.{array-at}
 use Rattle.frames.specs.declared.Progress.{Progress}
@@ -124,7 +124,7 @@ module _ (p : Progress) (play : Playable p) (words : List ℕ) (room : length wo
 -- ---- the lines on a run file
 
 pub run-playable : (file : List ℕ) → runReading file .number ≡ 0 → Playable (runReading file .progress)
-unfolding startSound words.startSound
+unfolding startSound
 run-playable file h =
     let a = run-accepted file h in
     record {

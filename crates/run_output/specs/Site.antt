@@ -10,7 +10,7 @@ use Rattle.terminal.specs.declared.State.{State}
 use Rattle.terminal.specs.declared.State.the-variants.{Waiting, Taken}
 use Rattle.propagation.specs.Run.{Script, site, scriptOf}
 use Rattle.faults.specs.Check.{faultCauseOf}
-use Rattle.simulation.specs.Answer.{startSound}
+use Rattle.quorum.specs.Words.{startSound}
 use Rattle.text.specs.Digits.{hexByte, hexPair}
 use Rattle.frames.specs.declared.Progress.{Progress}
 use Rattle.frames.specs.declared.FileRead.{FileRead}

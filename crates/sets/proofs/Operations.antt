@@ -1,6 +1,7 @@
 -- Each operation of specs/Sets.antt as the shifts and masks that compute it, over the width. Assumes nothing.
 use Prim.Native.Nat.{ℕ, zero, suc, _-_, _*_, _/_, _%_, _^_, _≤_, _<_}
 use mathlib.Core.Path.{_≡_, refl, sym, ap, _∙_, subst}
+use mathlib.Core.Logic.{⊎-elim}
 use mathlib.Core.Bool.{Bool, true, false, not}
 use native.Mathlib.Nat.{lt-of-le-of-lt, lt-of-lt-of-le, div-lt-iff-lt-mul, le-div-iff-mul-le, one-mul, mod-eq-of-lt}
 use native.Mathlib.Omega.{arith}
@@ -10,8 +11,8 @@ use lib.Pow.{pow-lt, pow-pos}
 use borrow.Author.Tests.{eq-eqb, ne-eqb, eqb-true, lt-ltb, le-ltb}
 use Rattle.sets.specs.Tests.{_and_, _or_, _implies_}
 use Rattle.sets.specs.Sets.{mem, all, mask, within, singleton, with}
-use Rattle.sets.proofs.Bools.{not-e, same-test}
-use Rattle.sets.proofs.Laws.{mem-zero, set-ext, mem-mask, mask-of, mask-lt, all-at, all-i, all-cong}
+use Rattle.sets.proofs.Bools.{not-e, same-test, or-no}
+use Rattle.sets.proofs.Laws.{mem-zero, set-ext, mem-mask, mask-of, mask-lt, all-at, all-i, all-cong, mem-above, mem-mask-above, below-or-not}
 use Rattle.sets.proofs.Masks.{mem-and, mem-or, mem-not, mem-power, mem-shift}
 
 pub test-member : (i s : ℕ) → eqb (bitAnd (s / 2 ^ i) 1) 1 ≡ mem i s
@@ -53,6 +54,14 @@ or-with w s i p =
 pub mem-with : (w s i j : ℕ) → j < w → mem j (with w s i) ≡ mem j s or eqb j i
 unfolding with
 mem-with w s i j k = mem-mask w j (λ j. mem j s or eqb j i) k
+
+-- the same of any terminal, where the set and the new one lie within the width
+pub mem-with-any : (w s i j : ℕ) → s < 2 ^ w → i < w → mem j (with w s i) ≡ mem j s or eqb j i
+unfolding with
+mem-with-any w s i j h k =
+    ⊎-elim (mem-with w s i j)
+    (λ l. mem-mask-above w j (λ j. mem j s or eqb j i) l ∙ sym (or-no _ _ (mem-above w j s h l) (ne-eqb j i (λ e. omega arith))))
+    (below-or-not j w)
 
 -- a test of one word: two sets share no terminal; one lies within the other
 pub test-apart : (n a b : ℕ) → a < 2 ^ n → eqb (bitAnd a b) 0 ≡ all n (λ i. not (mem i a and mem i b))

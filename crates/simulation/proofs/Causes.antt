@@ -17,7 +17,8 @@ use Rattle.faults.specs.Check.{faultCauseOf}
 use Rattle.faults.proofs.Laws.{fault-sound}
 use Rattle.simulation.specs.declared.Outcome.{Outcome}
 use Rattle.simulation.specs.declared.Outcome.the-variants.{Played, WrongRange, WrongLink, WrongMember, OverBound, WrongStart, WrongLength}
-use Rattle.simulation.specs.Answer.{numberOf, startSound, listsFit, runCause, turnsOf}
+use Rattle.simulation.specs.Answer.{numberOf, listsFit, runCause, turnsOf}
+use Rattle.quorum.specs.Words.{startSound}
 use Rattle.simulation.proofs.Outcome.{the-type}
 
 -- an outcome other than Played has a number that is not 0

@@ -27,7 +27,8 @@ use Rattle.sets.proofs.Tables.{table-at}
 use Rattle.faults.proofs.Laws.{fault-is}
 use Rattle.simulation.specs.declared.Turn.{Turn}
 use Rattle.simulation.specs.Turns.{firstTurn, playedAfter, CanPlay, leftAfter}
-use Rattle.simulation.specs.Answer.{startSound, runCause, turnsOf, recordsAfter, arrayAfter, Demand3Holds, Defeated, noWords}
+use Rattle.simulation.specs.Answer.{runCause, turnsOf, recordsAfter, arrayAfter, Demand3Holds, Defeated, noWords}
+use Rattle.quorum.specs.Words.{startSound}
 use Rattle.simulation.proofs.Causes.{fits, cause-played, accepted-run, turns-played, turns-refused}
 use Rattle.simulation.proofs.Meaning.{walk-is, walk-array, turn-placed}
 

@@ -3,7 +3,7 @@ use Prim.Native.Nat.{ℕ, _+_, _*_, _-_, _≤_, _<_}
 use mathlib.Core.Path.{_≡_}
 use mathlib.Core.Bool.{Bool, true, false, not}
 use mathlib.Core.List.{List, [], _∷_}
-use lib.Dec.{eqb, leb}
+use lib.Dec.{eqb}
 use lib.ListN.{length, getD, replicate}
 use Rattle.sets.specs.Tests.{_and_, pick}
 use Rattle.sets.specs.Causes.{_gives_, firstCause, given}
@@ -12,7 +12,7 @@ use Rattle.quorum.specs.Quorum.{mostTerminals}
 use Rattle.terminal.specs.declared.State.the-variants.{Waiting, Taken}
 use Rattle.terminal.specs.declared.Record.{Record}
 use Rattle.terminal.specs.Rule.{Layout, start}
-use Rattle.quorum.specs.Words.{mostRounds}
+use Rattle.quorum.specs.Words.{startSound}
 use Rattle.plan.specs.declared.Plan.{Plan}
 use Rattle.faults.specs.Check.{faultCauseOf}
 use Rattle.closure.specs.Verdict.{verdict}
@@ -31,10 +31,6 @@ numberOf WrongMember = 7
 numberOf OverBound = 8
 numberOf WrongStart = 9
 numberOf WrongLength = 12
-
--- a value, and 0 to 40 rounds
-unfoldable pub startSound : (value : Layout) (rounds : ℕ) → Bool
-startSound value rounds = not (eqb value 0) and leb rounds mostRounds
 
 -- the words and the records that are lent are as many as they should be
 unfoldable pub listsFit : Plan → (rounds words places : ℕ) → Bool

@@ -9,6 +9,7 @@ use Rattle.sets.specs.Causes.{_gives_, firstCause}
 use Rattle.sets.specs.Sets.{Terminal, Set}
 use Rattle.quorum.specs.Quorum.{inRange, hearsSoundly}
 use Rattle.quorum.specs.Words.{mostRounds}
+use Rattle.quorum.specs.Words.{mostRounds}
 use Rattle.terminal.specs.declared.State.{State}
 use Rattle.terminal.specs.declared.State.the-variants.{Waiting, Taken}
 use Rattle.terminal.specs.declared.Record.{Record}

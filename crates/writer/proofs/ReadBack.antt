@@ -15,8 +15,8 @@ use Rattle.sets.specs.Tests.{_and_, _or_}
 use Rattle.sets.specs.Sets.{mem, with}
 use Rattle.sets.proofs.Bools.{and-i, and-yes, and-swap, and-no-l, and-no-r, or-r, or-no, not-yes, same-test, pick-yes, pick-case, clash}
 use Rattle.sets.proofs.Causes.{cause-later, cause-last}
-use Rattle.sets.proofs.Laws.{equal-or-not, below-or-not, mem-zero, mem-above, set-ext, mask-lt}
 use Rattle.sets.proofs.Operations.{mem-with}
+use Rattle.sets.proofs.Laws.{equal-or-not, below-or-not, mem-zero, mem-above, set-ext, mask-lt}
 use Rattle.quorum.specs.Quorum.{inRange}
 use Rattle.plan.specs.declared.Plan.{Plan}
 use Rattle.plan.specs.Plan.{heardBy, hears, causeOf}

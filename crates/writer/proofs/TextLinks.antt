@@ -1,5 +1,5 @@
 -- The links of an accepted file's plan are those of its lines. Assumes nothing.
-use Prim.Native.Nat.{ℕ, _+_, _^_, _≤_, _<_}
+use Prim.Native.Nat.{ℕ, _+_, _≤_, _<_}
 use mathlib.Core.Path.{_≡_, refl, sym, ap, _∙_}
 use mathlib.Core.Logic.{_⊎_, inl, inr, ⊎-elim, _↔_}
 use mathlib.Core.Bool.{true, false}
@@ -10,12 +10,12 @@ use lib.Dec.{eqb, leb}
 use lib.ListN.{length, getD, set, replicate, getD-replicate, List·getD-eq-default}
 use lib.Pow.{pow-mono}
 use lib.Seq.{getD-set-same, getD-set-other}
-use borrow.Author.Tests.{eq-eqb, ne-eqb, eqb-true, eqb-false}
+use borrow.Author.Tests.{eq-eqb, eqb-true, eqb-false}
 use Rattle.sets.specs.Tests.{_and_, _or_}
 use Rattle.sets.specs.Sets.{mem, with}
-use Rattle.sets.proofs.Bools.{clash, or-l, or-r, or-e, or-no, pick-case}
-use Rattle.sets.proofs.Laws.{equal-or-not, below-or-not, mem-zero, mem-above, mem-mask-above}
-use Rattle.sets.proofs.Operations.{mem-with}
+use Rattle.sets.proofs.Bools.{clash, or-l, or-r, or-e, pick-case}
+use Rattle.sets.proofs.Operations.{mem-with-any}
+use Rattle.sets.proofs.Laws.{equal-or-not, below-or-not, mem-zero}
 use Rattle.plan.specs.declared.Plan.{Plan}
 use Rattle.plan.specs.Plan.{heardBy, hears}
 use Rattle.plan.proofs.Laws.{sound}
@@ -27,14 +27,6 @@ use Rattle.frames.specs.Lines.{Line, ended, cut, linesFrom}
 use Rattle.frames.specs.Reading.{mostBytes, stageOf, nothingRead, noWords, causeIn, linked, after, wordsAfter, Reading, refusal, told, reading}
 use Rattle.frames.proofs.Accepted.{Whole, head-accepted, link-accepted, frame-stage, frame-whole}
 use Rattle.writer.specs.RoundTrip.{Tells}
-
--- a set with one terminal more, whatever terminal is asked for
-with-any : (w s i j : ℕ) → s < 2 ^ w → i < w → mem j (with w s i) ≡ mem j s or eqb j i
-unfolding with
-with-any w s i j h k =
-    ⊎-elim (λ l. mem-with w s i j l)
-    (λ l. mem-mask-above w j (λ j. mem j s or eqb j i) l ∙ sym (or-no _ _ (mem-above w j s h l) (ne-eqb j i (λ e. omega arith))))
-    (below-or-not j w)
 
 -- no links
 no-row : (b : ℕ) → getD {A = ℕ} (replicate 20 0) b 0 ≡ 0
@@ -57,7 +49,7 @@ module _ (p : Plan) (w : Whole p) (from to : ℕ) (f : from < p .n) (t : to < p 
   row-more =
       let s = sound p (w .0) in
       let n : p .n ≤ 32 = omega (arith, s .twenty) in
-      with-any 32 (heardBy p to) from a (lt-of-lt-of-le (s .row-below to t) (pow-mono n)) (omega arith)
+      mem-with-any 32 (heardBy p to) from a (lt-of-lt-of-le (s .row-below to t) (pow-mono n)) (omega arith)
 
   hears-same : b ≡ to → hears (linked p from to) b a ≡ hears p to a or eqb a from
   unfolding hears heardBy linked

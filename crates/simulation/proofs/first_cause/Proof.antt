@@ -4,7 +4,8 @@ use borrow.Author.Tests.{leb-true}
 use Rattle.sets.proofs.Bools.{and-r}
 use Rattle.plan.proofs.Laws.{sound}
 use Rattle.faults.proofs.Laws.{fault-sound}
-use Rattle.simulation.specs.Answer.{numberOf, startSound}
+use Rattle.simulation.specs.Answer.{numberOf}
+use Rattle.quorum.specs.Words.{startSound}
 use Rattle.simulation.proofs.Causes.{cause-played, cause-length, cause-start, cause-fault, not-played}
 use borrow.Author.Needs.{needs}
 use Rattle.simulation.proofs.first_cause.Statement.{statement}

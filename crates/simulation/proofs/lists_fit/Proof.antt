@@ -3,7 +3,8 @@ use mathlib.Core.Path.{sym}
 use borrow.Author.Tests.{eq-eqb, ne-eqb}
 use Rattle.sets.proofs.Bools.{and-yes, and-no-l}
 use Rattle.simulation.specs.Answer.{listsFit}
-use Rattle.simulation.proofs.Places.{square-le, all-le}
+use Rattle.simulation.proofs.Places.{all-le}
+use Rattle.quorum.proofs.Words.{square-le}
 use native.Mathlib.Omega.{arith}
 use Rattle.simulation.proofs.lists_fit.Statement.{statement}
 use Rattle.simulation.proofs.lists_fit.Tie as tie

@@ -2,7 +2,7 @@
 use mathlib.Core.Path.{sym}
 use borrow.Author.Tests.{eq-eqb, ne-eqb}
 use Rattle.sets.proofs.Bools.{and-yes, and-no-l, not-i, not-yes}
-use Rattle.simulation.specs.Answer.{startSound}
+use Rattle.quorum.specs.Words.{startSound}
 use Rattle.simulation.proofs.start_sound.Statement.{statement}
 use Rattle.simulation.proofs.start_sound.Tie as tie
 

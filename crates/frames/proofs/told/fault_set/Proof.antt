@@ -1,6 +1,6 @@
 use mathlib.Core.Path.{refl, sym, _∙_}
 use native.Mathlib.Omega.{arith}
-use Rattle.sets.proofs.Bools.{not-i, not-yes}
+use Rattle.sets.proofs.Bools.{not-i}
 use Rattle.sets.proofs.Causes.{cause-here}
 use Rattle.frames.specs.Reading.{faultSetCause, after}
 use Rattle.frames.proofs.TellLaws.{fault-set-at}

@@ -1,8 +1,9 @@
 -- The place is that of the script; past the list's end there is silence. Assumes nothing.
 use mathlib.Core.Path.{refl, sym}
 use lib.ListN.{List·getD-eq-default}
+use Rattle.quorum.specs.Words.{placeOf}
 use Rattle.propagation.specs.Run.{scriptOf}
-use Rattle.simulation.proofs.Places.{square-le, rounds-le, row-le}
+use Rattle.quorum.proofs.Words.{square-le, rounds-le, row-le}
 use native.Mathlib.Omega.{arith}
 use borrow.Author.Needs.{needs}
 use Rattle.simulation.proofs.playing.word.Statement.{statement}
@@ -33,11 +34,11 @@ shared-slice-read-result : tie.Need-shared-slice-read-result
 shared-slice-read-result c = search needs
 
 returns : tie.Need-returns
-unfolding scriptOf
+unfolding scriptOf placeOf
 returns c = refl
 
 returns-2 : tie.Need-returns-2
-unfolding scriptOf
+unfolding scriptOf placeOf
 returns-2 c = sym (List·getD-eq-default (c .before .args .words .now) 0 (c .if1 .left))
 
 pub word-spec : {M : Type 1} → statement M
