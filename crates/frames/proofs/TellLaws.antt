@@ -1,28 +1,29 @@
 -- What refuses a link or a word, and what an accepted frame keeps. Assumes nothing.
 use Prim.Native.Nat.{ℕ, _≤_, _<_}
-use mathlib.Core.Path.{_≡_, refl, sym, _∙_}
+use mathlib.Core.Path.{_≡_, refl, sym, ap, _∙_}
 use mathlib.Core.Logic.{⊎-elim}
 use mathlib.Core.List.{List, [], _∷_}
 use mathlib.Core.Bool.{Bool, true, false, not}
 use native.Mathlib.Omega.{arith}
 use lib.Dec.{eqb, leb}
+use lib.ListN.{getD}
 use borrow.Author.Tests.{eq-eqb, ne-eqb, lt-ltb, le-ltb, le-leb, lt-leb, leb-true, ltb-true}
 use Rattle.sets.specs.Tests.{_or_, pick}
 use Rattle.sets.specs.Causes.{_gives_, firstCause}
 use Rattle.sets.specs.Sets.{mem}
 use Rattle.sets.proofs.Bools.{and-l, and-r, and-yes, and-no-l, and-no-r, or-l, or-r, or-no, not-i, not-yes}
-use Rattle.sets.proofs.Causes.{cause-here, cause-later, cause-last}
+use Rattle.sets.proofs.Causes.{cause-here, cause-later, cause-last, given-decides}
 use Rattle.sets.proofs.Laws.{equal-or-not}
 use Rattle.quorum.specs.Quorum.{mostTerminals, inRange}
-use Rattle.quorum.specs.Words.{mostRounds, startSound}
+use Rattle.quorum.specs.Words.{mostRounds, startSound, placeOf}
 use Rattle.plan.specs.Plan.{hears}
 use Rattle.faults.specs.Check.{faultCauseOf}
 use Rattle.lines.specs.declared.Frame.{Frame}
 use Rattle.lines.specs.declared.Frame.the-variants.{Foreign, Unknown, Head, Link, FaultSet, Start, Message}
-use Rattle.frames.specs.declared.Stage.the-variants.{Links}
+use Rattle.frames.specs.declared.Stage.the-variants.{Links, Words}
 use Rattle.frames.specs.declared.Progress.{Progress}
 use Rattle.frames.specs.declared.told.Told.{Told}
-use Rattle.frames.specs.Reading.{isAt, roundsOf, linkCause, faultSetCause, isWord, causeIn, linked, after, wordsAfter}
+use Rattle.frames.specs.Reading.{isAt, roundsOf, linkCause, faultSetCause, isWord, messageCause, causeIn, linked, after, wordsAfter}
 use Rattle.frames.proofs.Accepted.{head-accepted, link-accepted, start-accepted}
 
 -- ---- a link
@@ -65,8 +66,7 @@ pub fault-set-at : (p : Progress) (s : ℕ) → isAt Links p ≡ true → faultS
 unfolding faultSetCause
 fault-set-at p s stage =
     cause-later _ _ _ (not-yes stage)
-    ∙ ⊎-elim (λ z. cause-last _ _ (not-yes (eq-eqb (faultCauseOf (p .plan) s) 0 z)) ∙ sym z)
-    (λ n. cause-here _ _ _ (not-i (ne-eqb (faultCauseOf (p .plan) s) 0 n))) (equal-or-not (faultCauseOf (p .plan) s) 0)
+    ∙ ⊎-elim (λ z. cause-last _ _ (not-yes (eq-eqb (faultCauseOf (p .plan) s) 0 z)) ∙ sym z) (given-decides (faultCauseOf (p .plan) s) []) (equal-or-not (faultCauseOf (p .plan) s) 0)
 
 -- ---- a word
 
@@ -114,6 +114,26 @@ module _ (p : Progress) (round from to value : ℕ) where
     ltb-true from (p .plan .n) (and-l _ _ (and-r _ _ (and-r _ _ h))),
     ltb-true to (p .plan .n) (and-l _ _ (and-r _ _ (and-r _ _ (and-r _ _ h)))),
   )
+
+module _ (p : Progress) (words : List ℕ) (round from to value : ℕ) (stage : isAt Words p ≡ true) where
+  pub no-word : isWord p round from to value ≡ false → messageCause p words round from to value ≡ 10
+  unfolding messageCause
+  no-word w = cause-later _ _ _ (not-yes stage) ∙ cause-here _ _ _ (not-i w)
+
+  -- a word whose place is taken, or free
+  module _ (w : isWord p round from to value ≡ true) (k : ℕ) (e : k ≡ placeOf (p .plan .n) round from to) where
+    at-place : getD words k 0 ≡ getD words (placeOf (p .plan .n) round from to) 0
+    at-place = ap (λ (j : ℕ). getD words j 0) e
+
+    pub word-again : (getD words k 0 ≡ 0 → ⊥) → messageCause p words round from to value ≡ 11
+    unfolding messageCause
+    word-again h =
+        cause-later _ _ _ (not-yes stage) ∙ cause-later _ _ _ (not-yes w) ∙ cause-here _ _ _ (not-i (ne-eqb _ 0 (λ z. h (at-place ∙ z))))
+
+    pub word-new : getD words k 0 ≡ 0 → messageCause p words round from to value ≡ 0
+    unfolding messageCause
+    word-new h =
+        cause-later _ _ _ (not-yes stage) ∙ cause-later _ _ _ (not-yes w) ∙ cause-last _ _ (not-yes (eq-eqb _ 0 (sym at-place ∙ h)))
 
 -- ---- a frame
 

@@ -3,16 +3,6 @@
 use terminal::Record;
 use terminal::State;
 
-fn digit(d: u8) -> u8 {
-    if d < 10 {
-        return 48 + d;
-    }
-    if d < 16 {
-        return 87 + d;
-    }
-    63
-}
-
 fn raw(line: &mut [u8], at: usize, b: u8) -> usize {
     if at < line.len() {
         line[at] = b;
@@ -26,8 +16,8 @@ pub(crate) fn end(line: &mut [u8], at: usize) -> usize {
 }
 
 pub(crate) fn byte(line: &mut [u8], at: usize, b: u8) -> usize {
-    let half = raw(line, at, digit(b / 16));
-    raw(line, half, digit(b % 16))
+    let half = raw(line, at, text::high_digit(b));
+    raw(line, half, text::low_digit(b))
 }
 
 pub(crate) fn pair(line: &mut [u8], at: usize, v: u16) -> usize {

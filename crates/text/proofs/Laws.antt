@@ -13,7 +13,7 @@ use lib.Seq.{take-all, take-append-le, take-append-seam, take-suc-set, sets, set
 use borrow.Author.Tests.{eq-eqb, ne-eqb, lt-ltb, le-ltb, ltb-false}
 use Rattle.sets.specs.Causes.{_gives_, firstCause}
 use Rattle.sets.proofs.Bools.{not-i, not-yes, pick-yes, pick-no, pick-case}
-use Rattle.sets.proofs.Causes.{cause-here, cause-later, cause-none}
+use Rattle.sets.proofs.Causes.{cause-here, cause-none, given-passes, given-decides}
 use Rattle.sets.proofs.Laws.{equal-or-not}
 use Rattle.text.specs.declared.Written.{Written}
 use Rattle.text.specs.Digits.{hexDigit, hexByte}
@@ -105,31 +105,24 @@ put-front bytes out len n e k =
     ∙ sym (put-fits (take len bytes) out fits)
 
 -- what is answered
-module _ (number : ℕ) where
-  own-number : (short : Bool) → (number ≡ 0 → ⊥) → firstCause (not (eqb number 0) gives number ∷ short gives 12 ∷ []) ≡ number
-  own-number short n = cause-here _ _ _ (not-i (ne-eqb number 0 n))
-
-  no-number : (short : Bool) → number ≡ 0 → firstCause (not (eqb number 0) gives number ∷ short gives 12 ∷ []) ≡ firstCause (short gives 12 ∷ [])
-  no-number short z = cause-later _ _ _ (not-yes (eq-eqb number 0 z))
-
 module _ (number len room : ℕ) where
   pub written-fits : len ≤ room → writtenOf number len room ≡ record { number = number; len = len }
   unfolding writtenOf firstCause
   written-fits h =
       let s : ltb room len ≡ false = le-ltb room len h in
       ap₂ (λ (x y : ℕ). record { number = x; len = y })
-      (⊎-elim (λ z. no-number number (ltb room len) z ∙ pick-no _ _ _ s ∙ sym z) (own-number number (ltb room len)) (equal-or-not number 0)) (pick-no _ _ _ s)
+      (⊎-elim (λ z. given-passes number (ltb room len gives 12 ∷ []) z ∙ pick-no _ _ _ s ∙ sym z) (given-decides number (ltb room len gives 12 ∷ [])) (equal-or-not number 0)) (pick-no _ _ _ s)
 
   pub written-short : room < len → number ≡ 0 → writtenOf number len room ≡ record { number = 12; len = 0 }
   unfolding writtenOf
   written-short h z =
       let s : ltb room len ≡ true = lt-ltb room len h in
-      ap₂ (λ (x y : ℕ). record { number = x; len = y }) (no-number number (ltb room len) z ∙ cause-here _ _ _ s) (pick-yes _ _ _ s)
+      ap₂ (λ (x y : ℕ). record { number = x; len = y }) (given-passes number (ltb room len gives 12 ∷ []) z ∙ cause-here _ _ _ s) (pick-yes _ _ _ s)
 
   pub written-refused : room < len → (number ≡ 0 → ⊥) → writtenOf number len room ≡ record { number = number; len = 0 }
   unfolding writtenOf
   written-refused h n =
-      ap₂ (λ (x y : ℕ). record { number = x; len = y }) (own-number number (ltb room len) n) (pick-yes _ _ _ (lt-ltb room len h))
+      ap₂ (λ (x y : ℕ). record { number = x; len = y }) (given-decides number (ltb room len gives 12 ∷ []) n) (pick-yes _ _ _ (lt-ltb room len h))
 
 -- what is answered lies within the list, which has as many bytes as before
 pub written-within : (number len room : ℕ) → writtenOf number len room .len ≤ room
@@ -144,10 +137,10 @@ counted w number n len room e a = a ∙ ap (λ (k : ℕ). writtenOf number k roo
 pub put-back : (number : ℕ) (text out : List ℕ) → writtenOf number (length text) (length out) .number ≡ 0
     → (number ≡ 0) × (take (writtenOf number (length text) (length out) .len) (putInto text out) ≡ text)
 unfolding writtenOf
-put-back number text out h = ⊎-elim go (λ n. absurd (n (sym (own-number number (ltb (length out) (length text)) n) ∙ h))) (equal-or-not number 0)
+put-back number text out h = ⊎-elim go (λ n. absurd (n (sym (given-decides number (ltb (length out) (length text) gives 12 ∷ []) n) ∙ h))) (equal-or-not number 0)
   where
     go : number ≡ 0 → (number ≡ 0) × (take (writtenOf number (length text) (length out) .len) (putInto text out) ≡ text)
     go z =
-        let c = cause-none (ltb (length out) (length text)) 12 [] (λ y. omega arith) (sym (no-number number (ltb (length out) (length text)) z) ∙ h) .0 in
+        let c = cause-none (ltb (length out) (length text)) 12 [] (λ y. omega arith) (sym (given-passes number (ltb (length out) (length text) gives 12 ∷ []) z) ∙ h) .0 in
         let k : length text ≤ length out = ltb-false (length out) (length text) c in
         (z, ap₂ take (pick-no _ _ _ c) (put-fits text out k ∙ sets-eq text out 0 (omega arith)) ∙ take-append-seam text (drop (0 + length text) out))

@@ -11,7 +11,7 @@ use Rattle.text.specs.declared.Written.{Written}
 
 -- ---- a text put together
 
--- it has room for so many bytes: a line of 13 for each of 20 terminals, and one line more
+-- it has room for so many bytes; a line of 13 for each of 20 terminals is 260
 abbrev pub textRoom : ℕ
 textRoom = 272
 

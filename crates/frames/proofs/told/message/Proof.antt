@@ -1,12 +1,11 @@
 use Prim.Native.Nat.{ℕ}
 use mathlib.Core.Path.{refl, sym, ap, _∙_}
 use native.Mathlib.Omega.{arith}
-use lib.ListN.{getD, set}
-use borrow.Author.Tests.{eq-eqb, ne-eqb}
-use Rattle.sets.proofs.Bools.{not-i, not-yes, pick-yes, pick-no}
-use Rattle.sets.proofs.Causes.{cause-here, cause-later, cause-last}
+use lib.ListN.{set}
+use Rattle.sets.proofs.Bools.{not-i, pick-yes, pick-no}
+use Rattle.sets.proofs.Causes.{cause-here}
 use Rattle.frames.specs.Reading.{messageCause}
-use Rattle.frames.proofs.TellLaws.{word-parts}
+use Rattle.frames.proofs.TellLaws.{word-parts, no-word, word-again, word-new}
 -- The cause is the definition's by the tests that led there; the one store is where the cause is 0. Assumes nothing.
 use borrow.Author.Needs.{needs}
 use Rattle.frames.proofs.told.message.Statement.{statement}
@@ -28,10 +27,7 @@ slice-read-if3 : tie.Need-slice-read-if3
 slice-read-if3 c = search needs
 
 returns : tie.Need-returns
-unfolding messageCause
-returns c = let there = rw (c .before .before .place-of .ensures .0) at (ne-eqb (getD (c .before .before .before .before .before .before .before .before .before .args .words .now) (c .before .before .place-of .result) 0) 0 (c .if3 .taken)) in
-    let word = not-yes (sym (c .before .before .before .before .is-word .ensures) ∙ c .before .before .before .if2 .taken) in
-    (sym (cause-later _ _ _ (not-yes (sym (c .before .before .before .before .before .before .is-at .ensures) ∙ c .before .before .before .before .before .if1 .taken)) ∙ cause-later _ _ _ word ∙ cause-here _ _ _ (not-i there)), sym (pick-no _ _ _ refl))
+returns c = (sym (word-again _ _ _ _ _ _ (sym (c .before .before .before .before .before .before .is-at .ensures) ∙ c .before .before .before .before .before .if1 .taken) (sym (c .before .before .before .before .is-word .ensures) ∙ c .before .before .before .if2 .taken) _ (c .before .before .place-of .ensures .0) (c .if3 .taken)), sym (pick-no _ _ _ refl))
 
 mul-words : tie.Need-mul-words
 mul-words c = search needs
@@ -43,16 +39,13 @@ same-length : tie.Need-same-length
 same-length c = search needs
 
 returns-2 : tie.Need-returns-2
-unfolding messageCause
-returns-2 c = let free = rw (c .before .before .place-of .ensures .0) at (eq-eqb (getD (c .before .before .before .before .before .before .before .before .before .args .words .now) (c .before .before .place-of .result) 0) 0 (c .if3 .left)) in
-    let word = not-yes (sym (c .before .before .before .before .is-word .ensures) ∙ c .before .before .before .if2 .taken) in (
-      sym (cause-later _ _ _ (not-yes (sym (c .before .before .before .before .before .before .is-at .ensures) ∙ c .before .before .before .before .before .if1 .taken)) ∙ cause-later _ _ _ word ∙ cause-last _ _ (not-yes free)),
-      ap (λ (k : ℕ). set (c .before .before .before .before .before .before .before .before .before .args .words .now) k (c .before .before .before .before .before .before .before .before .before .args .value)) (c .before .before .place-of .ensures .0) ∙ sym (pick-yes _ _ _ refl),
-    )
+returns-2 c = (
+  sym (word-new _ _ _ _ _ _ (sym (c .before .before .before .before .before .before .is-at .ensures) ∙ c .before .before .before .before .before .if1 .taken) (sym (c .before .before .before .before .is-word .ensures) ∙ c .before .before .before .if2 .taken) _ (c .before .before .place-of .ensures .0) (c .if3 .left)),
+  ap (λ (k : ℕ). set (c .before .before .before .before .before .before .before .before .before .args .words .now) k (c .before .before .before .before .before .before .before .before .before .args .value)) (c .before .before .place-of .ensures .0) ∙ sym (pick-yes _ _ _ refl),
+)
 
 returns-3 : tie.Need-returns-3
-unfolding messageCause
-returns-3 c = (sym (cause-later _ _ _ (not-yes (sym (c .before .before .before .is-at .ensures) ∙ c .before .before .if1 .taken)) ∙ cause-here _ _ _ (not-i (sym (c .before .is-word .ensures) ∙ c .if2 .left))), sym (pick-no _ _ _ refl))
+returns-3 c = (sym (no-word _ _ _ _ _ _ (sym (c .before .before .before .is-at .ensures) ∙ c .before .before .if1 .taken) (sym (c .before .is-word .ensures) ∙ c .if2 .left)), sym (pick-no _ _ _ refl))
 
 returns-4 : tie.Need-returns-4
 unfolding messageCause
