@@ -6,7 +6,7 @@ ghost use lib.ListN.{length, set};
 ghost use Rattle.sets.specs.Tests.{pick};
 ghost use Rattle.lines.specs.declared.Frame.the-variants.{Head, Link, FaultSet};
 ghost use Rattle.quorum.specs.Quorum.{mostTerminals};
-ghost use Rattle.quorum.specs.Words.{mostRounds, mostWords, startSound, placeOf};
+ghost use Rattle.quorum.specs.Words.{mostRounds, mostWords, placeOf};
 ghost use Rattle.frames.specs.Reading.{roundsOf, started, headCause, linkCause, faultSetCause, startCause, isWord, messageCause, causeIn, linked, after, wordsAfter};
 use super::Progress;
 use super::Stage;
@@ -155,21 +155,12 @@ fn rounds_of(rounds: Rounds) -> u8
     }
 }
 
-fn start_sound(value: u16, rounds: u8) -> bool
-    ensures { λ r. ⌜ r ≡ startSound value rounds ⌝ }
-{
-    if value == 0 {
-        return false;
-    }
-    rounds <= 40
-}
-
 fn start(p: Progress, value: u16, rounds: u8) -> Told
     ensures { λ r. ⌜ (r .cause ≡ startCause p value rounds) × (r .cause ≡ 0 → r .progress ≡ started p value rounds) ⌝ }
 {
     let plan = p.plan;
     if is_at(Stage::Faults, p) {
-        if start_sound(value, rounds) {
+        if quorum::start_sound(value, rounds) {
             return Told {
                 cause: 0,
                 progress: Progress {

@@ -1,5 +1,5 @@
 -- The place of a word lies in a list of `mostWords`: 39 times 400, 19 times 20 and 19 lie below 16,000. Assumes nothing.
-use Prim.Native.Nat.{ℕ, _+_, _-_, _*_, _≤_, _<_}
+use Prim.Native.Nat.{ℕ, _-_, _*_, _≤_, _<_}
 use native.Mathlib.Nat.{mul-le-mul}
 use native.Mathlib.Omega.{arith}
 use Rattle.quorum.specs.Quorum.{mostTerminals}

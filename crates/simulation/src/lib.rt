@@ -7,7 +7,6 @@ ghost use lib.ListN.{length};
 ghost use Rattle.faults.specs.Check.{faultNumberOf};
 ghost use Rattle.simulation.specs.Turns.{firstTurn, CanPlay, leftAfter};
 ghost use Rattle.simulation.specs.Answer.{numberOf, listsFit, runCause, turnsOf, recordsAfter, arrayAfter, Demand3Holds};
-ghost use Rattle.quorum.specs.Words.{startSound};
 use faults::FaultSetCheck;
 use plan::Plan;
 use terminal::Record;
@@ -94,16 +93,6 @@ fn refused(c: FaultSetCheck) -> Outcome
     }
 }
 
-// A value, and 0 to 40 rounds.
-fn start_sound(value: u16, rounds: u8) -> bool
-    ensures { λ r. ⌜ r ≡ startSound value rounds ⌝ }
-{
-    if value == 0 {
-        return false;
-    }
-    rounds <= 40
-}
-
 // The lists fit: a word for each round, sender and hearer, and a record for each terminal.
 fn lists_fit(p: Plan, rounds: u8, words: usize, places: usize) -> bool
     requires { ⌜ (p .n ≤ 20) × (rounds ≤ 40) ⌝ }
@@ -122,7 +111,7 @@ fn first_cause(p: Plan, faulty: u32, value: u16, rounds: u8, words: usize, place
 {
     let fault = refused(faults::check_fault_set(p, faulty));
     if let Outcome::Played = fault {
-        if start_sound(value, rounds) {
+        if quorum::start_sound(value, rounds) {
             if lists_fit(p, rounds, words, places) {
                 return Outcome::Played;
             }

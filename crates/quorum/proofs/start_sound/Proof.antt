@@ -2,9 +2,9 @@
 use mathlib.Core.Path.{sym}
 use borrow.Author.Tests.{eq-eqb, ne-eqb}
 use Rattle.sets.proofs.Bools.{and-yes, and-no-l, not-i, not-yes}
 use Rattle.quorum.specs.Words.{startSound}
-use Rattle.simulation.proofs.start_sound.Statement.{statement}
-use Rattle.simulation.proofs.start_sound.Tie as tie
+use Rattle.quorum.proofs.start_sound.Statement.{statement}
+use Rattle.quorum.proofs.start_sound.Tie as tie
 
 returns : tie.Need-returns
 unfolding startSound
