@@ -41,8 +41,8 @@ fn main() -> ExitCode {
     let room = std::env::temp_dir().join(format!("hulmayek-{}", std::process::id()));
     std::fs::create_dir_all(&room).expect("a folder for the test's files");
     let mut checks = Checks::new(top, room.clone());
-    // The programs are built first, so that no check sees the waiting.
-    checks.call(&["check", "plans/a.txt"]);
+    // All programs are built first, so that no check sees the waiting.
+    checks.call(&["explain", "plans/a.txt"]);
     for (name, check) in TOPICS {
         if wanted.is_empty() || wanted.iter().any(|one| one == name) {
             check(&mut checks);
