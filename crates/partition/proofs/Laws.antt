@@ -17,7 +17,8 @@ use Rattle.closure.specs.Verdict.{Ahead, defeats, Found, none, found, bestBelow
 use Rattle.closure.proofs.Witness.{IsBest, best-below, verdict-fail, witness-accepted}
 use Rattle.partition.specs.declared.Judgement.the-variants.{Pass, Fail}
 use Rattle.partition.specs.declared.search.Best.{Best}
-use Rattle.partition.specs.Answer.{Answer, refused, answered, judged, answerOf, Reply, replyOf}
+use Rattle.partition.specs.Answer.{answered, Reply, replyOf}
+use Rattle.closure.specs.Answer.{Answer, refused, judged, answerOf}
 use Rattle.partition.specs.Search.{StandsFor}
 
 -- ---- the search's memory read as a verdict

@@ -5,8 +5,7 @@ use Rattle.sets.specs.Tests.{pick}
 use Rattle.plan.specs.declared.Plan.{Plan}
 use Rattle.plan.specs.Plan.{causeOf}
 use Rattle.closure.specs.Verdict as theory
-pub use Rattle.closure.specs.Answer.{Answer, refused}
-unfoldable pub use Rattle.closure.specs.Answer.{judged, answerOf}
+use Rattle.closure.specs.Answer.{Answer, refused}
 use Rattle.partition.specs.declared.Judgement.{Judgement}
 use Rattle.partition.specs.declared.Judgement.the-variants as judgement
 use Rattle.partition.specs.declared.WitnessCheck.{WitnessCheck}

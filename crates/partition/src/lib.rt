@@ -8,7 +8,8 @@ ghost use mathlib.Core.Path.{_≡_};
 ghost use mathlib.Core.Bool.{true};
 ghost use Rattle.plan.specs.Plan.{causeOf};
 ghost use Rattle.closure.specs.Verdict.{verdict, accepts};
-ghost use Rattle.partition.specs.Answer.{answered, judged, answerOf, replied, replyOf};
+ghost use Rattle.partition.specs.Answer.{answered, replied, replyOf};
+ghost use Rattle.closure.specs.Answer.{judged, answerOf};
 use plan::Plan;
 use plan::Soundness;
 

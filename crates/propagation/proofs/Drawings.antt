@@ -13,9 +13,9 @@ use Rattle.closure.specs.Verdict.{defeats, better, bestBelow, verdictOf, verdic
 use Rattle.closure.specs.Answer.{judged, answerOf}
 use Rattle.propagation.specs.Run.{startRecord, heardFrom, recordIn, played, sites, site}
 use Rattle.sets.specs.Tables.{table}
-use Rattle.propagation.specs.Drawings.{linked, rowsFrom, drawing, setOf, ofAnswer, ofState, answer, linksF, linksH, chain, rows, Row}
+use Rattle.propagation.specs.Drawings.{linked, drawing, setOf, ofAnswer, ofState, answer, linksF, linksH, chain, rows, Row}
 
 -- the definitions answer every row as the document does
 pub drawings : map (λ (r : Row). answer (r .asked)) rows ≡ map (λ (r : Row). r .expected) rows
-unfolding _and_ _or_ _implies_ pick firstCause mem count all mask enough within size firstWord noted hasNoted certified lesser least candidate choice taking stepFrom step inRange hearsSoundly heardBy hears rowSound linksSound causeOf hearsEnough isBounded isFaultSet joins grow reachedAfter reached cutOff defeats better bestBelow verdictOf verdict judged answerOf table startRecord saysIn heardFrom recordIn played sites site linked rowsFrom drawing setOf ofAnswer ofState answer linksF linksH chain rows
+unfolding _and_ _or_ _implies_ pick firstCause mem count all mask enough within size firstWord noted hasNoted certified lesser least candidate choice taking stepFrom step inRange hearsSoundly heardBy hears rowSound linksSound causeOf hearsEnough isBounded isFaultSet joins grow reachedAfter reached cutOff defeats better bestBelow verdictOf verdict judged answerOf table startRecord saysIn heardFrom recordIn played sites site linked drawing setOf ofAnswer ofState answer linksF linksH chain rows
 drawings = refl

@@ -5,7 +5,9 @@ use mathlib.Core.Bool.{Bool, false}
 use mathlib.Core.List.{List, [], _∷_, _++_}
 use lib.Dec.{eqb}
 use Rattle.sets.specs.Tests.{_and_, _or_, pick}
-use Rattle.sets.specs.Sets.{mask}
+use Rattle.sets.specs.Tables.{table}
+use Rattle.sets.specs.Sets.{Terminal, Set, mask}
+use Rattle.quorum.specs.Quorum.{mostTerminals}
 use Rattle.terminal.specs.declared.State.{State}
 use Rattle.terminal.specs.declared.State.the-variants.{Waiting, Taken}
 use Rattle.plan.specs.declared.Plan.{Plan}
@@ -17,20 +19,16 @@ infix 90 _▷_
 pub data Link : Type 0 where
   _▷_ : ℕ → ℕ → Link
 
-unfoldable pub linked : List Link → ℕ → ℕ → Bool
+unfoldable pub linked : List Link → (a b : Terminal) → Bool
 linked [] a b = false
 linked (from ▷ to ∷ links) a b = (eqb from a and eqb to b) or linked links a b
 
-unfoldable pub rowsFrom : ℕ → ℕ → List Link → List ℕ
-rowsFrom zero b links = []
-rowsFrom (suc k) b links = mask 20 (λ a. linked links a b) ∷ rowsFrom k (suc b) links
-
 -- a drawing: n, f, its links; the source is 0 throughout
-unfoldable pub drawing : ℕ → ℕ → List Link → Plan
-drawing n f links = record { n = n; source = 0; f = f; rows = rowsFrom 20 0 links }
+unfoldable pub drawing : (n f : ℕ) → List Link → Plan
+drawing n f links = record { n = n; source = 0; f = f; rows = table mostTerminals (λ b. mask mostTerminals (λ a. linked links a b)) }
 
 -- a set by its members
-unfoldable pub setOf : List ℕ → ℕ
+unfoldable pub setOf : List Terminal → Set
 setOf [] = 0
 setOf (i ∷ s) = 2 ^ i + setOf s
 

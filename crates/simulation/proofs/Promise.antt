@@ -27,7 +27,7 @@ use Rattle.sets.proofs.Tables.{table-at}
 use Rattle.faults.proofs.Laws.{fault-is}
 use Rattle.simulation.specs.declared.Turn.{Turn}
 use Rattle.simulation.specs.Turns.{firstTurn, playedAfter, CanPlay, leftAfter}
-use Rattle.simulation.specs.Answer.{runCause, turnsOf, recordsAfter, arrayAfter, Demand3Holds, Defeated, noWords}
+use Rattle.simulation.specs.Answer.{runCause, turnsOf, recordsAfter, arrayAfter, Demand3Holds, Defeated, silentWords}
 use Rattle.quorum.specs.Words.{startSound}
 use Rattle.simulation.proofs.Causes.{fits, cause-played, accepted-run, turns-played, turns-refused}
 use Rattle.simulation.proofs.Meaning.{walk-is, walk-array, turn-placed}
@@ -155,7 +155,7 @@ zeros (suc k) (suc j) = zeros k j
 
 module _ (p : Plan) (c : causeOf p ≡ 0) (value : ℕ) (v : 1 ≤ value) (failed : verdict p .passed ≡ false) (before : List Record) (places : length before ≡ p .n) where
   abbrev words : List ℕ
-  words = noWords p (p .n - 1)
+  words = silentWords p (p .n - 1)
 
   abbrev listed : ℕ
   listed = verdict p .f

@@ -78,5 +78,5 @@ pub record Defeated (p : Plan) (value : ℕ) (words : List ℕ) (before : List R
       → getD (recordsAfter p (verdict p .f) value (p .n - 1) words before) b start .state ≡ Waiting
 
 -- the words of silence, for a number of rounds
-abbrev pub noWords : Plan → ℕ → List ℕ
-noWords p rounds = replicate (rounds * (p .n * p .n)) 0
+abbrev pub silentWords : Plan → ℕ → List ℕ
+silentWords p rounds = replicate (rounds * (p .n * p .n)) 0

@@ -6,7 +6,7 @@ use native.Mathlib.Omega.{arith}
 use lib.Dec.{eqb}
 use lib.ListN.{length}
 use Rattle.sets.proofs.Bools.{pick-case}
-use Rattle.partition.specs.Answer.{Answer, answerOf}
+use Rattle.closure.specs.Answer.{Answer, answerOf}
 use Rattle.frames.specs.Reading.{planReading, fileRead}
 use Rattle.output.specs.OnFile.{refusalLine, answerOn}
 use Rattle.output.proofs.Laws.{refusal-length, on-length, whole-text}

@@ -15,7 +15,8 @@ use Rattle.closure.proofs.Growth.{reached-below}
 use Rattle.closure.proofs.Witness.{cut-below}
 use Rattle.partition.specs.declared.Judgement.{Judgement}
 use Rattle.partition.specs.declared.Judgement.the-variants.{Pass, Fail, WrongRange, WrongLink}
-use Rattle.partition.specs.Answer.{Answer, answerOf, answered}
+use Rattle.partition.specs.Answer.{answered}
+use Rattle.closure.specs.Answer.{Answer, answerOf}
 use Rattle.partition.proofs.Laws.{Failed, answer-fails}
 use Rattle.frames.specs.declared.FileRead.{FileRead}
 use Rattle.text.specs.Digits.{hexByte, hexPair, hexTriple}

@@ -4,7 +4,7 @@ use mathlib.Core.List.{List, [], _∷_, _++_}
 use lib.Dec.{eqb}
 use Rattle.sets.specs.Tests.{pick}
 use Rattle.sets.specs.Sets.{Set}
-use Rattle.partition.specs.Answer as partition
+use Rattle.closure.specs.Answer.{Answer, answerOf}
 use Rattle.text.specs.Digits.{hexByte, hexTriple}
 use Rattle.frames.specs.declared.FileRead.{FileRead}
 use Rattle.frames.specs.Reading.{planReading, fileRead}
@@ -15,12 +15,12 @@ unfoldable pub verdictLine : (failed : ℕ) (f l r : Set) → List ℕ
 verdictLine failed f l r = hexByte 129 ++ hexByte failed ++ hexTriple f ++ hexTriple l ++ hexTriple r ++ (10 ∷ [])
 
 -- the verdict's line, or the refusal of a record that is no plan
-unfoldable pub answerText : partition.Answer → List ℕ
+unfoldable pub answerText : Answer → List ℕ
 answerText a = pick (eqb (a .number) 0) (verdictLine (a .failed) (a .f) (a .l) (a .r)) (refusalLine (a .number) 0)
 
 -- the verdict on the file's plan
 unfoldable pub verdictOn : (read : FileRead) → List ℕ
-verdictOn read = textOn read (answerText (partition.answerOf (read .progress .plan)))
+verdictOn read = textOn read (answerText (answerOf (read .progress .plan)))
 
 unfoldable pub verdictText : (file : List ℕ) → List ℕ
 verdictText file = verdictOn (fileRead (planReading file))
