@@ -1,6 +1,6 @@
 -- The drawings A to J of document 01, and its remark on f (n - 1 is read, n is refused), as rows of one table: a question, and the answer that the
 -- document gives. Assumes nothing.
-use Prim.Native.Nat.{ℕ, zero, suc, _+_, _^_}
+use Prim.Native.Nat.{ℕ, _+_, _^_}
 use mathlib.Core.Bool.{Bool, false}
 use mathlib.Core.List.{List, [], _∷_, _++_}
 use lib.Dec.{eqb}
