@@ -1,5 +1,6 @@
 //! The programs against this implementation, byte for byte.
 
+use crate::characters;
 use crate::faults::Fault;
 use crate::generate::{case, Kind};
 use crate::output::{rewritten_text, run_text, verdict_text};
@@ -130,12 +131,17 @@ pub fn compare(programs: &[&str; 3], seed: u64, count: u64) -> bool {
     mismatches == 0
 }
 
-/// How many cases one program got, and how many differed.
+/// How many cases one program got, and how many differed. The seeded ones come first, then every
+/// byte in the place of a digit.
 fn compare_one(tested: &Tested, seed: u64, count: u64) -> (u64, u64) {
     let (mut cases, mut mismatches) = (0, 0);
-    for index in 0..count {
+    for index in 0..count + characters::FILES {
         cases += 1;
-        let input = case(tested.kind, seed, index);
+        let input = if index < count {
+            case(tested.kind, seed, index)
+        } else {
+            characters::file(tested.kind, index - count)
+        };
         if let Some(reason) = difference(tested, &input) {
             report(tested.name, seed, index, &input, &reason);
             mismatches += 1;

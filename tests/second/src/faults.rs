@@ -27,9 +27,12 @@ pub enum Fault {
     LinkTwiceAccepted,
     Round41Accepted,
     SourceInBadSetAccepted,
+    CapitalsAccepted,
+    CharactersExchanged,
+    CharacterMissing,
 }
 
-pub const PLANTED: [(Fault, &str); 16] = [
+pub const PLANTED: [(Fault, &str); 19] = [
     (Fault::VotesWithoutOne, "f instead of f+1 votes in the step"),
     (Fault::ClosureWithoutOne, "f instead of f+1 in the closure"),
     (
@@ -67,6 +70,9 @@ pub const PLANTED: [(Fault, &str); 16] = [
         Fault::SourceInBadSetAccepted,
         "bad set naming the source accepted",
     ),
+    (Fault::CapitalsAccepted, "capital digits accepted"),
+    (Fault::CharactersExchanged, "digits b and c exchanged"),
+    (Fault::CharacterMissing, "digit f refused"),
 ];
 
 /// Larger sites cost time in the verdict and show no fault that smaller ones hide.

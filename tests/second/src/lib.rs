@@ -4,6 +4,7 @@
 //! it is compared with: sets are ordered sets of terminal numbers, files are split into
 //! lines, bad sets are listed by size, the closure is a work list.
 
+pub mod characters;
 pub mod compare;
 pub mod damage;
 pub mod draft;

@@ -203,13 +203,21 @@ fn frame_bytes(piece: &[u8], fault: Fault) -> Option<Vec<u8>> {
     }
     digits
         .chunks(2)
-        .map(|pair| Some(digit(pair[0])? * 16 + digit(pair[1])?))
+        .map(|pair| Some(digit(pair[0], fault)? * 16 + digit(pair[1], fault)?))
         .collect()
 }
 
-fn digit(character: u8) -> Option<u8> {
-    let place = b"0123456789abcdef"
-        .iter()
-        .position(|&known| known == character)?;
+/// A digit's value is its place among the sixteen; no other character is one.
+fn digit(character: u8, fault: Fault) -> Option<u8> {
+    let sixteen: &[u8] = match fault {
+        Fault::CharactersExchanged => b"0123456789acbdef",
+        Fault::CharacterMissing => b"0123456789abcde",
+        _ => b"0123456789abcdef",
+    };
+    let character = match fault {
+        Fault::CapitalsAccepted => character.to_ascii_lowercase(),
+        _ => character,
+    };
+    let place = sixteen.iter().position(|&known| known == character)?;
     Some(place as u8)
 }

@@ -3,6 +3,7 @@
 //! A call is its kind, the length of the list that it lends, the length of its body (both two
 //! bytes, high byte first) and the body. Each call has one line of digits.
 
+use crate::characters;
 use crate::faults::Fault;
 use crate::generate::{case, step_case, Kind, StepCase};
 use crate::output::{digits, refusal_line, run_answer, verdict_answer};
@@ -59,7 +60,7 @@ pub fn write(calls_file: &Path, lines_file: &Path) -> io::Result<()> {
 type Maker = fn(u64, u64) -> Call;
 
 /// Every kind of call, and how many of it.
-const KINDS: [(Maker, u64); 10] = [
+const KINDS: [(Maker, u64); 12] = [
     (verdict_call, 600),
     (run_call, 600),
     (read_call, 300),
@@ -70,6 +71,8 @@ const KINDS: [(Maker, u64); 10] = [
     (site_call, 300),
     (small_site_call, 500),
     (lent_call, 300),
+    (verdict_character_call, characters::FILES),
+    (run_character_call, characters::FILES),
 ];
 
 /// The calls of each kind. Of the long files a few are enough.
@@ -140,35 +143,51 @@ fn room_for(rng: &mut Rng, text: usize, most: usize) -> usize {
     room.min(most)
 }
 
-fn text_call(
-    kind: u8,
-    seed: u64,
-    index: u64,
-    file: Vec<u8>,
-    answer: Result<Vec<u8>, Refusal>,
-) -> Call {
+/// A file for a program's text function, with as much room as is asked for a text of that length.
+fn text_call(kind: Kind, file: Vec<u8>, room: impl FnOnce(u8, usize) -> usize) -> Call {
+    let (letter, answer) = match kind {
+        Kind::Verdict => (b'v', verdict_answer(&file, Fault::None)),
+        Kind::Run => (b'r', run_answer(&file, Fault::None)),
+    };
     let text = answer
         .as_ref()
         .map_or_else(|&refusal| refusal_line(refusal).len(), Vec::len);
-    let lent = room_for(&mut rng_for(seed, kind, index), text, 400);
+    let lent = room(letter, text);
     Call {
-        kind,
+        kind: letter,
         lent,
         body: file,
         line: answered(answer, lent),
     }
 }
 
+fn case_call(kind: Kind, seed: u64, index: u64) -> Call {
+    text_call(kind, case(kind, seed, index), |letter, text| {
+        room_for(&mut rng_for(seed, letter, index), text, 400)
+    })
+}
+
 fn verdict_call(seed: u64, index: u64) -> Call {
-    let file = case(Kind::Verdict, seed, index);
-    let answer = verdict_answer(&file, Fault::None);
-    text_call(b'v', seed, index, file, answer)
+    case_call(Kind::Verdict, seed, index)
 }
 
 fn run_call(seed: u64, index: u64) -> Call {
-    let file = case(Kind::Run, seed, index);
-    let answer = run_answer(&file, Fault::None);
-    text_call(b'r', seed, index, file, answer)
+    case_call(Kind::Run, seed, index)
+}
+
+/// Every byte in the place of a digit, with room for the whole answer.
+fn verdict_character_call(_: u64, index: u64) -> Call {
+    text_call(
+        Kind::Verdict,
+        characters::file(Kind::Verdict, index),
+        |_, text| text,
+    )
+}
+
+fn run_character_call(_: u64, index: u64) -> Call {
+    text_call(Kind::Run, characters::file(Kind::Run, index), |_, text| {
+        text
+    })
 }
 
 fn write_call(seed: u64, index: u64) -> Call {

@@ -86,17 +86,19 @@ pub fn find(
 }
 
 fn whole_file(file: &[u8], cause: u8) -> Option<Reason> {
-    let has = |kind: u8| {
+    let has = |kind: &[u8]| {
         let mut lines = file.split(|&byte| byte == b'\n');
-        lines.any(|line| line.starts_with(&[b'0', b'0' + kind]))
+        lines.any(|line| line.starts_with(kind))
     };
     match cause {
         1 if file.is_empty() => plainly("the file is empty"),
         1 if file.len() > LONGEST_FILE => plainly(format!(
             "the file is too long: {LONGEST_FILE} bytes are allowed"
         )),
-        3 if !has(3) => plainly("a run needs its bad set, a line 03, and there is none"),
-        3 if !has(4) => plainly("a run needs its value and rounds, a line 04, and there is none"),
+        3 if !has(b"03") => plainly("a run needs its bad set, a line 03, and there is none"),
+        3 if !has(b"04") => {
+            plainly("a run needs its value and rounds, a line 04, and there is none")
+        }
         _ => None,
     }
 }
