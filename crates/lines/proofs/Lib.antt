@@ -1,2 +1,3 @@
--- The laws of digits that the proofs of one line's frame cite.
-mod DigitLaws
+-- The laws of a line's bytes and of its frame that the proofs of this crate cite.
+mod ByteLaws
+mod FrameLaws

@@ -1,9 +1,11 @@
-// One line's frame. A line is taken by its digits: byte i is digits 2i and 2i + 1.
+// One line's frame. A line is hexadecimal digits, two a byte, the high one first.
 ghost use mathlib.Core.Path.{_≡_};
-ghost use Prim.Native.Nat.{_+_, _*_, _<_};
-ghost use lib.ListN.{length};
-ghost use Rattle.lines.specs.Digits.{isDigit, digitOf, byteAt, wellFormed, allDigits};
-ghost use Rattle.lines.specs.Frames.{pairAt, tripleAt, headOf, linkOf, faultSetOf, startOf, messageOf, kindOf, frameOf};
+ghost use mathlib.Core.Bool.{true};
+ghost use Prim.Native.Nat.{ℕ, _+_, _<_};
+ghost use lib.ListN.{length, getD};
+ghost use Rattle.lines.specs.Bytes.{byteAt, wellFormed};
+ghost use Rattle.lines.specs.Frames.{pairAt, tripleAt, headOf, linkOf, faultSetOf, startOf, messageOf, kindOf, knownFrame, frameOf};
+use digits::Digit;
 
 // What a line says. Foreign is no whole number of hexadecimal bytes; Unknown is a kind that the
 // program lacks, or one of the wrong length.
@@ -23,159 +25,147 @@ pub enum Rounds {
     Left,
 }
 
-fn is_digit(b: u8) -> bool
-    ensures { λ r. ⌜ r ≡ isDigit b ⌝ }
-{
-    if b < 48 {
-        return false;
-    }
-    if b <= 57 {
-        return true;
-    }
-    if b < 97 {
-        return false;
-    }
-    b <= 102
+// No frame has more bytes than this.
+const MOST: usize = 6;
+
+// A line's first bytes, 0 past its end. It is whole if it is bytes and nothing else.
+struct Bytes {
+    whole: bool,
+    first: [u8; MOST],
 }
 
-// The value of a digit, 0 for any other byte.
-fn digit(b: u8) -> u8
-    ensures { λ r. ⌜ r ≡ digitOf b ⌝ }
-    ensures { λ r. ⌜ r < 16 ⌝ }
+// Each digit goes into its byte from the right, so that the first one becomes the high one.
+fn bytes_of(line: &[u8]) -> Bytes
+    ensures { λ r. ⌜ r .whole ≡ wellFormed (now (line .entry)) ⌝ }
+    ensures { λ r. ⌜ (r .whole ≡ true → (k : ℕ) → k < 6 → getD (r .first) k 0 ≡ byteAt (now (line .entry)) k) ⌝ }
 {
-    if b < 48 {
-        return 0;
+    let mut first = [0u8; MOST];
+    if line.len() < 1 {
+        return Bytes {
+            whole: false,
+            first: first,
+        };
     }
-    if b <= 57 {
-        return b - 48;
+    if line.len() % 2 == 1 {
+        return Bytes {
+            whole: false,
+            first: first,
+        };
     }
-    if b < 97 {
-        return 0;
-    }
-    if b <= 102 {
-        return b - 87;
-    }
-    0
-}
-
-fn byte_at(line: &[u8], i: usize) -> u8
-    requires { ⌜ 2 * i + 1 < length (now line) ⌝ }
-    ensures { λ r. ⌜ r ≡ byteAt (now (line .entry)) i ⌝ }
-{
-    16 * digit(line[2 * i]) + digit(line[2 * i + 1])
-}
-
-fn pair_at(line: &[u8], i: usize) -> u16
-    requires { ⌜ 2 * i + 3 < length (now line) ⌝ }
-    ensures { λ r. ⌜ r ≡ pairAt (now (line .entry)) i ⌝ }
-{
-    256 * (byte_at(line, i) as u16) + (byte_at(line, i + 1) as u16)
-}
-
-fn triple_at(line: &[u8], i: usize) -> u32
-    requires { ⌜ 2 * i + 5 < length (now line) ⌝ }
-    ensures { λ r. ⌜ r ≡ tripleAt (now (line .entry)) i ⌝ }
-{
-    65536 * (byte_at(line, i) as u32) + (pair_at(line, i + 1) as u32)
-}
-
-fn all_digits(line: &[u8]) -> bool
-    ensures { λ r. ⌜ r ≡ allDigits (now (line .entry)) ⌝ }
-{
     let mut i = 0;
     while i < line.len() {
-        if is_digit(line[i]) {
-            i += 1;
-        } else {
-            return false;
+        match digits::digit_of(line[i]) {
+            Digit::Value(v) => {
+                let at = i / 2;
+                if at < MOST {
+                    first[at] = 16 * (first[at] % 16) + v;
+                }
+                i += 1;
+            }
+            Digit::Foreign => return Bytes {
+                whole: false,
+                first: first,
+            },
         }
     }
-    true
+    Bytes {
+        whole: true,
+        first: first,
+    }
 }
 
-fn well_formed(line: &[u8]) -> bool
-    ensures { λ r. ⌜ r ≡ wellFormed (now (line .entry)) ⌝ }
+fn pair_at(bytes: &[u8], i: usize) -> u16
+    requires { ⌜ i + 1 < length (now bytes) ⌝ }
+    ensures { λ r. ⌜ r ≡ pairAt (now (bytes .entry)) i ⌝ }
 {
-    if line.len() < 1 {
-        return false;
-    }
-    if line.len() % 2 == 0 {
-        return all_digits(line);
-    }
-    false
+    256 * (bytes[i] as u16) + (bytes[i + 1] as u16)
 }
 
-fn head_of(line: &[u8]) -> Frame
-    ensures { λ r. ⌜ r ≡ headOf (now (line .entry)) ⌝ }
+fn triple_at(bytes: &[u8], i: usize) -> u32
+    requires { ⌜ i + 2 < length (now bytes) ⌝ }
+    ensures { λ r. ⌜ r ≡ tripleAt (now (bytes .entry)) i ⌝ }
 {
-    if line.len() == 8 {
-        return Frame::Head(byte_at(line, 1), byte_at(line, 2), byte_at(line, 3));
-    }
-    Frame::Unknown
+    65536 * (bytes[i] as u32) + (pair_at(bytes, i + 1) as u32)
 }
 
-fn link_of(line: &[u8]) -> Frame
-    ensures { λ r. ⌜ r ≡ linkOf (now (line .entry)) ⌝ }
+fn head_of(bytes: &[u8]) -> Frame
+    ensures { λ r. ⌜ r ≡ headOf (now (bytes .entry)) ⌝ }
 {
-    if line.len() == 6 {
-        return Frame::Link(byte_at(line, 1), byte_at(line, 2));
+    if bytes.len() == 4 {
+        return Frame::Head(bytes[1], bytes[2], bytes[3]);
     }
     Frame::Unknown
 }
 
-fn fault_set_of(line: &[u8]) -> Frame
-    ensures { λ r. ⌜ r ≡ faultSetOf (now (line .entry)) ⌝ }
+fn link_of(bytes: &[u8]) -> Frame
+    ensures { λ r. ⌜ r ≡ linkOf (now (bytes .entry)) ⌝ }
 {
-    if line.len() == 8 {
-        return Frame::FaultSet(triple_at(line, 1));
+    if bytes.len() == 3 {
+        return Frame::Link(bytes[1], bytes[2]);
+    }
+    Frame::Unknown
+}
+
+fn fault_set_of(bytes: &[u8]) -> Frame
+    ensures { λ r. ⌜ r ≡ faultSetOf (now (bytes .entry)) ⌝ }
+{
+    if bytes.len() == 4 {
+        return Frame::FaultSet(triple_at(bytes, 1));
     }
     Frame::Unknown
 }
 
 // The rounds byte may be left out.
-fn start_of(line: &[u8]) -> Frame
-    ensures { λ r. ⌜ r ≡ startOf (now (line .entry)) ⌝ }
+fn start_of(bytes: &[u8]) -> Frame
+    ensures { λ r. ⌜ r ≡ startOf (now (bytes .entry)) ⌝ }
 {
-    if line.len() == 8 {
-        return Frame::Start(pair_at(line, 1), Rounds::Given(byte_at(line, 3)));
+    if bytes.len() == 4 {
+        return Frame::Start(pair_at(bytes, 1), Rounds::Given(bytes[3]));
     }
-    if line.len() == 6 {
-        return Frame::Start(pair_at(line, 1), Rounds::Left);
+    if bytes.len() == 3 {
+        return Frame::Start(pair_at(bytes, 1), Rounds::Left);
     }
     Frame::Unknown
 }
 
-fn message_of(line: &[u8]) -> Frame
-    ensures { λ r. ⌜ r ≡ messageOf (now (line .entry)) ⌝ }
+fn message_of(bytes: &[u8]) -> Frame
+    ensures { λ r. ⌜ r ≡ messageOf (now (bytes .entry)) ⌝ }
 {
-    if line.len() == 12 {
-        return Frame::Message(
-            byte_at(line, 1),
-            byte_at(line, 2),
-            byte_at(line, 3),
-            pair_at(line, 4),
-        );
+    if bytes.len() == 6 {
+        return Frame::Message(bytes[1], bytes[2], bytes[3], pair_at(bytes, 4));
     }
     Frame::Unknown
 }
 
-fn kind_of(kind: u8, line: &[u8]) -> Frame
-    ensures { λ r. ⌜ r ≡ kindOf kind (now (line .entry)) ⌝ }
+fn kind_of(kind: u8, bytes: &[u8]) -> Frame
+    ensures { λ r. ⌜ r ≡ kindOf kind (now (bytes .entry)) ⌝ }
 {
     if kind == 1 {
-        return head_of(line);
+        return head_of(bytes);
     }
     if kind == 2 {
-        return link_of(line);
+        return link_of(bytes);
     }
     if kind == 3 {
-        return fault_set_of(line);
+        return fault_set_of(bytes);
     }
     if kind == 4 {
-        return start_of(line);
+        return start_of(bytes);
     }
     if kind == 5 {
-        return message_of(line);
+        return message_of(bytes);
+    }
+    Frame::Unknown
+}
+
+// The frame that bytes are, for a program that knows this set of kinds.
+fn known_frame(kinds: u32, bytes: &[u8]) -> Frame
+    requires { ⌜ 0 < length (now bytes) ⌝ }
+    ensures { λ r. ⌜ r ≡ knownFrame kinds (now (bytes .entry)) ⌝ }
+{
+    let kind = bytes[0];
+    if sets::member(kinds, kind as usize) {
+        return kind_of(kind, bytes);
     }
     Frame::Unknown
 }
@@ -184,10 +174,12 @@ fn kind_of(kind: u8, line: &[u8]) -> Frame
 pub fn frame_of(kinds: u32, line: &[u8]) -> Frame
     ensures { λ r. ⌜ r ≡ frameOf kinds (now (line .entry)) ⌝ }
 {
-    if well_formed(line) {
-        let kind = byte_at(line, 0);
-        if sets::member(kinds, kind as usize) {
-            return kind_of(kind, line);
+    let read = bytes_of(line);
+    if read.whole {
+        let n = line.len() / 2;
+        if n <= MOST {
+            let first = read.first;
+            return known_frame(kinds, &first[..n]);
         }
         return Frame::Unknown;
     }

@@ -2,32 +2,23 @@
 use Prim.Native.Nat.{ℕ, zero, suc, _+_, _/_, _%_, _≤_, _<_}
 use mathlib.Core.Path.{_≡_, refl, sym, ap, ap₂, _∙_}
 use mathlib.Core.Logic.{⊎-elim}
-use mathlib.Core.Bool.{Bool, true, false, not}
+use mathlib.Core.Bool.{true, false}
 use mathlib.Core.List.{List, [], _∷_, _++_, append-assoc}
 use native.Mathlib.Nat.{zero-add}
 use native.Mathlib.Numerals.{add-one}
 use native.Mathlib.Omega.{arith}
-use lib.Dec.{eqb, ltb}
+use lib.Dec.{ltb}
 use lib.ListN.{length, getD, take, drop, set, length-take, length-append}
 use lib.Seq.{take-all, take-append-le, take-append-seam, take-suc-set, sets, sets-eq, paste, paste-suc}
-use borrow.Author.Tests.{eq-eqb, ne-eqb, lt-ltb, le-ltb, ltb-false}
+use borrow.Author.Tests.{lt-ltb, le-ltb, ltb-false}
 use Rattle.sets.specs.Causes.{_gives_, firstCause}
-use Rattle.sets.proofs.Bools.{not-i, not-yes, pick-yes, pick-no, pick-case}
+use Rattle.sets.proofs.Bools.{pick-yes, pick-no, pick-case}
 use Rattle.sets.proofs.Causes.{cause-here, cause-none, given-passes, given-decides}
 use Rattle.sets.proofs.Laws.{equal-or-not}
+use Rattle.digits.specs.Digits.{characterOf}
 use Rattle.text.specs.declared.Written.{Written}
-use Rattle.text.specs.Digits.{hexDigit, hexByte}
+use Rattle.text.specs.Digits.{hexByte}
 use Rattle.text.specs.Texts.{joined, writtenOf, putInto}
-
--- ---- a digit
-
-pub figure : (d : ℕ) → d < 10 → 48 + d ≡ hexDigit d
-unfolding hexDigit
-figure d h = sym (pick-yes _ _ _ (lt-ltb d 10 h))
-
-pub letter : (d : ℕ) → 10 ≤ d → 87 + d ≡ hexDigit d
-unfolding hexDigit
-letter d h = sym (pick-no _ _ _ (le-ltb d 10 h))
 
 -- ---- a text that is put together
 
@@ -42,7 +33,7 @@ unfolding joined
 then xs part rest a b =
     b ∙ ap (λ (l : List ℕ). joined l rest) a ∙ take-more 272 (xs ++ part) rest ∙ ap (take 272) (append-assoc xs part rest)
 
-pub byte-joined : (xs : List ℕ) (b x y : ℕ) {mid last : List ℕ} → x ≡ hexDigit (b / 16) → y ≡ hexDigit (b % 16) → mid ≡ joined xs (x ∷ [])
+pub byte-joined : (xs : List ℕ) (b x y : ℕ) {mid last : List ℕ} → x ≡ characterOf (b / 16) → y ≡ characterOf (b % 16) → mid ≡ joined xs (x ∷ [])
     → last ≡ joined mid (y ∷ []) → last ≡ joined xs (hexByte b)
 unfolding hexByte
 byte-joined xs b x y e f a c = then xs (x ∷ []) (y ∷ []) a c ∙ ap₂ (λ (i j : ℕ). joined xs (i ∷ j ∷ [])) e f

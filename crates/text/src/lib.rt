@@ -1,11 +1,12 @@
-// Text out: hexadecimal digits, a text that is put together by value, and a text put into a lent
-// list once it is whole.
+// Text out: bytes as hexadecimal digits, a text that is put together by value, and a text put into a
+// lent list once it is whole.
 ghost use mathlib.Core.Path.{_≡_};
 ghost use mathlib.Core.List.{[], _∷_};
-ghost use Prim.Native.Nat.{_<_, _≤_, _/_, _%_};
+ghost use Prim.Native.Nat.{_≤_, _/_, _%_};
 ghost use lib.ListN.{length};
 ghost use lib.Seq.{paste};
-ghost use Rattle.text.specs.Digits.{hexDigit, hexByte, hexPair, hexTriple};
+ghost use Rattle.digits.specs.Digits.{characterOf};
+ghost use Rattle.text.specs.Digits.{hexByte, hexPair, hexTriple};
 ghost use Rattle.text.specs.Texts.{held, joined, writtenOf, putInto};
 
 // The bytes that a text has room for.
@@ -22,28 +23,18 @@ pub struct Written {
     pub len: usize,
 }
 
-fn hex_digit(d: u8) -> u8
-    requires { ⌜ d < 16 ⌝ }
-    ensures { λ r. ⌜ r ≡ hexDigit d ⌝ }
-{
-    if d < 10 {
-        return 48 + d;
-    }
-    87 + d
-}
-
 // The high digit of a byte.
 pub fn high_digit(b: u8) -> u8
-    ensures { λ r. ⌜ r ≡ hexDigit (b / 16) ⌝ }
+    ensures { λ r. ⌜ r ≡ characterOf (b / 16) ⌝ }
 {
-    hex_digit(b / 16)
+    digits::character_of(b / 16)
 }
 
 // The low digit of a byte.
 pub fn low_digit(b: u8) -> u8
-    ensures { λ r. ⌜ r ≡ hexDigit (b % 16) ⌝ }
+    ensures { λ r. ⌜ r ≡ characterOf (b % 16) ⌝ }
 {
-    hex_digit(b % 16)
+    digits::character_of(b % 16)
 }
 
 // What is answered of a text that is put into a list, where `number` refuses what was asked.

@@ -11,15 +11,16 @@ use Rattle.sets.specs.Tests.{pick}
 use Rattle.sets.proofs.Bools.{and-l, and-r, pick-yes, pick-no, pick-case}
 use Rattle.plan.specs.declared.Plan.{Plan}
 use Rattle.plan.specs.Plan.{hears}
-use Rattle.lines.specs.declared.Frame.{Frame}
-use Rattle.lines.specs.Digits.{allDigits}
+use Rattle.digits.proofs.Laws.{digit-no-end}
 use Rattle.text.specs.Digits.{hexByte}
+use Rattle.lines.specs.declared.Frame.{Frame}
+use Rattle.lines.specs.Bytes.{allDigits}
 use Rattle.lines.specs.Frames.{frameOf}
 use Rattle.frames.specs.declared.Progress.{Progress}
 use Rattle.frames.specs.Lines.{Line, ended, linesFrom}
 use Rattle.frames.specs.Reading.{causeIn, after, wordsAfter, told}
 use Rattle.writer.specs.Written.{headLine, linkLine, linkLines}
-use Rattle.writer.proofs.Digits.{digit-no-end, headDigits, linkDigits, head-digits, link-digits}
+use Rattle.writer.proofs.Digits.{headDigits, linkDigits, head-digits, link-digits}
 
 -- digits, then byte 10: one line that is ended
 pub line-of : (line digits rest : List ℕ) → allDigits digits ≡ true

@@ -15,7 +15,8 @@ use Rattle.sets.proofs.Bools.{pick-yes, pick-no}
 use Rattle.plan.specs.declared.Plan.{Plan}
 use Rattle.plan.specs.Plan.{hears, causeOf}
 use Rattle.text.specs.declared.Written.{Written}
-use Rattle.text.specs.Digits.{hexDigit, hexByte}
+use Rattle.digits.specs.Digits.{characterOf}
+use Rattle.text.specs.Digits.{hexByte}
 use Rattle.text.specs.Texts.{writtenOf, putInto}
 use Rattle.text.proofs.Laws.{put-fits, put-short, written-fits}
 use Rattle.writer.specs.Written.{headLine, linkLine, linkLines, planText, writtenText}
@@ -115,7 +116,7 @@ module _ (p : Plan) (k : ℕ) (h : k < 400) (b : Bool) (e : b ≡ hears p (k % 2
 
 -- ---- bytes put one after the other
 
-pub byte-put : (out : List ℕ) (at b x y : ℕ) → x ≡ hexDigit (b / 16) → y ≡ hexDigit (b % 16) → set (set out at x) (at + 1) y ≡ sets out at (hexByte b)
+pub byte-put : (out : List ℕ) (at b x y : ℕ) → x ≡ characterOf (b / 16) → y ≡ characterOf (b % 16) → set (set out at x) (at + 1) y ≡ sets out at (hexByte b)
 unfolding hexByte
 byte-put out at b x y e f = rw (e, f, add-one) refl
 

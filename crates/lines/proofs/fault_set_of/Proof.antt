@@ -1,9 +1,10 @@
--- The length picks the definition's case; the set is the callee's. Assumes nothing.
-use mathlib.Core.Path.{sym}
+-- The length picks the definition's case; the numbers are the callees'. Assumes nothing.
+use mathlib.Core.Path.{sym, ap, _∙_}
 use lib.ListN.{length}
 use borrow.Author.Tests.{eq-eqb, ne-eqb}
 use borrow.Author.Needs.{needs}
 use Rattle.sets.proofs.Bools.{pick-yes, pick-no}
+use Rattle.lines.specs.declared.Frame.the-variants.{FaultSet}
 use Rattle.lines.specs.Frames.{faultSetOf}
 use Rattle.lines.proofs.fault_set_of.Statement.{statement}
 use Rattle.lines.proofs.fault_set_of.Tie as tie
@@ -13,11 +14,11 @@ triple-at-requires c κs = search needs
 
 returns : tie.Need-returns
 unfolding faultSetOf
-returns c = simp (c .triple-at .ensures) (sym (pick-yes _ _ _ (eq-eqb (length (c .before .before .before .args .line .now)) 8 (c .before .if1 .taken))))
+returns c = ap FaultSet (c .triple-at .ensures) ∙ sym (pick-yes _ _ _ (eq-eqb (length (c .before .before .before .args .bytes .now)) 4 (c .before .if1 .taken)))
 
 returns-2 : tie.Need-returns-2
 unfolding faultSetOf
-returns-2 c = sym (pick-no _ _ _ (ne-eqb (length (c .before .before .args .line .now)) 8 (c .if1 .left)))
+returns-2 c = sym (pick-no _ _ _ (ne-eqb (length (c .before .before .args .bytes .now)) 4 (c .if1 .left)))
 
 pub fault-set-of-spec : {M : Type 1} → statement M
 fault-set-of-spec = tie.close (tie.spec triple-at-requires returns returns-2)

@@ -1,53 +1,53 @@
-use Prim.Native.Nat.{ℕ}
-use mathlib.Core.Path.{sym, ap, _∙_}
-use Rattle.sets.specs.Sets.{mem}
-use Rattle.sets.proofs.Bools.{pick-yes, pick-no}
-use Rattle.lines.specs.Frames.{kindOf, frameOf}
-use Rattle.lines.proofs.DigitLaws.{formed-length}
--- Each return is the definition's case by the tests that led there; a well-formed line has a first byte. Assumes nothing.
+-- A line is foreign, longer than any frame, or its front is its bytes. Assumes nothing.
+use Prim.Native.Nat.{_/_}
+use mathlib.Core.Path.{_≡_, sym, _∙_}
+use native.Mathlib.Omega.{arith}
+use lib.ListN.{length, length-take}
 use borrow.Author.Needs.{needs}
+use Rattle.lines.proofs.FrameLaws.{formed-length, frame-foreign, frame-long, frame-short}
 use Rattle.lines.proofs.frame_of.Statement.{statement}
 use Rattle.lines.proofs.frame_of.Tie as tie
 
-well-formed-requires : tie.Need-well-formed-requires
-well-formed-requires c κs = search needs
+bytes-of-requires : tie.Need-bytes-of-requires
+bytes-of-requires c κs = search needs
 
-byte-at-requires : tie.Need-byte-at-requires
-byte-at-requires c κs = formed-length _ (sym (c .before .well-formed .ensures) ∙ c .if1 .taken)
+array-share-prefix-first : tie.Need-array-share-prefix-first
+array-share-prefix-first c = let room : length (c .before .before .before .bytes-of .result .first) ≡ 6 = search needs in omega arith
 
-cast-member : tie.Need-cast-member
-cast-member c = search needs
+slice-aggregate-known-frame : tie.Need-slice-aggregate-known-frame
+slice-aggregate-known-frame c =
+    let first = c .before .before .before .before .bytes-of .result .first in
+    let room : length first ≡ 6 = search needs in
+    omega (arith, length-take (length (c .before .before .before .before .before .before .args .line .now) / 2) first)
 
-member-requires : tie.Need-member-requires
-member-requires c κs = search needs
-
-kind-of-requires : tie.Need-kind-of-requires
-kind-of-requires c κs = search needs
+known-frame-requires : tie.Need-known-frame-requires
+known-frame-requires c κs =
+    let first = c .before .before .before .before .bytes-of .result .first in
+    let room : length first ≡ 6 = search needs in
+    let long = formed-length _ (sym (c .before .before .before .before .bytes-of .ensures .0) ∙ c .before .before .before .if1 .taken) in
+    omega (arith, length-take (length (c .before .before .before .before .before .before .args .line .now) / 2) first)
 
 returns : tie.Need-returns
-unfolding frameOf
-returns c = let known = sym (ap (λ (k : ℕ). mem k (c .before .before .before .before .before .before .before .args .kinds)) (c .before .before .before .byte-at .ensures)) ∙ sym (c .before .before .member .ensures) ∙ c .before .if2 .taken in
-    c .kind-of .ensures ∙ ap (λ (k : ℕ). kindOf k (c .before .before .before .before .before .before .before .args .line .now)) (c .before .before .before .byte-at .ensures)
-    ∙ sym (pick-yes _ _ _ (sym (c .before .before .before .before .before .well-formed .ensures) ∙ c .before .before .before .before .if1 .taken) ∙ pick-yes _ _ _ known)
+returns c =
+    let read = c .before .before .before .before .before .bytes-of in
+    let room : length (read .result .first) ≡ 6 = search needs in
+    let whole = c .before .before .before .before .if1 .taken in
+    c .known-frame .ensures ∙ frame-short _ _ (read .result .first) room (sym (read .ensures .0) ∙ whole) (c .before .before .before .if2 .taken) (read .ensures .1 whole)
 
 returns-2 : tie.Need-returns-2
-unfolding frameOf
-returns-2 c = let unknown = sym (ap (λ (k : ℕ). mem k (c .before .before .before .before .before .before .args .kinds)) (c .before .before .byte-at .ensures)) ∙ sym (c .before .member .ensures) ∙ c .if2 .left in
-    sym (pick-yes _ _ _ (sym (c .before .before .before .before .well-formed .ensures) ∙ c .before .before .before .if1 .taken) ∙ pick-no _ _ _ unknown)
+returns-2 c = sym (frame-long _ _ (sym (c .before .before .bytes-of .ensures .0) ∙ c .before .if1 .taken) (c .if2 .left))
 
 returns-3 : tie.Need-returns-3
-unfolding frameOf
-returns-3 c = sym (pick-no _ _ _ (sym (c .before .well-formed .ensures) ∙ c .if1 .left))
+returns-3 c = sym (frame-foreign _ _ (sym (c .before .bytes-of .ensures .0) ∙ c .if1 .left))
 
 pub frame-of-spec : {M : Type 1} → statement M
 frame-of-spec =
     tie.close
     (tie.spec
-    well-formed-requires
-    byte-at-requires
-    cast-member
-    member-requires
-    kind-of-requires
+    bytes-of-requires
+    array-share-prefix-first
+    slice-aggregate-known-frame
+    known-frame-requires
     returns
     returns-2
     returns-3)

@@ -1,4 +1,4 @@
--- The length picks the definition's case; each byte is the callee's. Assumes nothing.
+-- The length picks the definition's case. Assumes nothing.
 use mathlib.Core.Path.{sym}
 use lib.ListN.{length}
 use borrow.Author.Tests.{eq-eqb, ne-eqb}
@@ -8,19 +8,19 @@ use Rattle.lines.specs.Frames.{linkOf}
 use Rattle.lines.proofs.link_of.Statement.{statement}
 use Rattle.lines.proofs.link_of.Tie as tie
 
-byte-at-requires : tie.Need-byte-at-requires
-byte-at-requires c κs = search needs
+shared-slice-read-t5 : tie.Need-shared-slice-read-t5
+shared-slice-read-t5 c = search needs
 
-byte-at-requires-2 : tie.Need-byte-at-requires-2
-byte-at-requires-2 c κs = search needs
+shared-slice-read-t7 : tie.Need-shared-slice-read-t7
+shared-slice-read-t7 c = search needs
 
 returns : tie.Need-returns
 unfolding linkOf
-returns c = simp (c .before .byte-at .ensures, c .byte-at2 .ensures) (sym (pick-yes _ _ _ (eq-eqb (length (c .before .before .before .before .args .line .now)) 6 (c .before .before .if1 .taken))))
+returns c = sym (pick-yes _ _ _ (eq-eqb (length (c .before .before .before .args .bytes .now)) 3 (c .before .before .if1 .taken)))
 
 returns-2 : tie.Need-returns-2
 unfolding linkOf
-returns-2 c = sym (pick-no _ _ _ (ne-eqb (length (c .before .before .args .line .now)) 6 (c .if1 .left)))
+returns-2 c = sym (pick-no _ _ _ (ne-eqb (length (c .before .args .bytes .now)) 3 (c .if1 .left)))
 
 pub link-of-spec : {M : Type 1} → statement M
-link-of-spec = tie.close (tie.spec byte-at-requires byte-at-requires-2 returns returns-2)
+link-of-spec = tie.close (tie.spec shared-slice-read-t5 shared-slice-read-t7 returns returns-2)

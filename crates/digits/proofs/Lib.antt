@@ -1,0 +1,2 @@
+-- The laws of digits: what callers use of them (Laws).
+pub mod Laws

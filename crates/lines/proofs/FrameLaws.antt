@@ -1,0 +1,68 @@
+-- The frame of a line from its bytes, as many as a frame can have. Assumes nothing.
+use Prim.Native.Nat.{ℕ, _/_, _%_, _≤_, _<_}
+use mathlib.Core.Path.{_≡_, refl, sym, ap, _∙_}
+use mathlib.Core.Bool.{Bool, true, false}
+use mathlib.Core.List.{List}
+use native.Mathlib.Omega.{arith}
+use lib.ListN.{length, getD, take, length-take}
+use lib.Seq.{getD-take}
+use lib.Dec.{eqb}
+use borrow.Author.Tests.{leb-true, eqb-true, ne-eqb}
+use Rattle.sets.specs.Tests.{pick}
+use Rattle.sets.proofs.Bools.{and-l, and-r, pick-yes, pick-no, pick-case}
+use Rattle.sets.proofs.Tables.{table-length, table-is}
+use Rattle.lines.specs.declared.Frame.{Frame}
+use Rattle.lines.specs.declared.Frame.the-variants.{Foreign, Unknown}
+use Rattle.lines.specs.Bytes.{wellFormed, byteAt, bytesOf}
+use Rattle.lines.specs.Frames.{headOf, linkOf, faultSetOf, startOf, messageOf, kindOf, knownFrame, frameOf}
+
+pub formed-length : (line : List ℕ) → wellFormed line ≡ true → 1 < length line
+unfolding wellFormed
+formed-length line h =
+    let one = leb-true 1 (length line) (and-l _ _ h) in
+    let even = eqb-true (length line % 2) 0 (and-l _ _ (and-r _ _ h)) in
+    omega arith
+
+-- the front of the six bytes is the line's
+front-bytes : (line first : List ℕ) → length first ≡ 6 → length line / 2 ≤ 6 → ((k : ℕ) → k < 6 → getD first k 0 ≡ byteAt line k)
+    → take (length line / 2) first ≡ bytesOf line
+unfolding bytesOf
+front-bytes line first room short held =
+    table-is (length line / 2) (byteAt line) 0 (take (length line / 2) first) (omega (arith, length-take (length line / 2) first))
+    (λ j h. getD-take (length line / 2) first j 0 h ∙ held j (omega arith))
+
+-- no kind has more than six bytes
+both-unknown : (b : Bool) (x y : Frame) → x ≡ Unknown → y ≡ Unknown → pick b x y ≡ Unknown
+both-unknown b x y p q = pick-case (λ (f : Frame). f ≡ Unknown) b x y (λ h. p) (λ h. q)
+
+module _ (bytes : List ℕ) (long : 6 < length bytes) where
+  longer : (k : ℕ) (frame rest : Frame) → k < 7 → rest ≡ Unknown → pick (eqb (length bytes) k) frame rest ≡ Unknown
+  longer k frame rest h e = pick-no _ _ _ (ne-eqb (length bytes) k (λ z. omega arith)) ∙ e
+
+  kind-unknown : (kind : ℕ) → kindOf kind bytes ≡ Unknown
+  unfolding kindOf headOf linkOf faultSetOf startOf messageOf
+  kind-unknown kind =
+      both-unknown _ _ _ (longer 4 _ _ (omega arith) refl)
+      (both-unknown _ _ _ (longer 3 _ _ (omega arith) refl)
+      (both-unknown _ _ _ (longer 4 _ _ (omega arith) refl)
+      (both-unknown _ _ _ (longer 4 _ _ (omega arith) (longer 3 _ _ (omega arith) refl)) (both-unknown _ _ _ (longer 6 _ _ (omega arith) refl) refl))))
+
+  long-unknown : (kinds : ℕ) → knownFrame kinds bytes ≡ Unknown
+  unfolding knownFrame
+  long-unknown kinds = both-unknown _ _ _ (kind-unknown (getD bytes 0 0)) refl
+
+-- ---- the three ways in which a line is taken
+
+module _ (kinds : ℕ) (line : List ℕ) where
+  pub frame-foreign : wellFormed line ≡ false → frameOf kinds line ≡ Foreign
+  unfolding frameOf
+  frame-foreign h = pick-no _ _ _ h
+
+  pub frame-long : wellFormed line ≡ true → 6 < length line / 2 → frameOf kinds line ≡ Unknown
+  unfolding frameOf bytesOf
+  frame-long h l = pick-yes _ _ _ h ∙ long-unknown (bytesOf line) (omega (arith, table-length (length line / 2) (byteAt line))) kinds
+
+  pub frame-short : (first : List ℕ) → length first ≡ 6 → wellFormed line ≡ true → length line / 2 ≤ 6 → ((k : ℕ) → k < 6 → getD first k 0 ≡ byteAt line k)
+      → knownFrame kinds (take (length line / 2) first) ≡ frameOf kinds line
+  unfolding frameOf
+  frame-short first room h l held = ap (knownFrame kinds) (front-bytes line first room l held) ∙ sym (pick-yes _ _ _ h)
