@@ -1,3 +1,4 @@
 -- The laws of a line's bytes and of its frame that the proofs of this crate cite.
 mod ByteLaws
 mod FrameLaws
+mod Before
