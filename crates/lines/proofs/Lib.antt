@@ -1,4 +1,3 @@
 -- The laws of a line's bytes and of its frame that the proofs of this crate cite.
 mod ByteLaws
 mod FrameLaws
-mod Before
