@@ -1,21 +1,42 @@
-//! Every byte in the place of a digit: the same file 512 times, with another byte in one place.
+//! Every byte in the place of a digit: the same files over and over, with another byte in one place.
 
 use crate::generate::Kind;
 
-/// Each of the 256 bytes as the high digit of a byte, and as the low one.
-pub const FILES: u64 = 512;
+/// Where the byte stands.
+#[derive(Clone, Copy, Debug, PartialEq, Eq)]
+pub enum Place {
+    /// As the high digit of a byte.
+    High,
+    /// As the low one.
+    Low,
+    /// On a line that is longer than any frame, past the length of the longest.
+    Past,
+}
 
-/// File `index`: byte `index % 256`, as the high digit in the first half and as the low one in the
-/// second. What the digit says shows in the answer: in a run it is one of the layout, in a plan one
-/// of a link's end.
+const PLACES: [Place; 3] = [Place::High, Place::Low, Place::Past];
+
+/// Each of the 256 bytes in each place.
+pub const FILES: u64 = 256 * PLACES.len() as u64;
+
+/// The byte of file `index`, and where it stands.
+pub fn byte_in(index: u64) -> (u8, Place) {
+    ((index % 256) as u8, PLACES[(index / 256) as usize])
+}
+
+/// What a digit says shows in the answer: in a run it is one of the layout, in a plan one of a
+/// link's end; past the longest frame it only tells a wrong length from a foreign character.
 pub fn file(kind: Kind, index: u64) -> Vec<u8> {
-    let byte = (index % 256) as u8;
-    let high = index < 256;
-    let (before, after): (&[u8], &[u8]) = match (kind, high) {
-        (Kind::Verdict, true) => (b"01140000\n0200", b"1\n"),
-        (Kind::Verdict, false) => (b"01140000\n02000", b"\n"),
-        (Kind::Run, true) => (b"01020000\n020001\n03000000\n04", b"00701\n"),
-        (Kind::Run, false) => (b"01020000\n020001\n03000000\n040", b"0701\n"),
+    let (byte, place) = byte_in(index);
+    let start: &[u8] = match kind {
+        Kind::Verdict => b"01140000\n02",
+        Kind::Run => b"01020000\n020001\n03000000\n04",
     };
-    [before, &[byte], after].concat()
+    let (before, after): (&[u8], &[u8]) = match (kind, place) {
+        (Kind::Verdict, Place::High) => (b"00", b"1\n"),
+        (Kind::Verdict, Place::Low) => (b"000", b"\n"),
+        (Kind::Run, Place::High) => (b"", b"00701\n"),
+        (Kind::Run, Place::Low) => (b"0", b"0701\n"),
+        (_, Place::Past) => (b"000701000000", b"0\n"),
+    };
+    [start, before, &[byte], after].concat()
 }

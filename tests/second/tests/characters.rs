@@ -3,7 +3,7 @@
 mod common;
 
 use common::{refused, run_bytes, verdict_bytes};
-use second::characters::{file, FILES};
+use second::characters::{byte_in, file, Place, FILES};
 use second::generate::Kind;
 use second::record;
 use std::collections::BTreeSet;
@@ -28,49 +28,54 @@ const SIXTEEN: [(u8, u32); 16] = [
     (102, 15),
 ];
 
-/// The bytes, whether each stands in the high place, and its value if it is a digit.
-fn places() -> impl Iterator<Item = (u64, u8, bool, Option<u32>)> {
+/// Each file with its byte, where the byte stands, and its value if it is a digit.
+fn places() -> impl Iterator<Item = (u64, u8, Place, Option<u32>)> {
     (0..FILES).map(|index| {
-        let byte = (index % 256) as u8;
+        let (byte, place) = byte_in(index);
         let known = SIXTEEN.iter().find(|(character, _)| *character == byte);
-        (index, byte, index < 256, known.map(|(_, value)| *value))
+        (index, byte, place, known.map(|(_, value)| *value))
     })
 }
 
-/// A line end leaves a whole byte before it in the high place, and half of one in the low place.
-fn without_value(byte: u8, high: bool, line: u16) -> String {
-    let cause = if byte == 10 && high { 2 } else { 1 };
-    refused(cause, line)
+/// No value is told: the line is foreign, or of a wrong length. A line end cuts it off after a
+/// whole number of bytes, but for the low place.
+fn untold(byte: u8, place: Place, digit: bool, line: u16) -> String {
+    let cut = byte == 10 && place != Place::Low;
+    refused(if digit || cut { 2 } else { 1 }, line)
 }
 
 #[test]
 fn in_a_layout() {
-    for (index, byte, high, value) in places() {
-        let expected = match value {
-            Some(value) => {
-                let layout = value * if high { 4096 } else { 256 } + 7;
-                format!("82000100{layout:04x}\n82010101{layout:04x}\n")
-            }
-            None => without_value(byte, high, 4),
+    for (index, byte, place, value) in places() {
+        let told = |layout: u32| format!("82000100{layout:04x}\n82010101{layout:04x}\n");
+        let expected = match (place, value) {
+            (Place::High, Some(value)) => told(4096 * value + 7),
+            (Place::Low, Some(value)) => told(256 * value + 7),
+            _ => untold(byte, place, value.is_some(), 4),
         };
-        assert_eq!(run_bytes(&file(Kind::Run, index)), expected, "byte {byte}");
+        let printed = run_bytes(&file(Kind::Run, index));
+        assert_eq!(printed, expected, "byte {byte}, {place:?}");
     }
 }
 
 #[test]
 fn in_a_link() {
-    for (index, byte, high, value) in places() {
-        let expected = match value.map(|value| if high { 16 * value + 1 } else { value }) {
-            Some(end) if (1..20).contains(&end) => {
+    for (index, byte, place, value) in places() {
+        let told = |end: u32| match end {
+            1..20 => {
                 let reached = 1 + 2u32.pow(end);
                 let cut_off = 0xf_ffff - reached;
                 format!("8101000000{reached:06x}{cut_off:06x}\n")
             }
-            Some(_) => refused(5, 2),
-            None => without_value(byte, high, 2),
+            _ => refused(5, 2),
+        };
+        let expected = match (place, value) {
+            (Place::High, Some(value)) => told(16 * value + 1),
+            (Place::Low, Some(value)) => told(value),
+            _ => untold(byte, place, value.is_some(), 2),
         };
         let printed = verdict_bytes(&file(Kind::Verdict, index));
-        assert_eq!(printed, expected, "byte {byte}");
+        assert_eq!(printed, expected, "byte {byte}, {place:?}");
     }
 }
 
