@@ -1,15 +1,15 @@
 -- Digits in and out. What is shown of each of the sixteen cases, and of each of the 256 bytes, is computed over all of them at once. Assumes nothing.
 use Prim.Native.Nat.{ℕ, _<_}
 use mathlib.Core.Path.{_≡_, refl, sym, ap, _∙_}
-use mathlib.Core.Bool.{Bool, true, false}
+use mathlib.Core.Bool.{Bool, true, false, not}
 use mathlib.Core.List.{List, [], _∷_}
 use native.Mathlib.Omega.{arith}
 use lib.Dec.{eqb, ltb}
-use borrow.Author.Tests.{ne-eqb, eqb-true, ltb-true}
+use borrow.Author.Tests.{ne-eqb, eqb-true, eqb-false, ltb-true}
 use Rattle.sets.specs.Tests.{_and_, pick}
 use Rattle.sets.specs.Sets.{all}
 use Rattle.sets.specs.Tables.{table}
-use Rattle.sets.proofs.Bools.{clash, and-l, and-r, pick-no, pick-case}
+use Rattle.sets.proofs.Bools.{clash, and-l, and-r, not-e, pick-no, pick-case}
 use Rattle.sets.proofs.Laws.{all-at}
 use Rattle.digits.specs.declared.Digit.{Digit}
 use Rattle.digits.specs.declared.Digit.the-variants.{Value, Foreign}
@@ -108,6 +108,13 @@ digit-no b h = ap (λ (d : Digit). eqb (numberOf d) 0) h
 pub digit-no-end : (b : ℕ) → isDigit b ≡ true → b ≡ 10 → ⊥
 unfolding isDigit digitOf byCase sixteen pick
 digit-no-end b h e = clash (sym (ap isDigit e) ∙ h) refl
+
+-- nor does what is written of a value, whatever it is
+pub character-no-end : (v : ℕ) → characterOf v ≡ 10 → ⊥
+unfolding characterOf sixteen every _and_
+character-no-end v =
+    by-test (λ case. case .value) (λ case. case .character) 0 (λ (c : ℕ). c ≡ 10 → ⊥) (λ case. not (eqb (case .character) 10)) v sixteen refl
+    (λ case t e. eqb-false (case .character) 10 (not-e (eqb (case .character) 10) t)) (λ e. omega arith)
 
 -- what stands past the end of a list is none
 pub no-value : valueOf (digitOf 0) ≡ 0

@@ -1,4 +1,5 @@
--- What the contracts of the readers cite, in the order in which it is read.
+-- What the contracts of the readers cite, in the order in which it is read; Tells is for claims about files.
 pub mod Lines
 pub mod Reading
 pub mod Pass
+pub mod Tells

@@ -1,14 +1,13 @@
 -- The lines of the text that is written, and how the reader takes them. Assumes nothing.
 use Prim.Native.Nat.{ℕ, zero, suc, _+_, _*_, _/_, _%_, _≤_, _<_}
-use mathlib.Core.Path.{_≡_, refl, sym, ap, _∙_}
+use mathlib.Core.Path.{_≡_, refl, ap, _∙_}
 use mathlib.Core.Bool.{true}
-use mathlib.Core.List.{List, [], _∷_, _++_, append-nil}
+use mathlib.Core.List.{List, [], _∷_, _++_}
 use native.Mathlib.Omega.{arith}
 use lib.ListN.{length, length-append}
-use lib.Seq.{append-snoc}
 use borrow.Author.Tests.{ne-eqb, eq-eqb}
 use Rattle.sets.specs.Tests.{pick}
-use Rattle.sets.proofs.Bools.{and-l, and-r, pick-yes, pick-no, pick-case}
+use Rattle.sets.proofs.Bools.{and-l, and-r, and-i, not-i, pick-yes, pick-case}
 use Rattle.plan.specs.declared.Plan.{Plan}
 use Rattle.plan.specs.Plan.{hears}
 use Rattle.digits.proofs.Laws.{digit-no-end}
@@ -19,28 +18,25 @@ use Rattle.lines.specs.Frames.{frameOf}
 use Rattle.frames.specs.declared.Progress.{Progress}
 use Rattle.frames.specs.Lines.{Line, ended, linesFrom}
 use Rattle.frames.specs.Reading.{causeIn, after, wordsAfter, told}
+use Rattle.frames.proofs.TextLines.{noEnd, line-of}
 use Rattle.writer.specs.Written.{headLine, linkLine, linkLines}
 use Rattle.writer.proofs.Digits.{headDigits, linkDigits, head-digits, link-digits}
 
--- digits, then byte 10: one line that is ended
-pub line-of : (line digits rest : List ℕ) → allDigits digits ≡ true
-    → linesFrom line (digits ++ 10 ∷ rest) ≡ ended (line ++ digits) ∷ linesFrom [] rest
-unfolding linesFrom allDigits
-line-of line [] rest h = pick-yes _ _ _ refl ∙ ap (λ (l : List ℕ). ended l ∷ linesFrom [] rest) (sym (append-nil line))
-line-of line (d ∷ digits) rest h =
-    pick-no _ _ _ (ne-eqb d 10 (digit-no-end d (and-l _ _ h)))
-    ∙ line-of (line ++ (d ∷ [])) digits rest (and-r _ _ h)
-    ∙ ap (λ (l : List ℕ). ended l ∷ linesFrom [] rest) (append-snoc line d digits)
+-- digits end no line
+digits-no-end : (digits : List ℕ) → allDigits digits ≡ true → noEnd digits ≡ true
+unfolding allDigits noEnd
+digits-no-end [] h = refl
+digits-no-end (d ∷ digits) h = and-i _ _ (not-i (ne-eqb d 10 (digit-no-end d (and-l _ _ h)))) (digits-no-end digits (and-r _ _ h))
 
 pub head-lines : (p : Plan) (rest : List ℕ) → p .n < 256 → p .source < 256 → p .f < 256
     → linesFrom [] (headLine p ++ rest) ≡ ended (headDigits (p .n) (p .source) (p .f)) ∷ linesFrom [] rest
 unfolding headLine hexByte
-head-lines p rest a b c = line-of [] (headDigits (p .n) (p .source) (p .f)) rest (head-digits (p .n) (p .source) (p .f) a b c)
+head-lines p rest a b c = line-of [] (headDigits (p .n) (p .source) (p .f)) rest (digits-no-end _ (head-digits (p .n) (p .source) (p .f) a b c))
 
 pub link-lines : (from to : ℕ) (rest : List ℕ) → from < 256 → to < 256
     → linesFrom [] (linkLine from to ++ rest) ≡ ended (linkDigits from to) ∷ linesFrom [] rest
 unfolding linkLine hexByte
-link-lines from to rest a b = line-of [] (linkDigits from to) rest (link-digits from to a b)
+link-lines from to rest a b = line-of [] (linkDigits from to) rest (digits-no-end _ (link-digits from to a b))
 
 -- a line whose frame is accepted
 pub line-told : (kinds : ℕ) (p : Progress) (words : List ℕ) (k : ℕ) (line : List ℕ) (rest : List Line) (frame : Frame) → frameOf kinds line ≡ frame

@@ -25,8 +25,8 @@ use Rattle.lines.specs.Frames.{frameOf}
 use Rattle.frames.specs.declared.Progress.{Progress}
 use Rattle.frames.specs.Lines.{Line, ended, cut, linesFrom}
 use Rattle.frames.specs.Reading.{mostBytes, stageOf, nothingRead, noWords, causeIn, linked, after, wordsAfter, Reading, refusal, told, reading}
+use Rattle.frames.specs.Tells.{Tells}
 use Rattle.frames.proofs.Accepted.{Whole, head-accepted, link-accepted, frame-stage, frame-whole}
-use Rattle.writer.specs.RoundTrip.{Tells}
 
 -- no links
 no-row : (b : ℕ) → getD {A = ℕ} (replicate 20 0) b 0 ≡ 0
@@ -119,12 +119,12 @@ joined e g = (
 )
 
 told-links : (kinds : ℕ) (p : Progress) (words : List ℕ) (k : ℕ) (lines : List Line) → Ready p
-    → Says p (λ a b. Tells kinds a b lines) (told kinds p words k lines)
+    → Says p (λ a b. Tells kinds (Link a b) lines) (told kinds p words k lines)
 unfolding told Says
 told-links kinds p words k [] r = λ z a b. (λ h. inl h, ⊎-elim (λ h. h) (λ e. absurd e))
 told-links kinds p words k (cut line ∷ rest) r = λ z. absurd (omega arith)
 told-links kinds p words k (ended line ∷ rest) r =
-    pick-case (Says p (λ a b. Tells kinds a b (ended line ∷ rest))) (eqb (causeIn p words (frameOf kinds line)) 0)
+    pick-case (Says p (λ a b. Tells kinds (Link a b) (ended line ∷ rest))) (eqb (causeIn p words (frameOf kinds line)) 0)
     (told kinds (after p (frameOf kinds line)) (wordsAfter p words (frameOf kinds line)) (k + 1) rest)
     (refusal (causeIn p words (frameOf kinds line)) k)
     (λ e z a b.
@@ -139,11 +139,11 @@ nothing-ready = record { begun = λ n. absurd (n refl); empty = λ z a b. no-lin
 
 -- b hears a exactly if some line of the file is the link from a to b
 pub reading-links : (kinds : ℕ) (text : List ℕ) → reading kinds text .number ≡ 0 → (a b : ℕ)
-    → (hears (reading kinds text .progress .plan) b a ≡ true) ↔ Tells kinds a b (linesFrom [] text)
+    → (hears (reading kinds text .progress .plan) b a ≡ true) ↔ Tells kinds (Link a b) (linesFrom [] text)
 unfolding reading Says
 reading-links kinds text =
     pick-case
-    (λ (r : Reading). r .number ≡ 0 → (a b : ℕ) → (hears (r .progress .plan) b a ≡ true) ↔ Tells kinds a b (linesFrom [] text))
+    (λ (r : Reading). r .number ≡ 0 → (a b : ℕ) → (hears (r .progress .plan) b a ≡ true) ↔ Tells kinds (Link a b) (linesFrom [] text))
     (leb 1 (length text) and leb (length text) mostBytes) (told kinds nothingRead noWords 1 (linesFrom [] text)) (refusal 1 0)
     (λ e z a b.
     let g = told-links kinds nothingRead noWords 1 (linesFrom [] text) nothing-ready z a b in

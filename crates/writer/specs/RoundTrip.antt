@@ -1,7 +1,7 @@
 -- The second demand's round trip: an accepted file written again has the same head and links. Assumes nothing.
 use Prim.Native.Nat.{ℕ}
 use mathlib.Core.Path.{_≡_}
-use mathlib.Core.Logic.{_⊎_, _↔_}
+use mathlib.Core.Logic.{_↔_}
 use mathlib.Core.Bool.{true}
 use mathlib.Core.List.{List, [], _∷_}
 use Rattle.sets.specs.Sets.{Terminal, Set}
@@ -11,6 +11,7 @@ use Rattle.lines.specs.declared.Frame.the-variants.{Head, Link}
 use Rattle.lines.specs.Frames.{frameOf}
 use Rattle.frames.specs.Lines.{Line, ended, cut, linesFrom}
 use Rattle.frames.specs.Reading.{planKinds, runKinds, planReading, runReading}
+use Rattle.frames.specs.Tells.{Tells}
 use Rattle.writer.specs.Written.{planText}
 
 -- the first line is the plan's head
@@ -19,16 +20,10 @@ Begins kinds p [] = ⊥
 Begins kinds p (cut line ∷ rest) = ⊥
 Begins kinds p (ended line ∷ rest) = frameOf kinds line ≡ Head (p .n) (p .source) (p .f)
 
--- some line is the link from a to b
-abbrev pub Tells : (kinds : Set) (a b : Terminal) → List Line → Type 0
-Tells kinds a b [] = ⊥
-Tells kinds a b (cut line ∷ rest) = Tells kinds a b rest
-Tells kinds a b (ended line ∷ rest) = (frameOf kinds line ≡ Link a b) ⊎ Tells kinds a b rest
-
 -- a file whose head and links are the plan's
 pub record Says (kinds : Set) (file : List ℕ) (p : Plan) : Type 0 where
   pub head : Begins kinds p (linesFrom [] file)
-  pub links : (a b : Terminal) → (hears p b a ≡ true) ↔ Tells kinds a b (linesFrom [] file)
+  pub links : (a b : Terminal) → (hears p b a ≡ true) ↔ Tells kinds (Link a b) (linesFrom [] file)
 
 -- of an accepted file and the plan that was read: both the file and what is written of the plan say it, and the latter is read as the same plan
 pub record Again (kinds : Set) (file : List ℕ) (p : Plan) : Type 0 where
