@@ -144,7 +144,7 @@ module _ (p : Progress) (words : List ℕ) where
       (at-stage Links (a .0), row-none (faultCauseOf (p .plan) s) (a .1))
 
   pub start-accepted : (value : ℕ) (rounds : Rounds) → causeIn p words (Start value rounds) ≡ 0
-      → (stageOf (p .stage) ≡ 2) × (startSound value (roundsOf rounds) ≡ true)
+      → (stageOf (p .stage) ≡ 2) × (startSound value (roundsOf (p .plan .n) rounds) ≡ true)
   unfolding causeIn startCause
   start-accepted value rounds h =
       let a = cause-none _ 3 _ (λ z. omega arith) h in

@@ -1,5 +1,5 @@
--- What refuses a link or a word, and what an accepted frame keeps. Assumes nothing.
-use Prim.Native.Nat.{ℕ, _≤_, _<_}
+-- What refuses a link, a bad set, a start or a word, and what an accepted frame keeps. Assumes nothing.
+use Prim.Native.Nat.{ℕ, _-_, _≤_, _<_}
 use mathlib.Core.Path.{_≡_, refl, sym, ap, _∙_}
 use mathlib.Core.Logic.{⊎-elim}
 use mathlib.Core.List.{List, [], _∷_}
@@ -18,12 +18,14 @@ use Rattle.quorum.specs.Quorum.{mostTerminals, inRange}
 use Rattle.quorum.specs.Words.{mostRounds, startSound, placeOf}
 use Rattle.plan.specs.Plan.{hears}
 use Rattle.faults.specs.Check.{faultCauseOf}
+use Rattle.lines.specs.declared.Rounds.{Rounds}
+use Rattle.lines.specs.declared.Rounds.the-variants.{Left}
 use Rattle.lines.specs.declared.Frame.{Frame}
 use Rattle.lines.specs.declared.Frame.the-variants.{Foreign, Unknown, Head, Link, FaultSet, Start, Message}
-use Rattle.frames.specs.declared.Stage.the-variants.{Links, Words}
+use Rattle.frames.specs.declared.Stage.the-variants.{Links, Faults, Words}
 use Rattle.frames.specs.declared.Progress.{Progress}
 use Rattle.frames.specs.declared.told.Told.{Told}
-use Rattle.frames.specs.Reading.{isAt, roundsOf, linkCause, faultSetCause, isWord, messageCause, causeIn, linked, after, wordsAfter}
+use Rattle.frames.specs.Reading.{isAt, roundsOf, linkCause, faultSetCause, startCause, isWord, messageCause, causeIn, linked, after, wordsAfter}
 use Rattle.frames.proofs.Accepted.{head-accepted, link-accepted, start-accepted}
 
 -- ---- a link
@@ -67,6 +69,26 @@ unfolding faultSetCause
 fault-set-at p s stage =
     cause-later _ _ _ (not-yes stage)
     ∙ ⊎-elim (λ z. cause-last _ _ (not-yes (eq-eqb (faultCauseOf (p .plan) s) 0 z)) ∙ sym z) (given-decides (faultCauseOf (p .plan) s) []) (equal-or-not (faultCauseOf (p .plan) s) 0)
+
+-- ---- a start
+
+-- one that gives no rounds
+pub rounds-left : (n played : ℕ) (rounds : Rounds) → rounds ≡ Left → played ≡ n - 1 → played ≡ roundsOf n rounds
+rounds-left n played rounds e h = h ∙ sym (ap (roundsOf n) e)
+
+-- one in its place, by the rounds that it was found to mean
+module _ (p : Progress) (value : ℕ) (rounds : Rounds) (played : ℕ) (stage : isAt Faults p ≡ true) (e : played ≡ roundsOf (p .plan .n) rounds) where
+  pub start-sound : startSound value played ≡ true → startCause p value rounds ≡ 0
+  unfolding startCause
+  start-sound h = cause-later _ _ _ (not-yes stage) ∙ cause-last _ _ (not-yes (sym (ap (startSound value) e) ∙ h))
+
+  pub start-wrong : startSound value played ≡ false → startCause p value rounds ≡ 9
+  unfolding startCause
+  start-wrong h = cause-later _ _ _ (not-yes stage) ∙ cause-here _ _ _ (not-i (sym (ap (startSound value) e) ∙ h))
+
+  pub start-next : record { stage = Words; plan = p .plan; faulty = p .faulty; value = value; rounds = played } ≡ after p (Start value rounds)
+  unfolding after
+  start-next i = record { stage = Words; plan = p .plan; faulty = p .faulty; value = value; rounds = e i }
 
 -- ---- a word
 
@@ -158,7 +180,7 @@ module _ (p : Progress) (words : List ℕ) (twenty : p .plan .n ≤ mostTerminal
   kept (Head n source f) h = (leb-true n 20 (and-l _ _ (and-r _ _ (head-accepted p words n source f h .1))), omega arith)
   kept (Link from to) h = (twenty, omega arith)
   kept (FaultSet s) h = (twenty, omega arith)
-  kept (Start value rounds) h = (twenty, leb-true (roundsOf rounds) 40 (and-r _ _ (start-accepted p words value rounds h .1)))
+  kept (Start value rounds) h = (twenty, leb-true (roundsOf (p .plan .n) rounds) 40 (and-r _ _ (start-accepted p words value rounds h .1)))
   kept (Message round from to value) h = (twenty, forty)
 
   pub kept-next : (frame : Frame) (cause : ℕ) (next : Progress) → cause ≡ causeIn p words frame → cause ≡ 0 → next ≡ after p frame

@@ -1,5 +1,5 @@
 -- A file read line by line: what each frame does, and the causes for which it is refused (document 01, the table of causes). Assumes nothing.
-use Prim.Native.Nat.{ℕ, _+_, _^_}
+use Prim.Native.Nat.{ℕ, _+_, _-_, _^_}
 use mathlib.Core.Bool.{Bool, not}
 use mathlib.Core.List.{List, [], _∷_}
 use lib.Dec.{eqb, leb, ltb}
@@ -8,7 +8,7 @@ use Rattle.sets.specs.Tests.{_and_, _or_, pick}
 use Rattle.sets.specs.Causes.{_gives_, firstCause, given}
 use Rattle.sets.specs.Sets.{Terminal, Set, mem, with}
 use Rattle.quorum.specs.Quorum.{mostTerminals, inRange}
-use Rattle.quorum.specs.Words.{mostRounds, mostWords, startSound, placeOf}
+use Rattle.quorum.specs.Words.{mostWords, startSound, placeOf}
 use Rattle.plan.specs.declared.Plan.{Plan}
 use Rattle.plan.specs.Plan.{heardBy, hears}
 use Rattle.faults.specs.Check.{faultCauseOf}
@@ -61,10 +61,10 @@ nothingRead = record { stage = Nothing; plan = noPlan; faulty = 0; value = 0; ro
 abbrev pub noWords : List ℕ
 noWords = replicate mostWords 0
 
--- a start frame without its rounds byte means 40 rounds
-abbrev pub roundsOf : Rounds → ℕ
-roundsOf (Given rounds) = rounds
-roundsOf Left = mostRounds
+-- the rounds that a start frame means on n terminals: those of its rounds byte, and without it n - 1 (document 02, P2)
+abbrev pub roundsOf : (n : ℕ) → Rounds → ℕ
+roundsOf n (Given rounds) = rounds
+roundsOf n Left = n - 1
 
 -- ---- the number of the first cause that refuses a frame, 0 for none
 
@@ -79,8 +79,9 @@ linkCause p from to =
 unfoldable pub faultSetCause : Progress → (s : Set) → ℕ
 faultSetCause p s = firstCause (not (isAt Links p) gives 3 ∷ given (faultCauseOf (p .plan) s) ∷ [])
 
-unfoldable pub startCause : Progress → (value rounds : ℕ) → ℕ
-startCause p value rounds = firstCause (not (isAt Faults p) gives 3 ∷ not (startSound value rounds) gives 9 ∷ [])
+unfoldable pub startCause : Progress → (value : ℕ) → Rounds → ℕ
+startCause p value rounds =
+    firstCause (not (isAt Faults p) gives 3 ∷ not (startSound value (roundsOf (p .plan .n) rounds)) gives 9 ∷ [])
 
 -- a word in a round that is played, on a link, from a bad sender, and not silence
 unfoldable pub isWord : Progress → (round : ℕ) (from to : Terminal) (value : ℕ) → Bool
@@ -102,7 +103,7 @@ causeIn p words Unknown = numberOf Unknown
 causeIn p words (Head n source f) = headCause p n source f
 causeIn p words (Link from to) = linkCause p from to
 causeIn p words (FaultSet s) = faultSetCause p s
-causeIn p words (Start value rounds) = startCause p value (roundsOf rounds)
+causeIn p words (Start value rounds) = startCause p value rounds
 causeIn p words (Message round from to value) = messageCause p words round from to value
 
 -- ---- what an accepted frame adds
@@ -110,10 +111,6 @@ causeIn p words (Message round from to value) = messageCause p words round from 
 -- the plan with one link more: `to` hears `from`
 unfoldable pub linked : Plan → (from to : Terminal) → Plan
 linked p from to = record { n = p .n; source = p .source; f = p .f; rows = set (p .rows) to (with 32 (heardBy p to) from) }
-
--- a start, with the rounds that it means
-abbrev pub started : Progress → (value rounds : ℕ) → Progress
-started p value rounds = record { stage = Words; plan = p .plan; faulty = p .faulty; value = value; rounds = rounds }
 
 unfoldable pub after : Progress → Frame → Progress
 after p Foreign = p
@@ -127,7 +124,13 @@ after p (Head n source f) = record {
 }
 after p (Link from to) = record { stage = Links; plan = linked (p .plan) from to; faulty = 0; value = 0; rounds = 0 }
 after p (FaultSet s) = record { stage = Faults; plan = p .plan; faulty = s; value = 0; rounds = 0 }
-after p (Start value rounds) = started p value (roundsOf rounds)
+after p (Start value rounds) = record {
+  stage = Words;
+  plan = p .plan;
+  faulty = p .faulty;
+  value = value;
+  rounds = roundsOf (p .plan .n) rounds;
+}
 after p (Message round from to value) = p
 
 unfoldable pub wordsAfter : Progress → (words : List ℕ) → Frame → List ℕ

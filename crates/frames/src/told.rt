@@ -4,10 +4,10 @@ ghost use Prim.Native.Nat.{_<_, _≤_};
 ghost use lib.Dec.{eqb};
 ghost use lib.ListN.{length, set};
 ghost use Rattle.sets.specs.Tests.{pick};
-ghost use Rattle.lines.specs.declared.Frame.the-variants.{Head, Link, FaultSet};
+ghost use Rattle.lines.specs.declared.Frame.the-variants.{Head, Link, FaultSet, Start};
 ghost use Rattle.quorum.specs.Quorum.{mostTerminals};
 ghost use Rattle.quorum.specs.Words.{mostRounds, mostWords, placeOf};
-ghost use Rattle.frames.specs.Reading.{roundsOf, started, headCause, linkCause, faultSetCause, startCause, isWord, messageCause, causeIn, linked, after, wordsAfter};
+ghost use Rattle.frames.specs.Reading.{roundsOf, headCause, linkCause, faultSetCause, startCause, isWord, messageCause, causeIn, linked, after, wordsAfter};
 use super::Progress;
 use super::Stage;
 use super::is_at;
@@ -145,22 +145,31 @@ fn fault_set(p: Progress, s: u32) -> Told
     }
 }
 
-// The rounds of a start frame: 40 where they are left out.
-fn rounds_of(rounds: Rounds) -> u8
-    ensures { λ r. ⌜ r ≡ roundsOf rounds ⌝ }
+// The rounds of a start frame on n terminals: n - 1 where they are left out. Before the head n is 0,
+// and a start is refused whatever it means.
+fn rounds_of(n: usize, rounds: Rounds) -> u8
+    requires { ⌜ n ≤ mostTerminals ⌝ }
+    ensures { λ r. ⌜ r ≡ roundsOf n rounds ⌝ }
 {
     match rounds {
         Rounds::Given(r) => r,
-        Rounds::Left => 40,
+        Rounds::Left => {
+            if n < 1 {
+                return 0;
+            }
+            (n - 1) as u8
+        }
     }
 }
 
-fn start(p: Progress, value: u16, rounds: u8) -> Told
-    ensures { λ r. ⌜ (r .cause ≡ startCause p value rounds) × (r .cause ≡ 0 → r .progress ≡ started p value rounds) ⌝ }
+fn start(p: Progress, value: u16, rounds: Rounds) -> Told
+    requires { ⌜ p .plan .n ≤ mostTerminals ⌝ }
+    ensures { λ r. ⌜ (r .cause ≡ startCause p value rounds) × (r .cause ≡ 0 → r .progress ≡ after p (Start value rounds)) ⌝ }
 {
     let plan = p.plan;
     if is_at(Stage::Faults, p) {
-        if quorum::start_sound(value, rounds) {
+        let played = rounds_of(plan.n, rounds);
+        if quorum::start_sound(value, played) {
             return Told {
                 cause: 0,
                 progress: Progress {
@@ -168,7 +177,7 @@ fn start(p: Progress, value: u16, rounds: u8) -> Told
                     plan: plan,
                     faulty: p.faulty,
                     value: value,
-                    rounds: rounds,
+                    rounds: played,
                 },
             };
         }
@@ -255,7 +264,7 @@ pub(crate) fn tell(p: Progress, words: &mut [u16], frame: Frame) -> Told
         Frame::Head(n, source, f) => head(p, n, source, f),
         Frame::Link(from, to) => link(p, from as usize, to as usize),
         Frame::FaultSet(s) => fault_set(p, s),
-        Frame::Start(value, rounds) => start(p, value, rounds_of(rounds)),
+        Frame::Start(value, rounds) => start(p, value, rounds),
         Frame::Message(round, from, to, value) => Told {
             cause: message(p, words, round, from as usize, to as usize, value),
             progress: p,

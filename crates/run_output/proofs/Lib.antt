@@ -1,3 +1,5 @@
--- The terminals' lines and the run that a file asks for (SiteLaws), and the laws for callers (Laws).
+-- The terminals' lines and the run that a file asks for (SiteLaws), the laws for callers (Laws), and what a start without its rounds byte leads to
+-- (RoundsLeftOut).
 mod SiteLaws
 pub mod Laws
+pub mod RoundsLeftOut

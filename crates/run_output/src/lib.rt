@@ -1,12 +1,13 @@
 // What `run` prints: from a run file's bytes to a line for each terminal.
 ghost use mathlib.Core.Path.{_≡_};
 ghost use Prim.Native.Nat.{_≤_};
-ghost use lib.ListN.{length, getD};
+ghost use lib.ListN.{length, getD, take};
 ghost use Rattle.terminal.specs.Rule.{start};
 ghost use Rattle.text.specs.Texts.{held, joined, putInto};
 ghost use Rattle.frames.specs.Reading.{runReading, fileRead};
 ghost use Rattle.output.specs.OnFile.{answerOn};
 ghost use Rattle.run_output.specs.Site.{terminalLine, goodLine, stateLine, siteLines, ranText, ranOn, runText, Playable};
+ghost use Rattle.run_output.specs.RoundsLeftOut.{RoundsLeftOut};
 use frames::FileRead;
 use frames::Progress;
 use output::Written;
@@ -90,6 +91,7 @@ fn of_run(read: FileRead, words: &[u16]) -> Text
 pub fn run_text(text: &[u8], out: &mut [u8]) -> Written
     ensures { λ r. ⌜ r ≡ answerOn (fileRead (runReading (now (text .entry)))) (runText (now (text .entry))) (length (now (out .entry))) ⌝ }
     ensures { λ r. ⌜ now (out .exit) ≡ putInto (runText (now (text .entry))) (now (out .entry)) ⌝ }
+    ensures { λ r. ⌜ (r .number ≡ 0 → RoundsLeftOut (now (text .entry)) (take (r .len) (now (out .exit)))) ⌝ }
 {
     let mut words = [0u16; 16000];
     let read = frames::read_run(text, &mut words);

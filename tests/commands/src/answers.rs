@@ -51,6 +51,7 @@ fn programs(checks: &mut Checks) {
     let run = lines(&[&EXAMPLE[..], &RUN[..]].concat());
     let states = lines(&STATES);
     let told = lines(&[
+        "3 rounds played, as given",
         "terminal 0, the source: took layout 7 in round 0",
         "terminal 1: bad",
         "terminal 2: took layout 7 in round 1",

@@ -253,7 +253,7 @@ const AFTER_START: [Row; 10] = [
 ];
 
 /// After the example plan and its bad set (6 lines).
-const STARTS: [Row; 2] = [
+const STARTS: [Row; 4] = [
     Row(
         "run",
         9,
@@ -262,6 +262,20 @@ const STARTS: [Row; 2] = [
         &["04000003"],
     ),
     Row("run", 9, 7, "41 rounds: 0 to 40 are allowed", &["04000729"]),
+    Row(
+        "run",
+        10,
+        8,
+        "round 4: the run has rounds 1 to 3 (n-1, since none are given)",
+        &["040007", "050401030009"],
+    ),
+    Row(
+        "run",
+        10,
+        8,
+        "round 40: the run has rounds 1 to 39",
+        &["04000727", "052801030009"],
+    ),
 ];
 
 pub fn check(checks: &mut Checks) {

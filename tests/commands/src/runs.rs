@@ -1,15 +1,77 @@
 //! The example runs, round by round. What each terminal takes, and when, is worked out by hand.
 
-use crate::checks::{lines, Checks};
+use crate::checks::{lines, read, Checks};
 
 pub fn check(checks: &mut Checks) {
     traces(checks);
     table(checks);
     no_run(checks);
     with_bad(checks);
-    for name in ["example", "liars", "silence"] {
+    both_starts(checks);
+    for name in ["runs/example", "runs/liars", "runs/silence"] {
         same_in_frames(checks, name);
     }
+}
+
+/// plans/runs, as text and as frames. late: 3 has 7 from 2 in round 2 and from 1 in round 4, so it
+/// takes in round 4 and speaks in round 5, when 4 has it from 2 and 3. passed: 2 and 3 hear the
+/// source and speak in round 2; the liar's word has one voter.
+fn both_starts(checks: &mut Checks) {
+    let table: [(&str, &str, [&str; 5]); 3] = [
+        (
+            "late",
+            "4 rounds played: n-1, since none are given",
+            ["took 0", "bad", "took 1", "took 4", "waiting"],
+        ),
+        (
+            "late-40",
+            "40 rounds played, as given",
+            ["took 0", "bad", "took 1", "took 4", "took 5"],
+        ),
+        (
+            "passed",
+            "4 rounds played: n-1, since none are given",
+            ["took 0", "bad", "took 1", "took 1", "took 2"],
+        ),
+    ];
+    for (name, played, states) in table {
+        let (text, frames) = (
+            format!("plans/runs/{name}.txt"),
+            format!("plans/runs/{name}.hex"),
+        );
+        let wanted = frames_of(&states) + &lines(&[played]) + &words_of(&states);
+        for file in [&text, &frames] {
+            let done = checks.call(&["run", file]);
+            checks.ends(&format!("run of {file}"), &done, 0, &frames_of(&states), "");
+            let done = checks.call(&["explain", file]);
+            checks.ends(&format!("explain of {file}"), &done, 0, &wanted, "");
+        }
+        same_in_frames(checks, &format!("plans/runs/{name}"));
+        let committed = read(&checks.top.join(&frames));
+        let done = checks.call(&["plan", &text]);
+        checks.ends(&format!("plan of {text}"), &done, 0, &committed, "");
+    }
+}
+
+/// Frames 82 of "took ROUND", "bad" and "waiting", with layout 7.
+fn frames_of(states: &[&str]) -> String {
+    let line = |(terminal, state): (usize, &&str)| match state.strip_prefix("took ") {
+        Some(round) => format!("82{terminal:02x}010{round}0007\n"),
+        None if *state == "bad" => format!("82{terminal:02x}02000000\n"),
+        None => format!("82{terminal:02x}00000000\n"),
+    };
+    states.iter().enumerate().map(line).collect()
+}
+
+fn words_of(states: &[&str]) -> String {
+    let line = |(terminal, state): (usize, &&str)| {
+        let source = if terminal == 0 { ", the source" } else { "" };
+        match state.strip_prefix("took ") {
+            Some(round) => format!("terminal {terminal}{source}: took layout 7 in round {round}\n"),
+            None => format!("terminal {terminal}{source}: {state}\n"),
+        }
+    };
+    states.iter().enumerate().map(line).collect()
 }
 
 /// liars: 2, 3, 4 and 7 hear the source. In round 2, 5 has 7 from 2 and 4, and 6 from 2, 3 and 7;
@@ -114,7 +176,7 @@ fn with_bad(checks: &mut Checks) {
 
 /// A run's text and its frames are the same run.
 fn same_in_frames(checks: &mut Checks, name: &str) {
-    let text = format!("runs/{name}.txt");
+    let text = format!("{name}.txt");
     let frames = checks.call(&["plan", &text]).out;
     checks.holds(&format!("{name} has frames"), frames.starts_with("01"));
     let run = checks.call(&["run", &text]);

@@ -249,6 +249,8 @@ fn refused_runs(checks: &mut Checks) {
         (format!("{plan}rounds 3\nvalue 70000\n"), "line 8 (value 70000): layouts are 1 to 65535 (cause 9)"),
         (format!("{plan}value 7\n\nrounds 41\n"), "line 9 (rounds 41): 0 to 40 are allowed (cause 9)"),
         (format!("{RUN}rounds 3\nround 4: 1 says 9 to 3\n"), "line 10 (round 4: 1 says 9 to 3): the run has rounds 1 to 3 (cause 10)"),
+        (format!("{RUN}round 3: 1 says 9 to 3\nround 4: 1 says 9 to 3\n"), "line 10 (round 4: 1 says 9 to 3): the run has rounds 1 to 3 (n-1, since none are given) (cause 10)"),
+        (format!("{RUN}rounds 40\nround 40: 1 says 9 to 3\nround 41: 1 says 9 to 3\n"), "line 11 (round 41: 1 says 9 to 3): the run has rounds 1 to 40 (cause 10)"),
         (format!("{RUN}round 2: 1 says 9 to 2\n"), "line 9 (round 2: 1 says 9 to 2): 2 does not hear 1 (cause 10)"),
         (format!("{RUN}round 2: 1 says 9 to 3 3\n"), "line 9 (round 2: 1 says 9 to 3): line 9 has a word on this link in this round already (cause 11)"),
     ];
@@ -268,15 +270,18 @@ fn refused_runs(checks: &mut Checks) {
 /// `show` of a text keeps what it has, in the fixed order; twice is the same.
 fn shown_again(checks: &mut Checks) {
     let given = "terminals 4\nsource 0 # office\nbound 1\nat 3 120 80.50\nname 3 \"east # gate\"\n2 > 3\n3 > 1\n1 > 3\n0 > 2 1\nsite \"Pit\"\nround 3: 1 says 9 to 3\nvalue 7\nbad 1\nname 0 \"office\"\n";
-    let wanted = "site \"Pit\"\nterminals 4\nsource 0\nbound 1\n0 > 1 2\n1 - 3\n2 > 3\nname 0 \"office\"\nname 3 \"east # gate\"\nat 3 120 80.50\nbad 1\nvalue 7\nrounds 40\nround 3: 1 says 9 to 3\n";
+    let wanted = "site \"Pit\"\nterminals 4\nsource 0\nbound 1\n0 > 1 2\n1 - 3\n2 > 3\nname 0 \"office\"\nname 3 \"east # gate\"\nat 3 120 80.50\nbad 1\nvalue 7\nround 3: 1 says 9 to 3\n";
     for text in [given, wanted] {
         let done = checks.call_with(&["show"], text.as_bytes());
         checks.ends("show of a text", &done, 0, wanted, "");
     }
     let nobody = format!("{TEXT}value 9\n");
     let done = checks.call_with(&["show"], nobody.as_bytes());
-    let wanted = format!("{TEXT}bad none\nvalue 9\nrounds 40\n");
+    let wanted = format!("{TEXT}bad none\nvalue 9\n");
     checks.ends("show of a run with nobody bad", &done, 0, &wanted, "");
+    let given = format!("{TEXT}bad none\nvalue 9\nrounds 3\n");
+    let done = checks.call_with(&["show"], given.as_bytes());
+    checks.ends("show of a run with its rounds", &done, 0, &given, "");
 }
 
 /// Two of three links have their other direction: the third is warned of, and nothing else changes.

@@ -25,6 +25,8 @@ pub enum Manner {
     Steady,
     /// A lie at first, later the truth.
     Turncoat,
+    /// The truth, in this round alone.
+    Once(u32),
 }
 
 pub fn join(lines: &[Vec<u8>]) -> Vec<u8> {
@@ -77,7 +79,7 @@ pub fn run_draft(rng: &mut Rng, plan: Plan, rounds: Option<u32>, manner: Manner)
     let value = rng.pick(&[1, 7, 255, 256, 4660, 65_535]);
     let mut draft = plan_draft(plan);
     draft.bad = bad;
-    draft.rounds = rounds.unwrap_or(40);
+    draft.rounds = rounds.unwrap_or(draft.plan.n - 1);
     draft.lines.push(bad_set_line(number_of(&draft.bad)));
     draft.lines.push(start_line(value, rounds));
     let words = words(rng, &draft, value, manner);
@@ -95,7 +97,11 @@ fn words(rng: &mut Rng, draft: &Draft, value: u16, manner: Manner) -> Vec<Vec<u8
     let share = rng.pick(&[20, 60, 100]);
     let turn = rng.between(1, 4);
     let mut lines = Vec::new();
-    for round in 1..=draft.rounds.min(41) {
+    let rounds = match manner {
+        Manner::Once(round) => round..=round,
+        _ => 1..=draft.rounds.min(41),
+    };
+    for round in rounds {
         for &(from, to) in draft
             .plan
             .links
@@ -106,6 +112,7 @@ fn words(rng: &mut Rng, draft: &Draft, value: u16, manner: Manner) -> Vec<Vec<u8
                 Manner::Steady => lies[to as usize % 2],
                 Manner::Turncoat if round > turn => value,
                 Manner::Turncoat => lies[0],
+                Manner::Once(_) => value,
                 _ if rng.chance(30) => value,
                 _ => rng.pick(&lies),
             };

@@ -30,9 +30,12 @@ pub enum Fault {
     CapitalsAccepted,
     CharactersExchanged,
     CharacterMissing,
+    UnnamedRoundsForty,
+    UnnamedRoundsAsTerminals,
+    NamedRoundsIgnored,
 }
 
-pub const PLANTED: [(Fault, &str); 19] = [
+pub const PLANTED: [(Fault, &str); 22] = [
     (Fault::VotesWithoutOne, "f instead of f+1 votes in the step"),
     (Fault::ClosureWithoutOne, "f instead of f+1 in the closure"),
     (
@@ -73,6 +76,18 @@ pub const PLANTED: [(Fault, &str); 19] = [
     (Fault::CapitalsAccepted, "capital digits accepted"),
     (Fault::CharactersExchanged, "digits b and c exchanged"),
     (Fault::CharacterMissing, "digit f refused"),
+    (
+        Fault::UnnamedRoundsForty,
+        "40 rounds where the start names none",
+    ),
+    (
+        Fault::UnnamedRoundsAsTerminals,
+        "n rounds where the start names none",
+    ),
+    (
+        Fault::NamedRoundsIgnored,
+        "n-1 rounds where the start names another number",
+    ),
 ];
 
 /// Larger sites cost time in the verdict and show no fault that smaller ones hide.

@@ -5,7 +5,8 @@ use crate::draft::{join, plan_draft, run_draft, Draft, Manner};
 use crate::drawings::DRAWINGS;
 use crate::plan::{Plan, Set};
 use crate::plans::{
-    border_plan, deep_plan, hear_at_source, joined_plan, random_plan, strong_plan, weak_plan,
+    border_plan, deep_plan, hear_at_source, joined_plan, random_plan, strong_plan, thin_plan,
+    weak_plan,
 };
 use crate::rng::Rng;
 use crate::step::{Place, Record, State};
@@ -98,7 +99,8 @@ fn drawing(turn: u64) -> Plan {
 
 fn run_case(rng: &mut Rng, sort: u64, turn: u64) -> Draft {
     let n = terminals(turn, 2, 20);
-    let rounds = Some(rng.between(0, 12));
+    // Both forms of start: with its rounds, and without.
+    let rounds = rng.chance(65).then(|| rng.between(0, 12));
     match sort {
         0 => named_run(rng, strong_plan, n, rounds, Manner::Wild),
         1 => {
@@ -116,6 +118,7 @@ fn run_case(rng: &mut Rng, sort: u64, turn: u64) -> Draft {
             };
             run_draft(rng, plan, rounds, manner)
         }
+        5 if turn.is_multiple_of(2) => edge_run(rng, n),
         5 => {
             let rounds = rng.pick(&[None, Some(0), Some(1), Some(39), Some(40), Some(41)]);
             named_run(rng, deep_plan, n, rounds, Manner::Wild)
@@ -137,6 +140,28 @@ fn named_run(
         hear_at_source(rng, &mut plan);
     }
     run_draft(rng, plan, rounds, manner)
+}
+
+/// A start in either form, and the liars' words in round n-1, n or 40 alone. They are the truth, so
+/// whoever waited for them takes then, and what is passed on in a round more shows.
+pub fn edge_run(rng: &mut Rng, n: u32) -> Draft {
+    let rounds = rng.pick(&[None, None, Some(n - 1), Some(n), Some(40)]);
+    let once = Manner::Once(rng.pick(&[n - 1, n, 40]));
+    // Not every plan has liars that are heard, and two terminals seldom do.
+    let mut tries = (0..20).map(|_| {
+        let make = rng.pick(&[
+            thin_plan as fn(&mut Rng, u32) -> Plan,
+            thin_plan,
+            weak_plan,
+            deep_plan,
+        ]);
+        named_run(rng, make, n, rounds, once)
+    });
+    let some_word = |draft: &Draft| draft.lines.iter().any(|line| line.starts_with(b"05"));
+    match tries.find(some_word) {
+        Some(draft) => draft,
+        None => named_run(rng, strong_plan, n, rounds, once),
+    }
 }
 
 /// Links and words each in random order.

@@ -90,9 +90,20 @@ pub fn weak_plan(rng: &mut Rng, n: u32) -> Plan {
 /// A chain or ladder, in which rounds of taking differ.
 pub fn deep_plan(rng: &mut Rng, n: u32) -> Plan {
     let f = rng.between(0, (n - 1).min(2));
+    ladder(rng, n, f, 2 * f + 1)
+}
+
+/// The same with nobody to spare: whoever hears a liar waits for its word.
+pub fn thin_plan(rng: &mut Rng, n: u32) -> Plan {
+    let f = rng.between(1, (n - 1).min(2));
+    ladder(rng, n, f, f + 1)
+}
+
+/// Each hears so many before it; the first ones hear the source.
+fn ladder(rng: &mut Rng, n: u32, f: u32, width: u32) -> Plan {
     let mut plan = Plan::new(n, source(rng, n), f);
     let order = source_first(rng, &plan);
-    let width = (2 * f + 1) as usize;
+    let width = width as usize;
     for place in 1..order.len() {
         if place <= width {
             plan.links.insert((plan.source, order[place]));

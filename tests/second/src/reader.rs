@@ -10,9 +10,6 @@ use std::collections::BTreeMap;
 
 pub const LONGEST_FILE: usize = 24_576;
 
-/// Rounds of a start frame that doesn't name them.
-pub const ROUNDS_UNNAMED: u32 = 40;
-
 /// A refused file: the cause and the line, from 1, or 0 for the whole file.
 #[derive(Clone, Copy, Debug, PartialEq, Eq)]
 pub struct Refusal {
@@ -151,7 +148,7 @@ impl Reading {
 
     fn take_start(&mut self, rest: &[u32], fault: Fault) -> Result<(), Cause> {
         let value = (rest[0] * 256 + rest[1]) as u16;
-        let rounds = rest.get(2).copied().unwrap_or(ROUNDS_UNNAMED);
+        let rounds = rounds_of(rest.get(2).copied(), self.file.plan.n, fault);
         lowest(&[
             (value == 0, Cause::Start),
             (rounds > last_round(fault), Cause::Start),
@@ -178,6 +175,17 @@ impl Reading {
         ])?;
         file.words.insert((round, from, to), value);
         Ok(())
+    }
+}
+
+/// The rounds that a start means: those it names, or one less than there are terminals.
+fn rounds_of(named: Option<u32>, terminals: u32, fault: Fault) -> u32 {
+    match (fault, named) {
+        (Fault::NamedRoundsIgnored, _) => terminals - 1,
+        (_, Some(rounds)) => rounds,
+        (Fault::UnnamedRoundsForty, None) => 40,
+        (Fault::UnnamedRoundsAsTerminals, None) => terminals,
+        (_, None) => terminals - 1,
     }
 }
 

@@ -4,8 +4,9 @@
 //! bytes, high byte first) and the body. Each call has one line of digits.
 
 use crate::characters;
+use crate::draft::join;
 use crate::faults::Fault;
-use crate::generate::{case, step_case, Kind, StepCase};
+use crate::generate::{case, edge_run, step_case, Kind, StepCase};
 use crate::output::{digits, refusal_line, run_answer, verdict_answer};
 use crate::plan::{number_of, set_of, write_plan, Cause, Plan, Set};
 use crate::plans::{deep_plan, random_plan, strong_plan, weak_plan};
@@ -60,9 +61,10 @@ pub fn write(calls_file: &Path, lines_file: &Path) -> io::Result<()> {
 type Maker = fn(u64, u64) -> Call;
 
 /// Every kind of call, and how many of it.
-const KINDS: [(Maker, u64); 12] = [
+const KINDS: [(Maker, u64); 13] = [
     (verdict_call, 600),
     (run_call, 600),
+    (edge_call, 150),
     (read_call, 300),
     (write_call, 200),
     (step_call, 1500),
@@ -173,6 +175,15 @@ fn verdict_call(seed: u64, index: u64) -> Call {
 
 fn run_call(seed: u64, index: u64) -> Call {
     case_call(Kind::Run, seed, index)
+}
+
+/// Both forms of start, and words at the edge of the rounds that are played, with room for the
+/// whole answer. Small sites, in which fewer lie and a word more often matters.
+fn edge_call(seed: u64, index: u64) -> Call {
+    let mut rng = rng_for(seed, b'e', index);
+    let n = rng.between(2, 8);
+    let file = join(&edge_run(&mut rng, n).lines);
+    text_call(Kind::Run, file, |_, text| text)
 }
 
 /// Every byte in the place of a digit, with room for the whole answer.

@@ -4,8 +4,11 @@ use second::compare::{ask, Answer, TIME_LIMIT};
 use second::exhaust::exhaust;
 use second::faults::{Fault, Sound, PLANTED};
 use second::generate::{case, step_case, Kind};
+use second::output::run_text;
+use second::reader::read_run;
 use second::record;
 use second::step::step;
+use second::verdict::verdict;
 use std::collections::BTreeSet;
 
 #[test]
@@ -99,6 +102,111 @@ fn programs_are_asked() {
         ask("no-such-program", b"", TIME_LIMIT),
         Answer::Crash(_)
     ));
+}
+
+/// A run file's n, whether its start names its rounds, and the rounds that its words are in.
+fn start_and_words(text: &[u8]) -> (u32, bool, BTreeSet<u32>) {
+    let lines: Vec<&[u8]> = text.split(|&byte| byte == 10).collect();
+    let byte = |line: &[u8], place: usize| {
+        let digits = std::str::from_utf8(&line[2 * place..2 * place + 2]).expect("digits");
+        u32::from_str_radix(digits, 16).expect("digits")
+    };
+    let start = lines.iter().find(|line| line.starts_with(b"04"));
+    let words = lines.iter().filter(|line| line.starts_with(b"05"));
+    (
+        byte(lines[0], 1),
+        start.expect("a start").len() == 8,
+        words.map(|line| byte(line, 1)).collect(),
+    )
+}
+
+/// The edge that all words of a run file stand in, and whether its start names its rounds.
+fn edges(text: &[u8]) -> Vec<(&'static str, bool)> {
+    let (n, named, rounds) = start_and_words(text);
+    [("n-1", n - 1), ("n", n), ("40", 40)]
+        .into_iter()
+        .filter(|(_, round)| rounds == BTreeSet::from([*round]))
+        .map(|(edge, _)| (edge, named))
+        .collect()
+}
+
+/// Both forms of start, with words in round n-1, n or 40 alone, are among the cases and among the
+/// recorded calls. Where the start names no rounds, those in n and in 40 are refused.
+#[test]
+fn both_forms_of_start_with_words_at_the_edge() {
+    let fresh = (0..1600).filter(|index| index % 32 == 5);
+    let fresh = fresh.map(|index| {
+        let text = case(Kind::Run, 1, index);
+        let refused = second::run_text(&text).starts_with(b"ff0a");
+        (text, refused)
+    });
+    let calls = record::calls(record::SEED).into_iter();
+    let recorded = calls.filter(|call| call.kind == b'r' && [0, 10].contains(&call.line[0]));
+    let recorded = recorded.map(|call| (call.body, call.line[0] == 10));
+    let seen = |files: Vec<(Vec<u8>, bool)>| -> BTreeSet<(&str, bool, bool)> {
+        let seen = files.into_iter().flat_map(|(text, refused)| {
+            let edges = edges(&text).into_iter();
+            edges.map(move |(edge, named)| (edge, named, refused))
+        });
+        seen.collect()
+    };
+    for seen in [seen(fresh.collect()), seen(recorded.collect())] {
+        for edge in ["n-1", "n", "40"] {
+            assert!(seen.contains(&(edge, false, edge != "n-1")), "{edge}");
+            assert!(seen.contains(&(edge, true, false)), "{edge}, named");
+        }
+        assert!(!seen.contains(&("n", false, false)) && !seen.contains(&("40", false, false)));
+    }
+}
+
+/// The rounds that are meant show in what is printed of accepted files too, and not in refusals
+/// alone, both among the cases and among the recorded calls.
+#[test]
+fn default_rounds_show_in_accepted_files() {
+    let fresh = (0..1600).filter(|index| index % 32 == 5);
+    let fresh: Vec<Vec<u8>> = fresh.map(|index| case(Kind::Run, 1, index)).collect();
+    let calls = record::calls(record::SEED).into_iter();
+    let recorded = calls.filter(|call| call.kind == b'r' && call.line[0] == 0);
+    let recorded: Vec<Vec<u8>> = recorded.map(|call| call.body).collect();
+    for files in [fresh, recorded] {
+        for fault in [Fault::UnnamedRoundsForty, Fault::UnnamedRoundsAsTerminals] {
+            let shown = files.iter().filter(|text| {
+                let printed = run_text(text, Fault::None);
+                printed.starts_with(b"82") && printed != run_text(text, fault)
+            });
+            assert!(shown.count() > 1, "{fault:?}");
+        }
+    }
+}
+
+/// The reader of run files is recorded on accepted files with either form of start.
+#[test]
+fn both_forms_of_start_are_read() {
+    let calls = record::calls(record::SEED).into_iter();
+    let read = calls.filter(|call| call.kind == b'f' && call.line[0] == 0);
+    let named = read.map(|call| start_and_words(&call.body).1);
+    let (named, unnamed): (Vec<bool>, Vec<bool>) = named.partition(|&named| named);
+    assert!(named.len() > 20 && unnamed.len() > 20);
+}
+
+/// Of a passed plan's run whose start names no rounds, no line says that a terminal waits.
+#[test]
+fn passed_plans_end_with_nobody_waiting() {
+    let mut ended = 0;
+    for index in (0..3200).filter(|index| index % 16 < 8) {
+        let text = case(Kind::Run, 1, index);
+        let (n, named, _) = start_and_words(&text);
+        let plan = read_run(&text, Fault::None).map(|file| file.plan);
+        let Ok(plan) = plan else { continue };
+        if named || n > 9 || verdict(&plan, Fault::None).map_or(true, |answer| answer.fails) {
+            continue;
+        }
+        let printed = String::from_utf8(second::run_text(&text)).expect("digits");
+        assert_eq!(printed.lines().count(), n as usize);
+        assert!(printed.lines().all(|line| &line[4..6] != "00"), "{printed}");
+        ended += 1;
+    }
+    assert!(ended > 50, "{ended} runs");
 }
 
 /// A recorded call that no case reaches would compare nothing.

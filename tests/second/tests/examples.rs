@@ -101,6 +101,21 @@ fn second_round_of_drawing_c() {
     assert_eq!(one_round, "820001000007\n820101010007\n820200000000\n");
 }
 
+/// Terminal 1 is bad and says the truth in round 4 alone: 3 takes then, 4 a round later.
+#[test]
+fn rounds_when_none_are_given() {
+    let site = "01050001 020001 020002 020103 020203 020204 020304 03000002";
+    let printed = |start: &str| run(&format!("{site} {start} 050401030007"));
+    let until_3 = "820001000007\n820102000000\n820201010007\n820301040007\n";
+    assert_eq!(printed("040007"), format!("{until_3}820400000000\n"));
+    assert_eq!(printed("04000704"), printed("040007"));
+    for rounds in ["05", "06", "28"] {
+        let start = format!("040007{rounds}");
+        assert_eq!(printed(&start), format!("{until_3}820401050007\n"));
+    }
+    assert_eq!(printed("04000703"), "ff0a000a\n");
+}
+
 #[test]
 fn bound_up_to_all_but_one() {
     assert_eq!(verdict("01030002 020001"), "8101000000000003000004\n");

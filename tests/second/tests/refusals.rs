@@ -277,8 +277,17 @@ fn words() {
     runs_refused(10, RUN, &cases);
     let no_rounds = format!("{PLAN} 03000002 04000700");
     runs_refused(10, &no_rounds, &[("050101030009", 8)]);
+    // Four terminals: three rounds where none are named, forty where 28 is.
     let unnamed = format!("{PLAN} 03000002 040007");
-    runs_refused(10, &unnamed, &[("052801030009 052901030009", 9)]);
+    let cases = [
+        ("050301030009 050401030009", 9),
+        ("050401030009", 8),
+        ("052801030009", 8),
+    ];
+    runs_refused(10, &unnamed, &cases);
+    let forty = format!("{PLAN} 03000002 04000728");
+    let cases = [("050401030009 052801030009 052901030009", 10)];
+    runs_refused(10, &forty, &cases);
 }
 
 #[test]

@@ -26,11 +26,14 @@ pub struct Word {
 pub struct Run {
     pub bad: Vec<u8>,
     pub value: u16,
+    /// Those that are played.
     pub rounds: u8,
+    /// Whether the start frame has its rounds byte; without it they are one less than the terminals.
+    pub given: bool,
     pub words: Vec<Word>,
 }
 
-/// The most rounds of a run, and those of a start frame without its rounds byte.
+/// The most rounds of a run.
 pub const MOST_ROUNDS: u8 = 40;
 
 /// Cause and line of a refused file; line 0 is the whole file.
@@ -149,7 +152,8 @@ pub fn run(file: &[u8]) -> Run {
     let mut run = Run {
         bad: Vec::new(),
         value: 0,
-        rounds: MOST_ROUNDS,
+        rounds: plan(file).terminals.saturating_sub(1),
+        given: false,
         words: Vec::new(),
     };
     for line in String::from_utf8_lossy(file).lines() {
@@ -157,7 +161,8 @@ pub fn run(file: &[u8]) -> Run {
             [3, a, b, c] => run.bad = members([a, b, c]),
             [4, high, low] => run.value = u16::from_be_bytes([high, low]),
             [4, high, low, rounds] => {
-                (run.value, run.rounds) = (u16::from_be_bytes([high, low]), rounds);
+                run.value = u16::from_be_bytes([high, low]);
+                (run.rounds, run.given) = (rounds, true);
             }
             [5, round, from, to, high, low] => run.words.push(Word {
                 round,

@@ -110,11 +110,15 @@ fn counted(bytes: usize) -> String {
     }
 }
 
-fn rounds(count: u8) -> String {
-    match count {
+fn rounds(run: &Run) -> String {
+    let has = match run.rounds {
         0 => "the run has no round".into(),
         1 => "the run has round 1 only".into(),
         more => format!("the run has rounds 1 to {more}"),
+    };
+    match run.given {
+        true => has,
+        false => format!("{has} (n-1, since none are given)"),
     }
 }
 
@@ -297,7 +301,7 @@ impl Scene<'_> {
         } = *said.first()?;
         let (run, n) = (&self.run, self.plan.terminals);
         if round == 0 || round > run.rounds {
-            return because(format!("round {round}"), rounds(run.rounds));
+            return because(format!("round {round}"), rounds(run));
         }
         for end in [from, to] {
             if end >= n {

@@ -62,7 +62,10 @@ pub fn run(run: &Run) -> String {
     } else {
         spaced(&run.bad)
     };
-    let mut text = format!("bad{bad}\nvalue {}\nrounds {}\n", run.value, run.rounds);
+    let mut text = format!("bad{bad}\nvalue {}\n", run.value);
+    if run.given {
+        text += &format!("rounds {}\n", run.rounds);
+    }
     let alike = |one: &Word, next: &Word| {
         (one.round, one.from, one.value) == (next.round, next.from, next.value)
     };

@@ -19,6 +19,7 @@ pub fn of_verdict(
         bad: Vec::new(),
         value: 1,
         rounds: plan.terminals - 1,
+        given: true,
         words: Vec::new(),
     };
     let states = programs.states(&(plan.to_frames() + &run.to_frames()))?;
@@ -98,7 +99,13 @@ fn plain(terminals: &[u8]) -> String {
     Extras::default().listed(terminals)
 }
 
+/// The lines under a run's frames.
 pub fn of_states(document: &Document, states: &[(u8, State)]) -> Vec<String> {
+    let run = run_of(document);
+    let played = match run.given {
+        true => format!("{} played, as given", rounds(run.rounds)),
+        false => format!("{} played: n-1, since none are given", rounds(run.rounds)),
+    };
     let source = document.plan().source;
     let line = |(number, state): &(u8, State)| {
         let called = document.extras.called(*number);
@@ -115,7 +122,10 @@ pub fn of_states(document: &Document, states: &[(u8, State)]) -> Vec<String> {
             }
         }
     };
-    states.iter().map(line).collect()
+    [played]
+        .into_iter()
+        .chain(states.iter().map(line))
+        .collect()
 }
 
 /// A line of the file as it stands there, the start of it where it is long.

@@ -1,6 +1,7 @@
 use mathlib.Core.Path.{_∙_}
 use Rattle.output.proofs.Laws.{put-as}
 use Rattle.run_output.proofs.SiteLaws.{words-room, read-playable, read-is, ran-is}
+use Rattle.run_output.proofs.RoundsLeftOut.{put-left-out}
 -- The text of the file's lines, put into the list. Assumes nothing.
 use borrow.Author.Needs.{needs}
 use Rattle.run_output.proofs.run_text.Statement.{statement}
@@ -27,7 +28,8 @@ same-length c = search needs
 
 returns : tie.Need-returns
 returns c = let e = c .before .before .before .before .before .before .before .read-run .ensures in
-    put-as _ _ _ _ _ _ _ (read-is _ _ _ (e .0) (e .1)) (c .before .before .before .before .of-run .ensures ∙ ran-is _ _ _ (e .0) (e .1)) (c .before .before .put .ensures .0) (c .before .before .put .ensures .1)
+    let put = put-as _ _ _ _ _ _ _ (read-is _ _ _ (e .0) (e .1)) (c .before .before .before .before .of-run .ensures ∙ ran-is _ _ _ (e .0) (e .1)) (c .before .before .put .ensures .0) (c .before .before .put .ensures .1) in
+    (put .0, (put .1, put-left-out _ _ _ _ (put .0) (put .1)))
 
 pub run-text-spec : {M : Type 1} → statement M
 run-text-spec =

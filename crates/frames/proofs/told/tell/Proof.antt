@@ -1,6 +1,6 @@
-use mathlib.Core.Path.{refl, ap, _∙_}
+use mathlib.Core.Path.{refl}
 use native.Mathlib.Omega.{arith}
-use Rattle.frames.specs.Reading.{startCause, started, causeIn, wordsAfter, after}
+use Rattle.frames.specs.Reading.{causeIn, wordsAfter, after}
 use Rattle.frames.proofs.TellLaws.{told-by, either}
 -- Each arm is the definition's case of the frame's variant. Assumes nothing.
 use borrow.Author.Needs.{needs}
@@ -40,9 +40,6 @@ fault-set-requires c κs = search needs
 enum-known-frame-4 : tie.Need-enum-known-frame-4
 enum-known-frame-4 c = search needs
 
-rounds-of-requires : tie.Need-rounds-of-requires
-rounds-of-requires c κs = search needs
-
 start-requires : tie.Need-start-requires
 start-requires c κs = search needs
 
@@ -79,8 +76,8 @@ unfolding causeIn wordsAfter
 returns-5 c = told-by _ _ _ _ _ _ (c .before .before .frame3 .given .1) (c .fault-set .ensures .0) (c .fault-set .ensures .1) (either _ _)
 
 returns-6 : tie.Need-returns-6
-unfolding causeIn wordsAfter after
-returns-6 c = told-by _ _ _ _ _ _ (c .before .before .before .frame4 .given .1) (c .start .ensures .0 ∙ ap (startCause (c .before .before .before .before .before .before .args .p) _) (c .before .rounds-of .ensures)) (λ z. c .start .ensures .1 z ∙ ap (started (c .before .before .before .before .before .before .args .p) _) (c .before .rounds-of .ensures)) (either _ _)
+unfolding causeIn wordsAfter
+returns-6 c = told-by _ _ _ _ _ _ (c .before .before .frame4 .given .1) (c .start .ensures .0) (c .start .ensures .1) (either _ _)
 
 same-length : tie.Need-same-length
 same-length c = search needs
@@ -104,7 +101,6 @@ tell-spec =
     enum-known-frame-3
     fault-set-requires
     enum-known-frame-4
-    rounds-of-requires
     start-requires
     enum-known-frame-5
     cast-message

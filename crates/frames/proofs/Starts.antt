@@ -1,0 +1,103 @@
+-- The start of an accepted file: where a line tells one, the run has its value, and the rounds that it means. Assumes nothing.
+use Prim.Native.Nat.{ℕ, _+_}
+use mathlib.Core.Path.{_≡_, refl, sym, ap, _∙_, subst}
+use mathlib.Core.Logic.{_⊎_, inl, inr}
+use mathlib.Core.List.{List, [], _∷_}
+use native.Mathlib.Omega.{arith}
+use lib.Dec.{eqb, leb}
+use lib.ListN.{length}
+use borrow.Author.Tests.{eqb-true, eqb-false}
+use Rattle.sets.specs.Tests.{_and_}
+use Rattle.sets.proofs.Bools.{pick-case}
+use Rattle.lines.specs.declared.Rounds.{Rounds}
+use Rattle.lines.specs.declared.Frame.{Frame}
+use Rattle.lines.specs.declared.Frame.the-variants.{Foreign, Unknown, Head, Link, FaultSet, Start, Message}
+use Rattle.lines.specs.Frames.{frameOf}
+use Rattle.frames.specs.declared.Progress.{Progress}
+use Rattle.frames.specs.Lines.{Line, ended, cut, linesFrom}
+use Rattle.frames.specs.Reading.{mostBytes, runKinds, stageOf, roundsOf, nothingRead, noWords, causeIn, after, wordsAfter, Reading, refusal, told, reading, runReading}
+use Rattle.frames.specs.Tells.{Tells}
+use Rattle.frames.proofs.Accepted.{head-accepted, link-accepted, fault-set-accepted, start-accepted, run-is}
+
+-- ---- after the start
+
+-- only a word is accepted there, and what is known stays
+frame-stays : (p : Progress) (words : List ℕ) (frame : Frame) → stageOf (p .stage) ≡ 3 → causeIn p words frame ≡ 0 → after p frame ≡ p
+unfolding after
+frame-stays p words Foreign s h = refl
+frame-stays p words Unknown s h = refl
+frame-stays p words (Head n source f) s h = absurd (omega (arith, head-accepted p words n source f h .0))
+frame-stays p words (Link from to) s h = absurd (omega (arith, link-accepted p words from to h .0))
+frame-stays p words (FaultSet x) s h = absurd (omega (arith, fault-set-accepted p words x h .0))
+frame-stays p words (Start value rounds) s h = absurd (omega (arith, start-accepted p words value rounds h .0))
+frame-stays p words (Message round from to value) s h = refl
+
+told-stays : (kinds : ℕ) (p : Progress) (words : List ℕ) (k : ℕ) (lines : List Line) → stageOf (p .stage) ≡ 3
+    → told kinds p words k lines .number ≡ 0 → told kinds p words k lines .progress ≡ p
+unfolding told
+told-stays kinds p words k [] s = λ z. refl
+told-stays kinds p words k (cut line ∷ rest) s = λ z. absurd (omega arith)
+told-stays kinds p words k (ended line ∷ rest) s =
+    pick-case (λ (r : Reading). r .number ≡ 0 → r .progress ≡ p) (eqb (causeIn p words (frameOf kinds line)) 0)
+    (told kinds (after p (frameOf kinds line)) (wordsAfter p words (frameOf kinds line)) (k + 1) rest)
+    (refusal (causeIn p words (frameOf kinds line)) k)
+    (λ e z.
+    let same = frame-stays p words (frameOf kinds line) s (eqb-true (causeIn p words (frameOf kinds line)) 0 e) in
+    told-stays kinds (after p (frameOf kinds line)) (wordsAfter p words (frameOf kinds line)) (k + 1) rest (ap (λ (q : Progress). stageOf (q .stage)) same ∙ s)
+    z
+    ∙ same)
+    (λ e z. absurd (eqb-false (causeIn p words (frameOf kinds line)) 0 e z))
+
+-- ---- the start itself
+
+-- what is known has this value, and the rounds that are meant
+abbrev pub Started : (value : ℕ) → Rounds → Progress → Type 0
+Started value rounds p = (p .value ≡ value) × (p .rounds ≡ roundsOf (p .plan .n) rounds)
+
+module _ (kinds value : ℕ) (rounds : Rounds) where
+  start-told : (p : Progress) → Started value rounds (after p (Start value rounds))
+  unfolding after
+  start-told p = (refl, refl)
+
+  at-last : (p : Progress) → stageOf (after p (Start value rounds) .stage) ≡ 3
+  unfolding after
+  at-last p = refl
+
+  -- the line is it, or a later one is
+  here-or-later : (p : Progress) (words : List ℕ) (k : ℕ) (frame : Frame) (rest : List Line)
+      → (Tells kinds (Start value rounds) rest → told kinds (after p frame) words k rest .number ≡ 0 → Started value rounds (told kinds (after p frame) words k rest .progress))
+      → (frame ≡ Start value rounds) ⊎ Tells kinds (Start value rounds) rest
+      → told kinds (after p frame) words k rest .number ≡ 0 → Started value rounds (told kinds (after p frame) words k rest .progress)
+  here-or-later p words k frame rest later (inl e) z =
+      let same = told-stays kinds (after p frame) words k rest (ap (λ (x : Frame). stageOf (after p x .stage)) e ∙ at-last p) z in
+      subst (Started value rounds) (sym (same ∙ ap (after p) e)) (start-told p)
+  here-or-later p words k frame rest later (inr t) z = later t z
+
+  told-starts : (p : Progress) (words : List ℕ) (k : ℕ) (lines : List Line) → Tells kinds (Start value rounds) lines
+      → told kinds p words k lines .number ≡ 0 → Started value rounds (told kinds p words k lines .progress)
+  unfolding told
+  told-starts p words k [] t = absurd t
+  told-starts p words k (cut line ∷ rest) t = λ z. absurd (omega arith)
+  told-starts p words k (ended line ∷ rest) t =
+      pick-case (λ (r : Reading). r .number ≡ 0 → Started value rounds (r .progress)) (eqb (causeIn p words (frameOf kinds line)) 0)
+      (told kinds (after p (frameOf kinds line)) (wordsAfter p words (frameOf kinds line)) (k + 1) rest)
+      (refusal (causeIn p words (frameOf kinds line)) k)
+      (λ e.
+      here-or-later p (wordsAfter p words (frameOf kinds line)) (k + 1) (frameOf kinds line) rest
+      (told-starts (after p (frameOf kinds line)) (wordsAfter p words (frameOf kinds line)) (k + 1) rest) t)
+      (λ e z. absurd (eqb-false (causeIn p words (frameOf kinds line)) 0 e z))
+
+  reading-starts : (text : List ℕ) → Tells kinds (Start value rounds) (linesFrom [] text) → reading kinds text .number ≡ 0
+      → Started value rounds (reading kinds text .progress)
+  unfolding reading
+  reading-starts text t =
+      pick-case (λ (r : Reading). r .number ≡ 0 → Started value rounds (r .progress)) (leb 1 (length text) and leb (length text) mostBytes)
+      (told kinds nothingRead noWords 1 (linesFrom [] text)) (refusal 1 0)
+      (λ e. told-starts nothingRead noWords 1 (linesFrom [] text) t) (λ e z. absurd (omega arith))
+
+pub run-starts : (text : List ℕ) → runReading text .number ≡ 0 → (value : ℕ) (rounds : Rounds) → Tells runKinds (Start value rounds) (linesFrom [] text)
+    → Started value rounds (runReading text .progress)
+run-starts text h value rounds t =
+    let e = run-is text h in
+    subst (λ (r : Reading). Started value rounds (r .progress)) (sym e)
+    (reading-starts runKinds value rounds text t (sym (ap (λ (r : Reading). r .number) e) ∙ h))
