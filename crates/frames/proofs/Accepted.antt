@@ -190,33 +190,48 @@ some-line line (b ∷ text) h =
     pick-case (λ (x : List Line). x ≡ [] → ⊥) (eqb b 10) (ended line ∷ linesFrom [] text) (linesFrom (line ++ (b ∷ [])) text)
     (λ t e. let z : _≡_ {A = ℕ} 0 1 = cc in omega arith) (λ t. some-line (line ++ (b ∷ [])) text (simp length-append (omega arith)))
 
+-- what holds of a file that is read: its first line's frame was accepted, and the rest is told after it
+module _ (kinds : ℕ) (p : Progress) (words : List ℕ) (k : ℕ) (line : List ℕ) (rest : List Line) where
+  abbrev frame : Frame
+  frame = frameOf kinds line
+
+  abbrev next : Reading
+  next = told kinds (after p frame) (wordsAfter p words frame) (k + 1) rest
+
+  pub line-read : (Q : Reading → Type 0) → (causeIn p words frame ≡ 0 → next .number ≡ 0 → Q next)
+      → told kinds p words k (ended line ∷ rest) .number ≡ 0 → Q (told kinds p words k (ended line ∷ rest))
+  unfolding told
+  line-read Q f =
+      pick-case (λ (r : Reading). r .number ≡ 0 → Q r) (eqb (causeIn p words frame) 0) next (refusal (causeIn p words frame) k)
+      (λ e. f (eqb-true (causeIn p words frame) 0 e)) (λ e z. absurd (eqb-false (causeIn p words frame) 0 e z))
+
+-- and it is not empty
+pub text-read : (kinds : ℕ) (text : List ℕ) (Q : Reading → Type 0)
+    → (1 ≤ length text → told kinds nothingRead noWords 1 (linesFrom [] text) .number ≡ 0 → Q (told kinds nothingRead noWords 1 (linesFrom [] text)))
+    → reading kinds text .number ≡ 0 → Q (reading kinds text)
+unfolding reading
+text-read kinds text Q f =
+    pick-case (λ (r : Reading). r .number ≡ 0 → Q r) (leb 1 (length text) and leb (length text) mostBytes)
+    (told kinds nothingRead noWords 1 (linesFrom [] text)) (refusal 1 0)
+    (λ t. f (leb-true 1 (length text) (and-l _ _ t))) (λ t z. absurd (omega arith))
+
 module _ (I : Progress → Type 0)
     (kept : (p : Progress) (words : List ℕ) (frame : Frame) → (stageOf (p .stage) ≡ 0) ⊎ I p → causeIn p words frame ≡ 0 → I (after p frame)) where
-  abbrev If-read : Reading → Type 0
-  If-read r = r .number ≡ 0 → I (r .progress)
-
   told-keeps : (kinds : ℕ) (p : Progress) (words : List ℕ) (k : ℕ) (lines : List Line) → (stageOf (p .stage) ≡ 0) ⊎ I p → (lines ≡ [] → I p)
-      → If-read (told kinds p words k lines)
+      → told kinds p words k lines .number ≡ 0 → I (told kinds p words k lines .progress)
   unfolding told
   told-keeps kinds p words k [] i e = λ z. e refl
   told-keeps kinds p words k (cut line ∷ rest) i e = λ z. absurd (omega arith)
   told-keeps kinds p words k (ended line ∷ rest) i e =
-      pick-case If-read (eqb (causeIn p words (frameOf kinds line)) 0)
-      (told kinds (after p (frameOf kinds line)) (wordsAfter p words (frameOf kinds line)) (k + 1) rest)
-      (refusal (causeIn p words (frameOf kinds line)) k)
-      (λ t.
-      let j = kept p words (frameOf kinds line) i (eqb-true (causeIn p words (frameOf kinds line)) 0 t) in
+      line-read kinds p words k line rest (λ (r : Reading). I (r .progress))
+      (λ c.
+      let j = kept p words (frameOf kinds line) i c in
       told-keeps kinds (after p (frameOf kinds line)) (wordsAfter p words (frameOf kinds line)) (k + 1) rest (inr j) (λ n. j))
-      (λ t z. absurd (eqb-false (causeIn p words (frameOf kinds line)) 0 t z))
 
   pub reading-keeps : (kinds : ℕ) (text : List ℕ) → reading kinds text .number ≡ 0 → I (reading kinds text .progress)
-  unfolding reading
   reading-keeps kinds text =
-      pick-case If-read (leb 1 (length text) and leb (length text) mostBytes) (told kinds nothingRead noWords 1 (linesFrom [] text)) (refusal 1 0)
-      (λ t.
-      let one : 1 ≤ length text = leb-true 1 (length text) (and-l _ _ t) in
-      told-keeps kinds nothingRead noWords 1 (linesFrom [] text) (inl refl) (λ e. absurd (some-line [] text (omega arith) e)))
-      (λ t z. absurd (omega arith))
+      text-read kinds text (λ (r : Reading). I (r .progress))
+      (λ one. told-keeps kinds nothingRead noWords 1 (linesFrom [] text) (inl refl) (λ e. absurd (some-line [] text (omega arith) e)))
 
 -- ---- what is known of each stage
 

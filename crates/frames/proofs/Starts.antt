@@ -4,20 +4,15 @@ use mathlib.Core.Path.{_≡_, refl, sym, ap, _∙_, subst}
 use mathlib.Core.Logic.{_⊎_, inl, inr}
 use mathlib.Core.List.{List, [], _∷_}
 use native.Mathlib.Omega.{arith}
-use lib.Dec.{eqb, leb}
-use lib.ListN.{length}
-use borrow.Author.Tests.{eqb-true, eqb-false}
-use Rattle.sets.specs.Tests.{_and_}
-use Rattle.sets.proofs.Bools.{pick-case}
 use Rattle.lines.specs.declared.Rounds.{Rounds}
 use Rattle.lines.specs.declared.Frame.{Frame}
 use Rattle.lines.specs.declared.Frame.the-variants.{Foreign, Unknown, Head, Link, FaultSet, Start, Message}
 use Rattle.lines.specs.Frames.{frameOf}
 use Rattle.frames.specs.declared.Progress.{Progress}
 use Rattle.frames.specs.Lines.{Line, ended, cut, linesFrom}
-use Rattle.frames.specs.Reading.{mostBytes, runKinds, stageOf, roundsOf, nothingRead, noWords, causeIn, after, wordsAfter, Reading, refusal, told, reading, runReading}
+use Rattle.frames.specs.Reading.{runKinds, stageOf, roundsOf, nothingRead, noWords, causeIn, after, wordsAfter, Reading, told, reading, runReading}
 use Rattle.frames.specs.Tells.{Tells}
-use Rattle.frames.proofs.Accepted.{head-accepted, link-accepted, fault-set-accepted, start-accepted, run-is}
+use Rattle.frames.proofs.Accepted.{head-accepted, link-accepted, fault-set-accepted, start-accepted, line-read, text-read, run-is}
 
 -- ---- after the start
 
@@ -38,15 +33,12 @@ unfolding told
 told-stays kinds p words k [] s = λ z. refl
 told-stays kinds p words k (cut line ∷ rest) s = λ z. absurd (omega arith)
 told-stays kinds p words k (ended line ∷ rest) s =
-    pick-case (λ (r : Reading). r .number ≡ 0 → r .progress ≡ p) (eqb (causeIn p words (frameOf kinds line)) 0)
-    (told kinds (after p (frameOf kinds line)) (wordsAfter p words (frameOf kinds line)) (k + 1) rest)
-    (refusal (causeIn p words (frameOf kinds line)) k)
-    (λ e z.
-    let same = frame-stays p words (frameOf kinds line) s (eqb-true (causeIn p words (frameOf kinds line)) 0 e) in
+    line-read kinds p words k line rest (λ (r : Reading). r .progress ≡ p)
+    (λ c z.
+    let same = frame-stays p words (frameOf kinds line) s c in
     told-stays kinds (after p (frameOf kinds line)) (wordsAfter p words (frameOf kinds line)) (k + 1) rest (ap (λ (q : Progress). stageOf (q .stage)) same ∙ s)
     z
     ∙ same)
-    (λ e z. absurd (eqb-false (causeIn p words (frameOf kinds line)) 0 e z))
 
 -- ---- the start itself
 
@@ -79,21 +71,15 @@ module _ (kinds value : ℕ) (rounds : Rounds) where
   told-starts p words k [] t = absurd t
   told-starts p words k (cut line ∷ rest) t = λ z. absurd (omega arith)
   told-starts p words k (ended line ∷ rest) t =
-      pick-case (λ (r : Reading). r .number ≡ 0 → Started value rounds (r .progress)) (eqb (causeIn p words (frameOf kinds line)) 0)
-      (told kinds (after p (frameOf kinds line)) (wordsAfter p words (frameOf kinds line)) (k + 1) rest)
-      (refusal (causeIn p words (frameOf kinds line)) k)
-      (λ e.
+      line-read kinds p words k line rest (λ (r : Reading). Started value rounds (r .progress))
+      (λ c.
       here-or-later p (wordsAfter p words (frameOf kinds line)) (k + 1) (frameOf kinds line) rest
       (told-starts (after p (frameOf kinds line)) (wordsAfter p words (frameOf kinds line)) (k + 1) rest) t)
-      (λ e z. absurd (eqb-false (causeIn p words (frameOf kinds line)) 0 e z))
 
   reading-starts : (text : List ℕ) → Tells kinds (Start value rounds) (linesFrom [] text) → reading kinds text .number ≡ 0
       → Started value rounds (reading kinds text .progress)
-  unfolding reading
   reading-starts text t =
-      pick-case (λ (r : Reading). r .number ≡ 0 → Started value rounds (r .progress)) (leb 1 (length text) and leb (length text) mostBytes)
-      (told kinds nothingRead noWords 1 (linesFrom [] text)) (refusal 1 0)
-      (λ e. told-starts nothingRead noWords 1 (linesFrom [] text) t) (λ e z. absurd (omega arith))
+      text-read kinds text (λ (r : Reading). Started value rounds (r .progress)) (λ one. told-starts nothingRead noWords 1 (linesFrom [] text) t)
 
 pub run-starts : (text : List ℕ) → runReading text .number ≡ 0 → (value : ℕ) (rounds : Rounds) → Tells runKinds (Start value rounds) (linesFrom [] text)
     → Started value rounds (runReading text .progress)

@@ -7,7 +7,7 @@ use lib.Dec.{eqb}
 use lib.Seq.{append-snoc}
 use Rattle.sets.specs.Tests.{_and_}
 use Rattle.sets.proofs.Bools.{and-l, and-r, not-e, pick-yes, pick-no}
-use Rattle.frames.specs.Lines.{Line, ended, linesFrom}
+use Rattle.frames.specs.Lines.{ended, linesFrom}
 
 -- none of the bytes ends a line
 unfoldable pub noEnd : List ℕ → Bool

@@ -1,21 +1,16 @@
 -- The head of an accepted file's plan is its first line. Assumes nothing.
-use Prim.Native.Nat.{ℕ, _+_, _≤_}
+use Prim.Native.Nat.{ℕ, _+_}
 use mathlib.Core.Path.{_≡_, refl, sym, _∙_}
 use mathlib.Core.List.{List, [], _∷_}
 use native.Mathlib.Omega.{arith}
-use lib.Dec.{eqb, leb}
-use lib.ListN.{length}
-use borrow.Author.Tests.{eqb-true, eqb-false, leb-true}
-use Rattle.sets.specs.Tests.{_and_}
-use Rattle.sets.proofs.Bools.{and-l, pick-case}
 use Rattle.plan.specs.declared.Plan.{Plan}
 use Rattle.lines.specs.declared.Frame.{Frame}
 use Rattle.lines.specs.declared.Frame.the-variants.{Foreign, Unknown, Head, Link, FaultSet, Start, Message}
 use Rattle.lines.specs.Frames.{frameOf}
 use Rattle.frames.specs.declared.Progress.{Progress}
 use Rattle.frames.specs.Lines.{Line, ended, cut, linesFrom}
-use Rattle.frames.specs.Reading.{mostBytes, stageOf, nothingRead, noWords, causeIn, linked, after, wordsAfter, Reading, refusal, told, reading}
-use Rattle.frames.proofs.Accepted.{head-accepted, link-accepted, fault-set-accepted, start-accepted, message-accepted, frame-stage, some-line}
+use Rattle.frames.specs.Reading.{stageOf, nothingRead, noWords, causeIn, linked, after, wordsAfter, Reading, told, reading}
+use Rattle.frames.proofs.Accepted.{head-accepted, link-accepted, fault-set-accepted, start-accepted, message-accepted, frame-stage, some-line, line-read, text-read}
 use Rattle.writer.specs.RoundTrip.{Begins}
 
 abbrev headOf : Plan → Frame
@@ -51,14 +46,10 @@ unfolding told
 told-head kinds p words k [] s = λ z. refl
 told-head kinds p words k (cut line ∷ rest) s = λ z. absurd (omega arith)
 told-head kinds p words k (ended line ∷ rest) s =
-    pick-case (λ (r : Reading). r .number ≡ 0 → headOf (r .progress .plan) ≡ headOf (p .plan)) (eqb (causeIn p words (frameOf kinds line)) 0)
-    (told kinds (after p (frameOf kinds line)) (wordsAfter p words (frameOf kinds line)) (k + 1) rest)
-    (refusal (causeIn p words (frameOf kinds line)) k)
-    (λ e z.
-    let c : causeIn p words (frameOf kinds line) ≡ 0 = eqb-true (causeIn p words (frameOf kinds line)) 0 e in
+    line-read kinds p words k line rest (λ (r : Reading). headOf (r .progress .plan) ≡ headOf (p .plan))
+    (λ c z.
     told-head kinds (after p (frameOf kinds line)) (wordsAfter p words (frameOf kinds line)) (k + 1) rest (frame-stage p words (frameOf kinds line) c) z
     ∙ head-kept p words (frameOf kinds line) s c)
-    (λ e z. absurd (eqb-false (causeIn p words (frameOf kinds line)) 0 e z))
 
 told-begins : (kinds : ℕ) (words : List ℕ) (lines : List Line) → (lines ≡ [] → ⊥)
     → told kinds nothingRead words 1 lines .number ≡ 0 → Begins kinds (told kinds nothingRead words 1 lines .progress .plan) lines
@@ -66,22 +57,14 @@ unfolding told
 told-begins kinds words [] n = λ z. absurd (n refl)
 told-begins kinds words (cut line ∷ rest) n = λ z. absurd (omega arith)
 told-begins kinds words (ended line ∷ rest) n =
-    pick-case (λ (r : Reading). r .number ≡ 0 → frameOf kinds line ≡ headOf (r .progress .plan)) (eqb (causeIn nothingRead words (frameOf kinds line)) 0)
-    (told kinds (after nothingRead (frameOf kinds line)) (wordsAfter nothingRead words (frameOf kinds line)) (1 + 1) rest)
-    (refusal (causeIn nothingRead words (frameOf kinds line)) 1)
-    (λ e z.
-    let c : causeIn nothingRead words (frameOf kinds line) ≡ 0 = eqb-true (causeIn nothingRead words (frameOf kinds line)) 0 e in
+    line-read kinds nothingRead words 1 line rest (λ (r : Reading). frameOf kinds line ≡ headOf (r .progress .plan))
+    (λ c z.
     first-head words (frameOf kinds line) c
     ∙ sym
     (told-head kinds (after nothingRead (frameOf kinds line)) (wordsAfter nothingRead words (frameOf kinds line)) (1 + 1) rest
     (frame-stage nothingRead words (frameOf kinds line) c) z))
-    (λ e z. absurd (eqb-false (causeIn nothingRead words (frameOf kinds line)) 0 e z))
 
 pub reading-begins : (kinds : ℕ) (text : List ℕ) → reading kinds text .number ≡ 0 → Begins kinds (reading kinds text .progress .plan) (linesFrom [] text)
-unfolding reading
 reading-begins kinds text =
-    pick-case (λ (r : Reading). r .number ≡ 0 → Begins kinds (r .progress .plan) (linesFrom [] text))
-    (leb 1 (length text) and leb (length text) mostBytes) (told kinds nothingRead noWords 1 (linesFrom [] text)) (refusal 1 0)
-    (λ e.
-    let one : 1 ≤ length text = leb-true 1 (length text) (and-l _ _ e) in told-begins kinds noWords (linesFrom [] text) (some-line [] text (omega arith)))
-    (λ e z. absurd (omega arith))
+    text-read kinds text (λ (r : Reading). Begins kinds (r .progress .plan) (linesFrom [] text))
+    (λ one. told-begins kinds noWords (linesFrom [] text) (some-line [] text (omega arith)))

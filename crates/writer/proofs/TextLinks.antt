@@ -6,14 +6,14 @@ use mathlib.Core.Bool.{true, false}
 use mathlib.Core.List.{List, [], _∷_}
 use native.Mathlib.Nat.{lt-of-lt-of-le}
 use native.Mathlib.Omega.{arith}
-use lib.Dec.{eqb, leb}
+use lib.Dec.{eqb}
 use lib.ListN.{length, getD, set, replicate, getD-replicate, List·getD-eq-default}
 use lib.Pow.{pow-mono}
 use lib.Seq.{getD-set-same, getD-set-other}
-use borrow.Author.Tests.{eq-eqb, eqb-true, eqb-false}
-use Rattle.sets.specs.Tests.{_and_, _or_}
+use borrow.Author.Tests.{eq-eqb, eqb-true}
+use Rattle.sets.specs.Tests.{_or_}
 use Rattle.sets.specs.Sets.{mem, with}
-use Rattle.sets.proofs.Bools.{clash, or-l, or-r, or-e, pick-case}
+use Rattle.sets.proofs.Bools.{clash, or-l, or-r, or-e}
 use Rattle.sets.proofs.Operations.{mem-with-any}
 use Rattle.sets.proofs.Laws.{equal-or-not, below-or-not, mem-zero}
 use Rattle.plan.specs.declared.Plan.{Plan}
@@ -24,9 +24,9 @@ use Rattle.lines.specs.declared.Frame.the-variants.{Foreign, Unknown, Head, Lin
 use Rattle.lines.specs.Frames.{frameOf}
 use Rattle.frames.specs.declared.Progress.{Progress}
 use Rattle.frames.specs.Lines.{Line, ended, cut, linesFrom}
-use Rattle.frames.specs.Reading.{mostBytes, stageOf, nothingRead, noWords, causeIn, linked, after, wordsAfter, Reading, refusal, told, reading}
+use Rattle.frames.specs.Reading.{stageOf, nothingRead, noWords, causeIn, linked, after, wordsAfter, Reading, told, reading}
 use Rattle.frames.specs.Tells.{Tells}
-use Rattle.frames.proofs.Accepted.{Whole, head-accepted, link-accepted, frame-stage, frame-whole}
+use Rattle.frames.proofs.Accepted.{Whole, head-accepted, link-accepted, frame-stage, frame-whole, line-read, text-read}
 
 -- no links
 no-row : (b : ℕ) → getD {A = ℕ} (replicate 20 0) b 0 ≡ 0
@@ -108,9 +108,9 @@ module _ (p : Progress) (words : List ℕ) (r : Ready p) where
 
 -- ---- the lines
 
--- where the file is read, its links are those known before, and those told
-Says : Progress → (ℕ → ℕ → Type 0) → Reading → Type 0
-Says p T r = r .number ≡ 0 → (a b : ℕ) → (hears (r .progress .plan) b a ≡ true) ↔ ((hears (p .plan) b a ≡ true) ⊎ T a b)
+-- the links known in the end are those known before, and those told
+Says : Progress → (ℕ → ℕ → Type 0) → Progress → Type 0
+Says p T q = (a b : ℕ) → (hears (q .plan) b a ≡ true) ↔ ((hears (p .plan) b a ≡ true) ⊎ T a b)
 
 joined : {A B C F T : Type 0} → B ↔ (A ⊎ F) → C ↔ (B ⊎ T) → C ↔ (A ⊎ (F ⊎ T))
 joined e g = (
@@ -119,20 +119,16 @@ joined e g = (
 )
 
 told-links : (kinds : ℕ) (p : Progress) (words : List ℕ) (k : ℕ) (lines : List Line) → Ready p
-    → Says p (λ a b. Tells kinds (Link a b) lines) (told kinds p words k lines)
+    → told kinds p words k lines .number ≡ 0 → Says p (λ a b. Tells kinds (Link a b) lines) (told kinds p words k lines .progress)
 unfolding told Says
 told-links kinds p words k [] r = λ z a b. (λ h. inl h, ⊎-elim (λ h. h) (λ e. absurd e))
 told-links kinds p words k (cut line ∷ rest) r = λ z. absurd (omega arith)
 told-links kinds p words k (ended line ∷ rest) r =
-    pick-case (Says p (λ a b. Tells kinds (Link a b) (ended line ∷ rest))) (eqb (causeIn p words (frameOf kinds line)) 0)
-    (told kinds (after p (frameOf kinds line)) (wordsAfter p words (frameOf kinds line)) (k + 1) rest)
-    (refusal (causeIn p words (frameOf kinds line)) k)
-    (λ e z a b.
-    let c : causeIn p words (frameOf kinds line) ≡ 0 = eqb-true (causeIn p words (frameOf kinds line)) 0 e in
+    line-read kinds p words k line rest (λ (x : Reading). Says p (λ a b. Tells kinds (Link a b) (ended line ∷ rest)) (x .progress))
+    (λ c z a b.
     joined (frame-links p words r (frameOf kinds line) c a b)
     (told-links kinds (after p (frameOf kinds line)) (wordsAfter p words (frameOf kinds line)) (k + 1) rest (frame-ready p words r (frameOf kinds line) c) z
     a b))
-    (λ e z. absurd (eqb-false (causeIn p words (frameOf kinds line)) 0 e z))
 
 nothing-ready : Ready nothingRead
 nothing-ready = record { begun = λ n. absurd (n refl); empty = λ z a b. no-link 0 0 0 a b }
@@ -140,12 +136,9 @@ nothing-ready = record { begun = λ n. absurd (n refl); empty = λ z a b. no-lin
 -- b hears a exactly if some line of the file is the link from a to b
 pub reading-links : (kinds : ℕ) (text : List ℕ) → reading kinds text .number ≡ 0 → (a b : ℕ)
     → (hears (reading kinds text .progress .plan) b a ≡ true) ↔ Tells kinds (Link a b) (linesFrom [] text)
-unfolding reading Says
+unfolding Says
 reading-links kinds text =
-    pick-case
-    (λ (r : Reading). r .number ≡ 0 → (a b : ℕ) → (hears (r .progress .plan) b a ≡ true) ↔ Tells kinds (Link a b) (linesFrom [] text))
-    (leb 1 (length text) and leb (length text) mostBytes) (told kinds nothingRead noWords 1 (linesFrom [] text)) (refusal 1 0)
-    (λ e z a b.
+    text-read kinds text (λ (r : Reading). (a b : ℕ) → (hears (r .progress .plan) b a ≡ true) ↔ Tells kinds (Link a b) (linesFrom [] text))
+    (λ one z a b.
     let g = told-links kinds nothingRead noWords 1 (linesFrom [] text) nothing-ready z a b in
     (λ h. ⊎-elim (λ x. clash x (no-link 0 0 0 a b)) (λ x. x) (g .0 h), λ x. g .1 (inr x)))
-    (λ e z. absurd (omega arith))
