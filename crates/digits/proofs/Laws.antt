@@ -9,7 +9,7 @@ use borrow.Author.Tests.{ne-eqb, eqb-true, eqb-false, ltb-true}
 use Rattle.sets.specs.Tests.{_and_, pick}
 use Rattle.sets.specs.Sets.{all}
 use Rattle.sets.specs.Tables.{table}
-use Rattle.sets.proofs.Bools.{clash, and-l, and-r, not-e, pick-no, pick-case}
+use Rattle.sets.proofs.Bools.{clash, and-l, and-r, not-e, pick-no, pick-case, every}
 use Rattle.sets.proofs.Laws.{all-at}
 use Rattle.digits.specs.declared.Digit.{Digit}
 use Rattle.digits.specs.declared.Digit.the-variants.{Value, Foreign}
@@ -26,10 +26,6 @@ NoneOf key (case ∷ cases) before x = NoneOf key cases (before × (x ≡ key ca
 none-before : (key : Case → ℕ) (cases : List Case) (before : Type 0) (x : ℕ) → NoneOf key cases before x → before
 none-before key [] before x h = h
 none-before key (case ∷ cases) before x h = none-before key cases (before × (x ≡ key case → ⊥)) x h .0
-
-every : (test : Case → Bool) → List Case → Bool
-every test [] = true
-every test (case ∷ cases) = test case and every test cases
 
 module _ {A : Type 0} (key : Case → ℕ) (gives : Case → A) (other : A) where
   pub by-none : (cases : List Case) (before : Type 0) (x : ℕ) → NoneOf key cases before x → byCase key gives other cases x ≡ other
@@ -104,12 +100,7 @@ pub digit-no : (b : ℕ) → digitOf b ≡ Foreign → isDigit b ≡ false
 unfolding isDigit
 digit-no b h = ap (λ (d : Digit). eqb (numberOf d) 0) h
 
--- a digit does not end a line
-pub digit-no-end : (b : ℕ) → isDigit b ≡ true → b ≡ 10 → ⊥
-unfolding isDigit digitOf byCase sixteen pick
-digit-no-end b h e = clash (sym (ap isDigit e) ∙ h) refl
-
--- nor does what is written of a value, whatever it is
+-- what is written of a value, whatever it is, does not end a line
 pub character-no-end : (v : ℕ) → characterOf v ≡ 10 → ⊥
 unfolding characterOf sixteen every _and_
 character-no-end v =

@@ -1,7 +1,7 @@
 -- The start of an accepted file: where a line tells one, the run has its value, and the rounds that it means. Assumes nothing.
 use Prim.Native.Nat.{ℕ, _+_}
 use mathlib.Core.Path.{_≡_, refl, sym, ap, _∙_, subst}
-use mathlib.Core.Logic.{_⊎_, inl, inr}
+use mathlib.Core.Logic.{⊎-elim}
 use mathlib.Core.List.{List, [], _∷_}
 use native.Mathlib.Omega.{arith}
 use Rattle.lines.specs.declared.Rounds.{Rounds}
@@ -47,23 +47,13 @@ abbrev pub Started : (value : ℕ) → Rounds → Progress → Type 0
 Started value rounds p = (p .value ≡ value) × (p .rounds ≡ roundsOf (p .plan .n) rounds)
 
 module _ (kinds value : ℕ) (rounds : Rounds) where
-  start-told : (p : Progress) → Started value rounds (after p (Start value rounds))
-  unfolding after
-  start-told p = (refl, refl)
-
-  at-last : (p : Progress) → stageOf (after p (Start value rounds) .stage) ≡ 3
-  unfolding after
-  at-last p = refl
-
-  -- the line is it, or a later one is
-  here-or-later : (p : Progress) (words : List ℕ) (k : ℕ) (frame : Frame) (rest : List Line)
-      → (Tells kinds (Start value rounds) rest → told kinds (after p frame) words k rest .number ≡ 0 → Started value rounds (told kinds (after p frame) words k rest .progress))
-      → (frame ≡ Start value rounds) ⊎ Tells kinds (Start value rounds) rest
+  -- the rest is told after it
+  start-here : (p : Progress) (words : List ℕ) (k : ℕ) (frame : Frame) (rest : List Line) → frame ≡ Start value rounds
       → told kinds (after p frame) words k rest .number ≡ 0 → Started value rounds (told kinds (after p frame) words k rest .progress)
-  here-or-later p words k frame rest later (inl e) z =
-      let same = told-stays kinds (after p frame) words k rest (ap (λ (x : Frame). stageOf (after p x .stage)) e ∙ at-last p) z in
-      subst (Started value rounds) (sym (same ∙ ap (after p) e)) (start-told p)
-  here-or-later p words k frame rest later (inr t) z = later t z
+  unfolding after
+  start-here p words k frame rest e z =
+      let same = told-stays kinds (after p frame) words k rest (ap (λ (x : Frame). stageOf (after p x .stage)) e) z in
+      subst (Started value rounds) (sym (same ∙ ap (after p) e)) (refl, refl)
 
   told-starts : (p : Progress) (words : List ℕ) (k : ℕ) (lines : List Line) → Tells kinds (Start value rounds) lines
       → told kinds p words k lines .number ≡ 0 → Started value rounds (told kinds p words k lines .progress)
@@ -73,7 +63,7 @@ module _ (kinds value : ℕ) (rounds : Rounds) where
   told-starts p words k (ended line ∷ rest) t =
       line-read kinds p words k line rest (λ (r : Reading). Started value rounds (r .progress))
       (λ c.
-      here-or-later p (wordsAfter p words (frameOf kinds line)) (k + 1) (frameOf kinds line) rest
+      ⊎-elim (start-here p (wordsAfter p words (frameOf kinds line)) (k + 1) (frameOf kinds line) rest)
       (told-starts (after p (frameOf kinds line)) (wordsAfter p words (frameOf kinds line)) (k + 1) rest) t)
 
   reading-starts : (text : List ℕ) → Tells kinds (Start value rounds) (linesFrom [] text) → reading kinds text .number ≡ 0

@@ -16,6 +16,7 @@ use Rattle.sets.proofs.Causes.{cause-here, cause-later, cause-last, given-decid
 use Rattle.sets.proofs.Laws.{equal-or-not}
 use Rattle.quorum.specs.Quorum.{mostTerminals, inRange}
 use Rattle.quorum.specs.Words.{mostRounds, startSound, placeOf}
+use Rattle.quorum.proofs.Words.{start-parts}
 use Rattle.plan.specs.Plan.{hears}
 use Rattle.faults.specs.Check.{faultCauseOf}
 use Rattle.lines.specs.declared.Rounds.{Rounds}
@@ -77,18 +78,18 @@ pub rounds-left : (n played : ℕ) (rounds : Rounds) → rounds ≡ Left → pla
 rounds-left n played rounds e h = h ∙ sym (ap (roundsOf n) e)
 
 -- one in its place, by the rounds that it was found to mean
-module _ (p : Progress) (value : ℕ) (rounds : Rounds) (played : ℕ) (stage : isAt Faults p ≡ true) (e : played ≡ roundsOf (p .plan .n) rounds) where
-  pub start-sound : startSound value played ≡ true → startCause p value rounds ≡ 0
-  unfolding startCause
-  start-sound h = cause-later _ _ _ (not-yes stage) ∙ cause-last _ _ (not-yes (sym (ap (startSound value) e) ∙ h))
-
-  pub start-wrong : startSound value played ≡ false → startCause p value rounds ≡ 9
-  unfolding startCause
-  start-wrong h = cause-later _ _ _ (not-yes stage) ∙ cause-here _ _ _ (not-i (sym (ap (startSound value) e) ∙ h))
-
+module _ (p : Progress) (value : ℕ) (rounds : Rounds) (played : ℕ) (e : played ≡ roundsOf (p .plan .n) rounds) where
   pub start-next : record { stage = Words; plan = p .plan; faulty = p .faulty; value = value; rounds = played } ≡ after p (Start value rounds)
   unfolding after
   start-next i = record { stage = Words; plan = p .plan; faulty = p .faulty; value = value; rounds = e i }
+
+  pub start-sound : isAt Faults p ≡ true → startSound value played ≡ true → startCause p value rounds ≡ 0
+  unfolding startCause
+  start-sound stage h = cause-later _ _ _ (not-yes stage) ∙ cause-last _ _ (not-yes (sym (ap (startSound value) e) ∙ h))
+
+  pub start-wrong : isAt Faults p ≡ true → startSound value played ≡ false → startCause p value rounds ≡ 9
+  unfolding startCause
+  start-wrong stage h = cause-later _ _ _ (not-yes stage) ∙ cause-here _ _ _ (not-i (sym (ap (startSound value) e) ∙ h))
 
 -- ---- a word
 
@@ -174,13 +175,13 @@ either false words = refl
 -- an accepted frame leaves at most 20 terminals and 40 rounds
 module _ (p : Progress) (words : List ℕ) (twenty : p .plan .n ≤ mostTerminals) (forty : p .rounds ≤ mostRounds) where
   kept : (frame : Frame) → causeIn p words frame ≡ 0 → (after p frame .plan .n ≤ mostTerminals) × (after p frame .rounds ≤ mostRounds)
-  unfolding inRange startSound after linked
+  unfolding inRange after linked
   kept Foreign h = (twenty, forty)
   kept Unknown h = (twenty, forty)
   kept (Head n source f) h = (leb-true n 20 (and-l _ _ (and-r _ _ (head-accepted p words n source f h .1))), omega arith)
   kept (Link from to) h = (twenty, omega arith)
   kept (FaultSet s) h = (twenty, omega arith)
-  kept (Start value rounds) h = (twenty, leb-true (roundsOf (p .plan .n) rounds) 40 (and-r _ _ (start-accepted p words value rounds h .1)))
+  kept (Start value rounds) h = (twenty, start-parts _ _ (start-accepted p words value rounds h .1) .1)
   kept (Message round from to value) h = (twenty, forty)
 
   pub kept-next : (frame : Frame) (cause : ℕ) (next : Progress) → cause ≡ causeIn p words frame → cause ≡ 0 → next ≡ after p frame

@@ -1,3 +1,3 @@
--- All that the layers above use of `enough` (Laws), and of the place of a word (Words).
+-- All that the layers above use of `enough` (Laws), and of a start and the place of a word (Words).
 pub mod Laws
 pub mod Words

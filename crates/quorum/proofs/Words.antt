@@ -1,9 +1,19 @@
--- The place of a word lies in a list of `mostWords`: 39 times 400, 19 times 20 and 19 lie below 16,000. Assumes nothing.
+-- What a sound start has. The place of a word lies in a list of `mostWords`: 39 times 400, 19 times 20 and 19 lie below 16,000. Assumes nothing.
 use Prim.Native.Nat.{ℕ, _-_, _*_, _≤_, _<_}
+use mathlib.Core.Path.{_≡_}
+use mathlib.Core.Bool.{true}
 use native.Mathlib.Nat.{mul-le-mul}
 use native.Mathlib.Omega.{arith}
+use lib.Dec.{eqb}
+use borrow.Author.Tests.{eqb-false, leb-true}
+use Rattle.sets.proofs.Bools.{and-l, and-r, not-e}
 use Rattle.quorum.specs.Quorum.{mostTerminals}
-use Rattle.quorum.specs.Words.{mostRounds, mostWords, placeOf}
+use Rattle.quorum.specs.Words.{mostRounds, mostWords, startSound, placeOf}
+
+pub start-parts : (value rounds : ℕ) → startSound value rounds ≡ true → (1 ≤ value) × (rounds ≤ mostRounds)
+unfolding startSound
+start-parts value rounds h =
+    let some = eqb-false value 0 (not-e (eqb value 0) (and-l _ _ h)) in (omega (arith, some), leb-true rounds mostRounds (and-r _ _ h))
 
 -- each product that the place is a sum of
 pub square-le : (n : ℕ) → n ≤ mostTerminals → n * n ≤ 400

@@ -5,11 +5,11 @@ use mathlib.Core.Bool.{Bool, true, false}
 use mathlib.Core.List.{List, [], _∷_, _++_, append-nil, append-assoc}
 use native.Mathlib.Omega.{arith}
 use lib.ListN.{length, take}
-use borrow.Author.Tests.{ne-eqb, eqb-false}
+use borrow.Author.Tests.{ne-eqb}
 use Rattle.sets.specs.Tests.{pick}
 use Rattle.sets.specs.Sets.{mem}
-use Rattle.sets.proofs.Bools.{and-i, and-l, not-i, not-e, pick-case}
-use Rattle.quorum.specs.Words.{startSound}
+use Rattle.sets.proofs.Bools.{and-i, not-i, pick-case, every}
+use Rattle.quorum.proofs.Words.{start-parts}
 use Rattle.terminal.specs.declared.State.{State}
 use Rattle.terminal.specs.declared.State.the-variants.{Waiting, Taken}
 use Rattle.closure.specs.Verdict.{verdict}
@@ -18,10 +18,9 @@ use Rattle.propagation.specs.Run.{sites, site, scriptOf}
 use Rattle.simulation.specs.Answer.{Demand3Holds}
 use Rattle.simulation.proofs.Promise.{promised}
 use Rattle.digits.specs.Digits.{sixteen, byCase, digitOf, characterOf}
-use Rattle.digits.proofs.Laws.{character-no-end}
 use Rattle.text.specs.Digits.{hexByte, hexPair}
 use Rattle.text.specs.Texts.{putInto}
-use Rattle.text.proofs.Laws.{put-back}
+use Rattle.text.proofs.Laws.{noEnd, byte-no-end, put-back}
 use Rattle.lines.specs.declared.Rounds.the-variants.{Left}
 use Rattle.lines.specs.Bytes.{digitAt, byteAt}
 use Rattle.frames.specs.declared.Progress.{Progress}
@@ -29,7 +28,7 @@ use Rattle.frames.specs.Lines.{ended, lastLine, linesFrom}
 use Rattle.frames.specs.Reading.{runReading, fileRead}
 use Rattle.frames.proofs.Accepted.{run-accepted}
 use Rattle.frames.proofs.Starts.{run-starts}
-use Rattle.frames.proofs.TextLines.{noEnd, line-of}
+use Rattle.frames.proofs.TextLines.{line-of}
 use Rattle.output.specs.declared.Written.{Written}
 use Rattle.output.specs.OnFile.{answerOn}
 use Rattle.output.proofs.Laws.{answered-is}
@@ -43,13 +42,8 @@ abbrev lineBytes : (b state round value : ℕ) → List ℕ
 lineBytes b state round value =
     hexByte 130 ++ (hexByte b ++ (hexByte state ++ (hexByte round ++ (hexByte (value / 256) ++ (hexByte (value % 256) ++ [])))))
 
-byte-no-end : (b : ℕ) (rest : List ℕ) → noEnd rest ≡ true → noEnd (hexByte b ++ rest) ≡ true
-unfolding noEnd hexByte
-byte-no-end b rest h =
-    and-i _ _ (not-i (ne-eqb _ 10 (character-no-end (b / 16)))) (and-i _ _ (not-i (ne-eqb _ 10 (character-no-end (b % 16)))) h)
-
 line-no-end : (b state round value : ℕ) → noEnd (lineBytes b state round value) ≡ true
-unfolding noEnd
+unfolding every
 line-no-end b state round value =
     byte-no-end 130 _ (byte-no-end b _ (byte-no-end state _ (byte-no-end round _ (byte-no-end (value / 256) _ (byte-no-end (value % 256) [] refl)))))
 
@@ -105,16 +99,12 @@ module _ (file : List ℕ) (h : runReading file .number ≡ 0) where
   abbrev played : List ℕ
   played = take (p .rounds * (p .plan .n * p .plan .n)) (runReading file .words)
 
-  value-said : 1 ≤ p .value
-  unfolding startSound
-  value-said = let z = eqb-false (p .value) 0 (not-e _ (and-l _ _ (run-accepted file h .2))) in omega arith
-
   -- demand 3 of its records
   demand3-holds : Demand3Holds (p .plan) (p .faulty) (p .value) (p .rounds) played (sites (p .plan) (p .faulty) (p .value) (scriptOf (p .plan .n) played) (p .rounds))
   unfolding site
   demand3-holds =
       let a = run-accepted file h in
-      promised (p .plan) (a .0) (p .faulty) (p .value) (p .rounds) (fault-sound (p .plan) (p .faulty) (a .1) .1) value-said played _ (λ b k. refl)
+      promised (p .plan) (a .0) (p .faulty) (p .value) (p .rounds) (fault-sound (p .plan) (p .faulty) (a .1) .1) (start-parts _ _ (a .2) .0) played _ (λ b k. refl)
 
   -- n - 1 rounds are enough
   enough-rounds : verdict (p .plan) .passed ≡ true → p .plan .n - 1 ≤ p .rounds → noneWaits (linesFrom [] (runText file)) ≡ true

@@ -9,9 +9,8 @@ use native.Mathlib.Numerals.{add-one}
 use native.Mathlib.Omega.{arith}
 use lib.ListN.{length, getD, take, length-append, length-replicate, List·getD-map}
 use lib.Seq.{length-take-le}
-use borrow.Author.Tests.{leb-true}
 use Rattle.sets.specs.Sets.{mem}
-use Rattle.sets.proofs.Bools.{and-r, pick-yes, pick-no, pick-case}
+use Rattle.sets.proofs.Bools.{pick-yes, pick-no, pick-case}
 use Rattle.sets.proofs.Laws.{equal-or-not}
 use Rattle.terminal.specs.declared.State.{State}
 use Rattle.terminal.specs.declared.State.the-variants.{Waiting, Taken}
@@ -20,7 +19,7 @@ use Rattle.terminal.specs.Rule.{start}
 use Rattle.plan.proofs.Laws.{sound}
 use Rattle.propagation.specs.Run.{site, scriptOf}
 use Rattle.simulation.specs.Answer.{runCause, arrayAfter}
-use Rattle.quorum.specs.Words.{startSound}
+use Rattle.quorum.proofs.Words.{start-parts}
 use Rattle.simulation.proofs.Causes.{fits, cause-played}
 use Rattle.simulation.proofs.Promise.{array-at}
 use Rattle.frames.specs.declared.Progress.{Progress}
@@ -124,12 +123,11 @@ module _ (p : Progress) (play : Playable p) (words : List ℕ) (room : length wo
 -- ---- the lines on a run file
 
 pub run-playable : (file : List ℕ) → runReading file .number ≡ 0 → Playable (runReading file .progress)
-unfolding startSound
 run-playable file h =
     let a = run-accepted file h in
     record {
       twenty = sound (runReading file .progress .plan) (a .0) .twenty;
-      forty = leb-true (runReading file .progress .rounds) 40 (and-r _ _ (a .2));
+      forty = start-parts _ _ (a .2) .1;
       bad-set = a .1;
       in-range = a .2;
     }

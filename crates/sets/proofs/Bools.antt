@@ -2,6 +2,7 @@
 use mathlib.Core.Path.{_≡_, refl, sym, _∙_}
 use mathlib.Core.Logic.{_⊎_, inl, inr}
 use mathlib.Core.Bool.{Bool, true, false, not, true≢false}
+use mathlib.Core.List.{List, [], _∷_}
 use Rattle.sets.specs.Tests.{_and_, _or_, _implies_, pick}
 
 pub clash {ℓ} : {X : Type ℓ} {b : Bool} → b ≡ true → b ≡ false → X
@@ -130,3 +131,8 @@ implies-no-r false b h = clash refl h
 pub not-no : (a : Bool) → not a ≡ false → a ≡ true
 not-no true h = refl
 not-no false h = sym h
+
+-- every element of a list passes the test
+unfoldable pub every : {A : Type 0} → (A → Bool) → List A → Bool
+every test [] = true
+every test (x ∷ xs) = test x and every test xs

@@ -7,8 +7,8 @@ use native.Mathlib.Omega.{arith}
 use types.Run.{OneOf, miss}
 use denote.Enum.Declared.{tagOf}
 use lib.Dec.{eqb}
-use borrow.Author.Tests.{eqb-true, eqb-false, leb-true, eq-eqb}
-use Rattle.sets.proofs.Bools.{and-l, and-r, and-i, not-i, not-e, not-yes, not-no, pick-yes, pick-no}
+use borrow.Author.Tests.{eqb-true, eqb-false, eq-eqb}
+use Rattle.sets.proofs.Bools.{and-l, and-r, and-i, not-i, not-yes, not-no, pick-yes, pick-no}
 use Rattle.sets.proofs.Causes.{cause-here, cause-later, cause-last, cause-none, given-passes, given-decides, given-none}
 use Rattle.plan.specs.declared.Plan.{Plan}
 use Rattle.plan.specs.Plan.{causeOf}
@@ -19,6 +19,7 @@ use Rattle.simulation.specs.declared.Outcome.{Outcome}
 use Rattle.simulation.specs.declared.Outcome.the-variants.{Played, WrongRange, WrongLink, WrongMember, OverBound, WrongStart, WrongLength}
 use Rattle.simulation.specs.Answer.{numberOf, listsFit, runCause, turnsOf}
 use Rattle.quorum.specs.Words.{startSound}
+use Rattle.quorum.proofs.Words.{start-parts}
 use Rattle.simulation.proofs.Outcome.{the-type}
 
 -- an outcome other than Played has a number that is not 0
@@ -65,17 +66,12 @@ module _ (p : Plan) (faulty value rounds words places : ℕ) where
   -- what an accepted call has
   pub accepted-run : runCause p faulty value rounds words places ≡ 0
       → (causeOf p ≡ 0) × (isFaultSet p faulty ≡ true) × (1 ≤ value) × (rounds ≤ 40) × (words ≡ rounds * (p .n * p .n)) × (places ≡ p .n)
-  unfolding runCause startSound listsFit
+  unfolding runCause listsFit
   accepted-run h =
       let f = given-none (faultCauseOf p faulty) _ h in
       let s = cause-none _ 9 _ (λ z. omega arith) (f .1) in
       let l = cause-none _ 12 _ (λ z. omega arith) (s .1) in
       let g = fault-sound p faulty (f .0) in
-      let started = not-no (startSound value rounds) (s .0) in
+      let started = start-parts value rounds (not-no _ (s .0)) in
       let fit = not-no (listsFit p rounds words places) (l .0) in
-      let nz : value ≡ 0 → ⊥ = eqb-false value 0 (not-e (eqb value 0) (and-l _ _ started)) in
-      (g .0, g .1, positive value nz, leb-true rounds 40 (and-r _ _ started), eqb-true words (rounds * (p .n * p .n)) (and-l _ _ fit), eqb-true places (p .n) (and-r _ _ fit))
-    where
-      positive : (v : ℕ) → (v ≡ 0 → ⊥) → 1 ≤ v
-      positive Prim.Native.Nat.zero z = absurd (z refl)
-      positive (Prim.Native.Nat.suc v) z = omega arith
+      (g .0, g .1, started .0, started .1, eqb-true words (rounds * (p .n * p .n)) (and-l _ _ fit), eqb-true places (p .n) (and-r _ _ fit))

@@ -1,24 +1,36 @@
--- Texts one after the other in one that is put together, and a text that is put into a list. Assumes nothing.
+-- What is written of a byte, texts one after the other in one that is put together, and a text that is put into a list. Assumes nothing.
 use Prim.Native.Nat.{ℕ, zero, suc, _+_, _/_, _%_, _≤_, _<_}
 use mathlib.Core.Path.{_≡_, refl, sym, ap, ap₂, _∙_}
 use mathlib.Core.Logic.{⊎-elim}
-use mathlib.Core.Bool.{true, false}
+use mathlib.Core.Bool.{Bool, true, false, not}
 use mathlib.Core.List.{List, [], _∷_, _++_, append-assoc}
 use native.Mathlib.Nat.{zero-add}
 use native.Mathlib.Numerals.{add-one}
 use native.Mathlib.Omega.{arith}
-use lib.Dec.{ltb}
+use lib.Dec.{eqb, ltb}
 use lib.ListN.{length, getD, take, drop, set, length-take, length-append}
 use lib.Seq.{take-all, take-append-le, take-append-seam, take-suc-set, sets, sets-eq, paste, paste-suc}
-use borrow.Author.Tests.{lt-ltb, le-ltb, ltb-false}
+use borrow.Author.Tests.{ne-eqb, lt-ltb, le-ltb, ltb-false}
 use Rattle.sets.specs.Causes.{_gives_, firstCause}
-use Rattle.sets.proofs.Bools.{pick-yes, pick-no, pick-case}
+use Rattle.sets.proofs.Bools.{and-i, not-i, pick-yes, pick-no, pick-case, every}
 use Rattle.sets.proofs.Causes.{cause-here, cause-none, given-passes, given-decides}
 use Rattle.sets.proofs.Laws.{equal-or-not}
 use Rattle.digits.specs.Digits.{characterOf}
+use Rattle.digits.proofs.Laws.{character-no-end}
 use Rattle.text.specs.declared.Written.{Written}
 use Rattle.text.specs.Digits.{hexByte}
 use Rattle.text.specs.Texts.{joined, writtenOf, putInto}
+
+-- ---- bytes as digits
+
+-- none of the bytes ends a line
+abbrev pub noEnd : List ℕ → Bool
+noEnd = every (λ b. not (eqb b 10))
+
+pub byte-no-end : (b : ℕ) (rest : List ℕ) → noEnd rest ≡ true → noEnd (hexByte b ++ rest) ≡ true
+unfolding every hexByte
+byte-no-end b rest h =
+    and-i _ _ (not-i (ne-eqb _ 10 (character-no-end (b / 16)))) (and-i _ _ (not-i (ne-eqb _ 10 (character-no-end (b % 16)))) h)
 
 -- ---- a text that is put together
 

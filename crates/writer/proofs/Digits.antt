@@ -41,13 +41,13 @@ headDigits n source f = hexByte 1 ++ (hexByte n ++ (hexByte source ++ (hexByte f
 abbrev pub linkDigits : ℕ → ℕ → List ℕ
 linkDigits from to = hexByte 2 ++ (hexByte from ++ (hexByte to ++ []))
 
-pub head-digits : (n source f : ℕ) → n < 256 → source < 256 → f < 256 → allDigits (headDigits n source f) ≡ true
+head-digits : (n source f : ℕ) → n < 256 → source < 256 → f < 256 → allDigits (headDigits n source f) ≡ true
 unfolding allDigits
 head-digits n source f a b c =
     byte-digits 1 (hexByte n ++ (hexByte source ++ (hexByte f ++ []))) (omega arith)
     (byte-digits n (hexByte source ++ (hexByte f ++ [])) a (byte-digits source (hexByte f ++ []) b (byte-digits f [] c refl)))
 
-pub link-digits : (from to : ℕ) → from < 256 → to < 256 → allDigits (linkDigits from to) ≡ true
+link-digits : (from to : ℕ) → from < 256 → to < 256 → allDigits (linkDigits from to) ≡ true
 unfolding allDigits
 link-digits from to a b =
     byte-digits 2 (hexByte from ++ (hexByte to ++ [])) (omega arith) (byte-digits from (hexByte to ++ []) a (byte-digits to [] b refl))

@@ -1,42 +1,41 @@
 -- The lines of the text that is written, and how the reader takes them. Assumes nothing.
-use Prim.Native.Nat.{ℕ, zero, suc, _+_, _*_, _/_, _%_, _≤_, _<_}
+use Prim.Native.Nat.{ℕ, zero, suc, _+_, _*_, _/_, _%_, _≤_}
 use mathlib.Core.Path.{_≡_, refl, ap, _∙_}
 use mathlib.Core.Bool.{true}
 use mathlib.Core.List.{List, [], _∷_, _++_}
 use native.Mathlib.Omega.{arith}
 use lib.ListN.{length, length-append}
-use borrow.Author.Tests.{ne-eqb, eq-eqb}
+use borrow.Author.Tests.{eq-eqb}
 use Rattle.sets.specs.Tests.{pick}
-use Rattle.sets.proofs.Bools.{and-l, and-r, and-i, not-i, pick-yes, pick-case}
+use Rattle.sets.proofs.Bools.{pick-yes, pick-case, every}
 use Rattle.plan.specs.declared.Plan.{Plan}
 use Rattle.plan.specs.Plan.{hears}
-use Rattle.digits.proofs.Laws.{digit-no-end}
 use Rattle.text.specs.Digits.{hexByte}
+use Rattle.text.proofs.Laws.{noEnd, byte-no-end}
 use Rattle.lines.specs.declared.Frame.{Frame}
-use Rattle.lines.specs.Bytes.{allDigits}
 use Rattle.lines.specs.Frames.{frameOf}
 use Rattle.frames.specs.declared.Progress.{Progress}
 use Rattle.frames.specs.Lines.{Line, ended, linesFrom}
 use Rattle.frames.specs.Reading.{causeIn, after, wordsAfter, told}
-use Rattle.frames.proofs.TextLines.{noEnd, line-of}
+use Rattle.frames.proofs.TextLines.{line-of}
 use Rattle.writer.specs.Written.{headLine, linkLine, linkLines}
-use Rattle.writer.proofs.Digits.{headDigits, linkDigits, head-digits, link-digits}
+use Rattle.writer.proofs.Digits.{headDigits, linkDigits}
 
--- digits end no line
-digits-no-end : (digits : List ℕ) → allDigits digits ≡ true → noEnd digits ≡ true
-unfolding allDigits noEnd
-digits-no-end [] h = refl
-digits-no-end (d ∷ digits) h = and-i _ _ (not-i (ne-eqb d 10 (digit-no-end d (and-l _ _ h)))) (digits-no-end digits (and-r _ _ h))
+head-no-end : (n source f : ℕ) → noEnd (headDigits n source f) ≡ true
+unfolding every
+head-no-end n source f = byte-no-end 1 _ (byte-no-end n _ (byte-no-end source _ (byte-no-end f [] refl)))
 
-pub head-lines : (p : Plan) (rest : List ℕ) → p .n < 256 → p .source < 256 → p .f < 256
-    → linesFrom [] (headLine p ++ rest) ≡ ended (headDigits (p .n) (p .source) (p .f)) ∷ linesFrom [] rest
+link-no-end : (from to : ℕ) → noEnd (linkDigits from to) ≡ true
+unfolding every
+link-no-end from to = byte-no-end 2 _ (byte-no-end from _ (byte-no-end to [] refl))
+
+pub head-lines : (p : Plan) (rest : List ℕ) → linesFrom [] (headLine p ++ rest) ≡ ended (headDigits (p .n) (p .source) (p .f)) ∷ linesFrom [] rest
 unfolding headLine hexByte
-head-lines p rest a b c = line-of [] (headDigits (p .n) (p .source) (p .f)) rest (digits-no-end _ (head-digits (p .n) (p .source) (p .f) a b c))
+head-lines p rest = line-of [] (headDigits (p .n) (p .source) (p .f)) rest (head-no-end (p .n) (p .source) (p .f))
 
-pub link-lines : (from to : ℕ) (rest : List ℕ) → from < 256 → to < 256
-    → linesFrom [] (linkLine from to ++ rest) ≡ ended (linkDigits from to) ∷ linesFrom [] rest
+pub link-lines : (from to : ℕ) (rest : List ℕ) → linesFrom [] (linkLine from to ++ rest) ≡ ended (linkDigits from to) ∷ linesFrom [] rest
 unfolding linkLine hexByte
-link-lines from to rest a b = line-of [] (linkDigits from to) rest (digits-no-end _ (link-digits from to a b))
+link-lines from to rest = line-of [] (linkDigits from to) rest (link-no-end from to)
 
 -- a line whose frame is accepted
 pub line-told : (kinds : ℕ) (p : Progress) (words : List ℕ) (k : ℕ) (line : List ℕ) (rest : List Line) (frame : Frame) → frameOf kinds line ≡ frame

@@ -170,7 +170,7 @@ module _ (p : Plan) (s : Sound p) where
         ≡ told planKinds (progressWith p (set rows to (with 32 (getD rows to 0) from))) words (j + 1) (linesFrom [] rest)
     unfolding after linked wordsAfter heardBy
     link-told k j rows rest passed from to here a b e =
-        ap (told planKinds (progressWith p rows) words j) (link-lines from to rest (omega arith) (omega arith))
+        ap (told planKinds (progressWith p rows) words j) (link-lines from to rest)
         ∙ line-told planKinds (progressWith p rows) words j (linkDigits from to) (linesFrom [] rest) (Link from to) (link-frame from to (omega arith) (omega arith))
         (link-accepted k rows words passed from to here a b e)
 
@@ -196,7 +196,7 @@ module _ (p : Plan) (s : Sound p) where
         let n : p .n < 256 = omega (arith, s .twenty) in
         let source : p .source < 256 = omega (arith, s .source-below) in
         let f : p .f < 256 = omega (arith, s .f-below) in
-        ap (told planKinds nothingRead words 1) (head-lines p rest n source f)
+        ap (told planKinds nothingRead words 1) (head-lines p rest)
         ∙ line-told planKinds nothingRead words 1 (headDigits (p .n) (p .source) (p .f)) (linesFrom [] rest) (Head (p .n) (p .source) (p .f))
         (head-frame (p .n) (p .source) (p .f) n source f) (cause-later _ _ _ (not-yes refl) ∙ cause-last _ _ (not-yes r))
 

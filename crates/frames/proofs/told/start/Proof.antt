@@ -19,10 +19,10 @@ start-sound-requires : tie.Need-start-sound-requires
 start-sound-requires c κs = search needs
 
 returns : tie.Need-returns
-returns c = (sym (start-sound _ _ _ _ (sym (c .before .before .before .before .is-at .ensures) ∙ c .before .before .before .if1 .taken) (c .before .before .rounds-of .ensures) (sym (c .before .start-sound .ensures) ∙ c .if2 .taken)), λ z. start-next _ _ _ _ (sym (c .before .before .before .before .is-at .ensures) ∙ c .before .before .before .if1 .taken) (c .before .before .rounds-of .ensures))
+returns c = (sym (start-sound _ _ _ _ (c .before .before .rounds-of .ensures) (sym (c .before .before .before .before .is-at .ensures) ∙ c .before .before .before .if1 .taken) (sym (c .before .start-sound .ensures) ∙ c .if2 .taken)), λ z. start-next _ _ _ _ (c .before .before .rounds-of .ensures))
 
 returns-2 : tie.Need-returns-2
-returns-2 c = (sym (start-wrong _ _ _ _ (sym (c .before .before .before .before .is-at .ensures) ∙ c .before .before .before .if1 .taken) (c .before .before .rounds-of .ensures) (sym (c .before .start-sound .ensures) ∙ c .if2 .left)), λ z. absurd (omega arith))
+returns-2 c = (sym (start-wrong _ _ _ _ (c .before .before .rounds-of .ensures) (sym (c .before .before .before .before .is-at .ensures) ∙ c .before .before .before .if1 .taken) (sym (c .before .start-sound .ensures) ∙ c .if2 .left)), λ z. absurd (omega arith))
 
 returns-3 : tie.Need-returns-3
 unfolding startCause
