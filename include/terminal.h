@@ -2,7 +2,10 @@
  *
  * The functions are in libfirmware.a ('rt staticlib firmware'), for x86-64 with the System V calling
  * convention. They are proved: for any bytes that are handed in they end, touch no memory but their
- * arguments, and answer as the words below say. They use no heap.
+ * arguments, and answer as the words below say. They use no heap and no function from outside. Records and
+ * answers go by value, so a step has several of them on the stack: just under 11 KiB in all, measured. The
+ * caller's compiler may copy them by a call of memcpy, as clang does: a board without a C library then has to
+ * supply that, for its own code and not for the archive.
  *
  * A round of a board, of which there are HULMAYEK_ROUNDS at most:
  *   1. transmit hulmayek_says(record) to all neighbours; 0 is silence, nothing is sent
@@ -32,7 +35,7 @@ extern "C" {
 
 /* The layout of the types below and the meaning of the functions. An archive of another layout returns
  * another number from hulmayek_layout(): compare once, at the start. */
-#define HULMAYEK_LAYOUT 1
+#define HULMAYEK_LAYOUT 2
 
 /* The most terminals of a site, and the most rounds that a record plays. */
 #define HULMAYEK_TERMINALS 20
@@ -49,33 +52,48 @@ extern "C" {
 #define HULMAYEK_WRONG_LENGTH 12
 #define HULMAYEK_WRONG_RECORD 13
 
-/* What a terminal keeps from round to round.
+/* A row: what a terminal has noted of one other.
+ *   count   how many values it has noted, at most one a round
+ *   values  these values, in the order that they were first said: values[0] to values[count - 1]. No step
+ *           looks at values[count] and those after it; in a record that only the functions below have
+ *           made they are 0. */
+typedef struct {
+    uint8_t count;
+    uint16_t values[HULMAYEK_ROUNDS];
+} hulmayek_note;
+
+/* What a terminal keeps from round to round: 1646 bytes.
  *   taken   HULMAYEK_WAITING: at and value are 0; HULMAYEK_TAKEN: it took the layout `value` in round `at`.
  *           Any other bytes here are a record that no step takes: refused, HULMAYEK_WRONG_RECORD.
  *   round   how many rounds it has played
- *   notes   notes[j]: the first value that terminal j said to it, 0 for none */
+ *   notes   notes[j]: the row of terminal j, every different value that j said to it while it waited */
 typedef struct {
     uint8_t taken;
     uint8_t at;
     uint16_t value;
     uint8_t round;
-    uint16_t notes[HULMAYEK_TERMINALS];
+    hulmayek_note notes[HULMAYEK_TERMINALS];
 } hulmayek_record;
 
-/* What a step answers.
+/* What a step answers: 1648 bytes.
  *   number  HULMAYEK_PLAYED: the round was played, and `after` is the new record. Otherwise `after` is the
  *           record that went in, byte for byte but for its padding, and number says what was wrong, the
  *           first that applies in this order:
  *            HULMAYEK_WRONG_RANGE   n is not 2 to 20, or source or f is not below n
  *            HULMAYEK_WRONG_LINK    `heard` has a bit at or above n, or the terminal's own
  *            HULMAYEK_WRONG_RECORD  the record cannot be stepped: 40 rounds played, own not below n, the
- *                                   source waiting, taken later than its round, taken with value 0, or
- *                                   no record at all
+ *                                   source waiting, taken later than its round, taken with value 0, more
+ *                                   values of a terminal that it hears than rounds played
+ *                                   (notes[j].count above round), or no record at all
  *            HULMAYEK_WRONG_LENGTH  the list is not n words long
  *
  * HULMAYEK_WRONG_RECORD with before.round == HULMAYEK_ROUNDS is the end of the play: a record that was only
  * ever stepped by hulmayek_step reaches that round and no later one, and keeps its layout. With any other
- * round the record is broken, or own is not below n. */
+ * round the record is broken, or own is not below n.
+ *
+ * A value that stands twice in a row, or 0 among a row's values, is not refused: the row counts once for the
+ * value, and 0 counts for nothing. Rows of terminals that it does not hear are not looked at, whatever their
+ * count, and come back as they were. */
 typedef struct {
     uint8_t number;
     hulmayek_record after;
@@ -91,8 +109,16 @@ hulmayek_record hulmayek_source_start(uint16_t value);
 
 /* One round of terminal `own` on a site of n terminals, of which at most f that it hears may lie.
  * Bit j of `heard` says that it hears terminal j; said[j] is what terminal j said to it in this round, 0 for
- * nothing. It notes the first value of each terminal it hears, and takes the source's, or the smallest value
- * noted from more than f of them. One that has taken a layout keeps it. */
+ * nothing.
+ * A waiting terminal adds said[j], for each j that it hears, to the end of row j, unless it is 0 or among the
+ * row's values already. Then it takes
+ *   1. the first value of the source, if it hears the source and has one: count of that row is not 0, and
+ *      values[0] is not 0;
+ *   2. or else the smallest value that stands in the rows of more than f terminals that it hears. Each
+ *      counts once for every different value it has said so far, and so a bad first word does no harm
+ *      where the good one follows;
+ *   3. or else it waits.
+ * One that has taken a layout keeps it, and only its round changes. */
 hulmayek_answer hulmayek_step(size_t n, size_t source, size_t f, size_t own, uint32_t heard,
                               hulmayek_record before, const uint16_t *said, size_t said_len);
 
@@ -112,13 +138,16 @@ uint32_t hulmayek_layout(void);
 #endif
 
 /* The layout that the archive was built for. */
-HULMAYEK_SAME("record", sizeof(hulmayek_record) == 46);
+HULMAYEK_SAME("note", sizeof(hulmayek_note) == 82);
+HULMAYEK_SAME("count", offsetof(hulmayek_note, count) == 0);
+HULMAYEK_SAME("values", offsetof(hulmayek_note, values) == 2);
+HULMAYEK_SAME("record", sizeof(hulmayek_record) == 1646);
 HULMAYEK_SAME("taken", offsetof(hulmayek_record, taken) == 0);
 HULMAYEK_SAME("at", offsetof(hulmayek_record, at) == 1);
 HULMAYEK_SAME("value", offsetof(hulmayek_record, value) == 2);
 HULMAYEK_SAME("round", offsetof(hulmayek_record, round) == 4);
 HULMAYEK_SAME("notes", offsetof(hulmayek_record, notes) == 6);
-HULMAYEK_SAME("answer", sizeof(hulmayek_answer) == 48);
+HULMAYEK_SAME("answer", sizeof(hulmayek_answer) == 1648);
 HULMAYEK_SAME("number", offsetof(hulmayek_answer, number) == 0);
 HULMAYEK_SAME("after", offsetof(hulmayek_answer, after) == 2);
 HULMAYEK_SAME("size_t", sizeof(size_t) == 8);

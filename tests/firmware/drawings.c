@@ -1,4 +1,5 @@
-/* Drawings C and E of document 01, played terminal by terminal, and calls that are refused. */
+/* Drawings C and E of document 01, played terminal by terminal, the rule of document 02 on every value that a
+ * neighbour has said, and calls that are refused. */
 #include "terminal.h"
 
 #include <stdio.h>
@@ -56,13 +57,23 @@ static void drawing_c(void) {
     expect(s.records[2].taken == 1 && s.records[2].at == 2 && s.records[2].value == 7, "C: 2 takes 7 in round 2");
 }
 
+/* Whether a row has noted these values and no other, and holds 0 after them. */
+static int row_is(const hulmayek_record *r, size_t j, const uint16_t *values, size_t count) {
+    const hulmayek_note *row = &r->notes[j];
+    for (size_t i = 0; i < HULMAYEK_ROUNDS; i++) {
+        if (row->values[i] != (i < count ? values[i] : 0)) return 0;
+    }
+    return row->count == count;
+}
+
 static void drawing_e(void) {
     site s = {.n = 4, .f = 1, .heard = {0, 1, 1, 6}, .silent = 2};
     start(&s, 7);
     for (unsigned round = 1; round <= HULMAYEK_ROUNDS; round++) play(&s, round);
     expect(s.records[2].taken == 1 && s.records[2].at == 1 && s.records[2].value == 7, "E: 2 takes 7 in round 1");
     expect(s.records[3].taken == 0 && s.records[3].at == 0 && s.records[3].value == 0, "E: 3 waits for ever");
-    expect(s.records[3].round == HULMAYEK_ROUNDS && s.records[3].notes[2] == 7 && s.records[3].notes[1] == 0,
+    expect(s.records[3].round == HULMAYEK_ROUNDS && row_is(&s.records[3], 2, (uint16_t[]){7}, 1)
+               && row_is(&s.records[3], 1, NULL, 0),
            "E: 3 has played 40 rounds and heard 2 only");
     s.silent = 0;
     start(&s, 7);
@@ -70,14 +81,67 @@ static void drawing_e(void) {
     expect(s.records[3].taken == 1 && s.records[3].at == 2 && s.records[3].value == 7, "E: with nobody silent 3 takes in round 2");
 }
 
+/* One round of terminal 3 in drawing E, which hears 1 and 2. */
+static hulmayek_record third(hulmayek_record r, uint16_t of_1, uint16_t of_2) {
+    uint16_t said[4] = {5, of_1, of_2, 5};
+    hulmayek_answer a = hulmayek_step(4, 0, 1, 3, 6, r, said, 4);
+    expect(a.number == 0, "a round of terminal 3 is played");
+    return a.after;
+}
+
+/* A first word that was spoiled, one that is spoiled later, and words said again. */
+static void every_value(void) {
+    hulmayek_record r = third(third(hulmayek_start(), 9, 0), 7, 7);
+    expect(r.taken == 1 && r.at == 2 && r.value == 7, "after a bad word the good one counts");
+    expect(row_is(&r, 1, (uint16_t[]){9, 7}, 2) && row_is(&r, 2, (uint16_t[]){7}, 1), "both words are noted");
+    expect(row_is(&r, 0, NULL, 0) && row_is(&r, 3, NULL, 0), "of those not heard nothing is");
+    r = third(third(third(hulmayek_start(), 7, 0), 9, 0), 0, 7);
+    expect(r.taken == 1 && r.at == 3 && r.value == 7, "a good word counts although a bad one follows");
+    r = third(third(third(hulmayek_start(), 9, 0), 9, 0), 9, 8);
+    expect(r.taken == 0 && row_is(&r, 1, (uint16_t[]){9}, 1), "a word said again counts once");
+    r = hulmayek_start();
+    for (uint16_t round = 1; round <= HULMAYEK_ROUNDS; round++) r = third(r, 100 + round, 7);
+    expect(r.taken == 0 && r.notes[1].count == 40 && r.notes[1].values[39] == 140, "forty values of a neighbour");
+}
+
+/* The same record, all but the padding. */
+static int same(const hulmayek_record *a, const hulmayek_record *b) {
+    if (a->taken != b->taken || a->at != b->at || a->value != b->value || a->round != b->round) return 0;
+    for (size_t j = 0; j < HULMAYEK_TERMINALS; j++) {
+        if (a->notes[j].count != b->notes[j].count) return 0;
+        if (memcmp(a->notes[j].values, b->notes[j].values, sizeof a->notes[j].values) != 0) return 0;
+    }
+    return 1;
+}
+
 /* The number, and the record as it went in. */
 static void refused(size_t n, size_t own, uint32_t heard, hulmayek_record r, size_t len, int number, const char *what) {
     static const uint16_t said[21] = {7};
     hulmayek_answer a = hulmayek_step(n, 0, 1, own, heard, r, said, len);
     expect(a.number == number, what);
-    expect(a.after.taken == r.taken && a.after.at == r.at && a.after.value == r.value && a.after.round == r.round
-               && memcmp(a.after.notes, r.notes, sizeof r.notes) == 0,
-           "a refused record comes back as it went in");
+    expect(same(&a.after, &r), "a refused record comes back as it went in");
+}
+
+/* More values of a neighbour than rounds, waiting and taken; of one that is not heard it does not matter. */
+static void too_many_values(void) {
+    static const uint16_t said[4] = {0};
+    hulmayek_record r = hulmayek_start();
+    r.round = 2;
+    r.notes[0].count = 2;
+    expect(hulmayek_step(4, 0, 1, 1, 1, r, said, 4).number == 0, "as many values as rounds");
+    r.notes[0].count = 3;
+    r.notes[0].values[39] = 9;
+    refused(4, 1, 1, r, 4, 13, "one value more: 13");
+    refused(4, 1, 1, r, 3, 13, "it comes before a wrong length: 13");
+    refused(4, 1, 3, r, 4, 5, "its own bit comes before it: 5");
+    hulmayek_record after = hulmayek_step(4, 0, 1, 1, 4, r, said, 4).after;
+    r.round = 3;
+    expect(same(&after, &r), "the row of one that is not heard stays");
+    r.round = 2;
+    r.notes[0].count = 255;
+    r.taken = 1;
+    r.value = 7;
+    refused(4, 1, 1, r, 4, 13, "255 values of a taken one: 13");
 }
 
 static void refusals(void) {
@@ -86,7 +150,9 @@ static void refusals(void) {
                && HULMAYEK_TERMINALS == 20 && HULMAYEK_ROUNDS == 40,
            "the names are document 01's numbers");
     hulmayek_record r = hulmayek_start();
-    r.notes[3] = 9;
+    r.notes[3].count = 9;
+    r.notes[3].values[0] = 9;
+    r.notes[3].values[39] = 8;
     refused(21, 1, 1, r, 21, 4, "21 terminals: 4");
     refused(4, 1, 2, r, 4, 5, "its own bit: 5");
     refused(4, 1, 1, r, 3, 12, "a short list: 12");
@@ -107,15 +173,19 @@ static void refusals(void) {
  * bytes that are no state. at 255 and round 255 agree: nothing wraps. */
 static void words(void) {
     static const struct {
-        hulmayek_record r;
+        uint8_t taken, at;
+        uint16_t value;
+        uint8_t round;
         uint16_t says;
     } rows[] = {
-        {{1, 3, 9, 3, {0}}, 9},     {{1, 3, 9, 4, {0}}, 0},   {{1, 3, 9, 2, {0}}, 0}, {{0, 0, 0, 0, {0}}, 0},
-        {{1, 0, 7, 0, {0}}, 7},     {{1, 255, 9, 255, {0}}, 9}, {{1, 255, 9, 0, {0}}, 0}, {{2, 3, 9, 3, {0}}, 0},
-        {{0, 3, 9, 3, {0}}, 0},     {{255, 0, 9, 0, {0}}, 0},
+        {1, 3, 9, 3, 9},     {1, 3, 9, 4, 0},   {1, 3, 9, 2, 0}, {0, 0, 0, 0, 0}, {1, 0, 7, 0, 7},
+        {1, 255, 9, 255, 9}, {1, 255, 9, 0, 0}, {2, 3, 9, 3, 0}, {0, 3, 9, 3, 0}, {255, 0, 9, 0, 0},
     };
     for (size_t i = 0; i < sizeof rows / sizeof *rows; i++) {
-        expect(hulmayek_says(rows[i].r) == rows[i].says, "a row of the words");
+        hulmayek_record r = {.taken = rows[i].taken, .at = rows[i].at, .value = rows[i].value, .round = rows[i].round};
+        r.notes[1].count = 1;
+        r.notes[1].values[0] = 5;
+        expect(hulmayek_says(r) == rows[i].says, "a row of the words");
     }
 }
 
@@ -136,9 +206,11 @@ static void promises(void) {
 int main(void) {
     drawing_c();
     drawing_e();
+    every_value();
     refusals();
+    too_many_values();
     words();
     promises();
-    if (failures == 0) puts("drawings C and E, 8 refusals, and what is said: as document 01 has them");
+    if (failures == 0) puts("drawings C and E, every value heard, 12 refusals, and what is said: as the documents have them");
     return failures != 0;
 }

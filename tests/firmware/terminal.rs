@@ -1,5 +1,13 @@
 //! A safe wrapper of the archive for Rust, to be copied; `main` tries it on drawing C.
 
+/// What is noted of one terminal: `count` different values, in the order of saying.
+#[repr(C)]
+#[derive(Clone, Copy, Debug, PartialEq, Eq)]
+pub struct Note {
+    pub count: u8,
+    pub values: [u16; 40],
+}
+
 #[repr(C)]
 #[derive(Clone, Copy, Debug, PartialEq, Eq)]
 pub struct Record {
@@ -7,7 +15,7 @@ pub struct Record {
     pub at: u8,
     pub value: u16,
     pub round: u8,
-    pub notes: [u16; 20],
+    pub notes: [Note; 20],
 }
 
 #[repr(C)]
@@ -17,7 +25,8 @@ struct Answer {
 }
 
 // What the archive was built for.
-const _: () = assert!(size_of::<Record>() == 46 && size_of::<Answer>() == 48);
+const _: () = assert!(size_of::<Note>() == 82);
+const _: () = assert!(size_of::<Record>() == 1646 && size_of::<Answer>() == 1648);
 
 extern "C" {
     fn hulmayek_start() -> Record;
@@ -37,7 +46,7 @@ extern "C" {
 }
 
 /// What this wrapper was written for; another archive is not to be used with it.
-pub const LAYOUT: u32 = 1;
+pub const LAYOUT: u32 = 2;
 
 /// Where a terminal stands on its site.
 #[derive(Clone, Copy)]
@@ -121,5 +130,25 @@ fn main() {
         Ok(7)
     );
     assert_eq!(step(second, one, &[0; 2]), Err(12));
+    every_value_counts();
     println!("drawing C from Rust: as document 01 has it");
+}
+
+/// Terminal 3 of drawing E hears a spoiled word of 1 first, and the good one a round later.
+fn every_value_counts() {
+    let fourth = Place {
+        n: 4,
+        source: 0,
+        f: 1,
+        own: 3,
+        heard: 6,
+    };
+    let spoiled = step(fourth, start(), &[0, 9, 0, 0]).expect("round 1 of terminal 3");
+    let after = step(fourth, spoiled, &[0, 7, 7, 0]).expect("round 2 of terminal 3");
+    assert_eq!((after.taken, after.at, after.value), (1, 2, 7));
+    let Note { count, values } = after.notes[1];
+    assert_eq!((count, values[0], values[1], values[2]), (2, 9, 7, 0));
+    let mut broken = spoiled;
+    broken.notes[2].count = 2;
+    assert_eq!(step(fourth, broken, &[0; 4]), Err(13));
 }

@@ -1,42 +1,24 @@
 -- The count over a sound plan's rows is the theory's set of those that hear enough. Assumes nothing.
-use Prim.Native.Nat.{ℕ, _+_, _-_, _*_, _%_, _^_, _≤_, _<_}
+use Prim.Native.Nat.{ℕ, _-_, _^_, _≤_, _<_}
 use mathlib.Core.Path.{_≡_, refl, sym, ap, _∙_, subst}
 use mathlib.Core.Logic.{_⊎_, ⊎-elim}
 use mathlib.Core.Bool.{Bool, true, false, not}
 use native.Mathlib.Nat.{lt-of-lt-of-le}
 use native.Mathlib.Omega.{arith}
-use lib.Bits.{bitAnd, bitOr}
+use lib.Bits.{bitAnd}
 use lib.Dec.{ltb, eqb}
 use lib.Pow.{pow-mono}
-use mir.Val.{boolByte}
 use Rattle.sets.specs.Tests.{_and_, _implies_}
-use Rattle.sets.specs.Sets.{bit, mem, count, mask}
+use Rattle.sets.specs.Sets.{mem, count, mask}
 use Rattle.quorum.specs.Quorum.{enough}
 use Rattle.sets.proofs.Bools.{and-no-l}
 use Rattle.sets.proofs.Laws.{below-or-not, mem-zero, mem-above, set-ext, mask-lt, mem-mask, mem-mask-above, mask-cong, all-cong, count-none, count-width, few}
-use Rattle.sets.proofs.Masks.{mask-or}
 use Rattle.sets.proofs.Operations.{test-inside}
 use Rattle.plan.specs.declared.Plan.{Plan}
 use Rattle.plan.specs.Plan.{heardBy, hears}
 use Rattle.plan.proofs.Laws.{Sound}
 use Rattle.closure.specs.FaultSet.{hearsEnough, isBounded}
 use Rattle.faults.specs.Rows.{over}
-
--- a loop that builds a mask, one bit a turn
-pub next-bit : (i : ℕ) (P : ℕ → Bool) (found d : ℕ) → i < 32 → found ≡ mask i P → d ≡ bit (P i)
-    → bitOr found ((d * 2 ^ i) % 4294967296) ≡ mask (i + 1) P
-next-bit i P found d k e q =
-    ap (λ (x : ℕ). bitOr x ((d * 2 ^ i) % 4294967296)) e
-    ∙ ap (λ (x : ℕ). bitOr (mask i P) ((x * 2 ^ i) % 4294967296)) q
-    ∙ mask-or 32 i P k
-
-pub byte-bit : (b : Bool) → boolByte b ≡ bit b
-byte-bit true = refl
-byte-bit false = refl
-
-pub byte-le : (b : Bool) → boolByte b ≤ 1
-byte-le true = omega arith
-byte-le false = omega arith
 
 -- rows at and above n are empty, so a property that the empty row lacks has the same mask over twenty rows as over n
 rows-mask : (p : Plan) → Sound p → (P : ℕ → Bool) → P 0 ≡ false → mask 20 (λ b. P (heardBy p b)) ≡ mask (p .n) (λ b. P (heardBy p b))

@@ -8,13 +8,14 @@ use Rattle.sets.specs.Tests.{_and_, pick}
 use Rattle.sets.proofs.Bools.{pick-yes, pick-no}
 use Rattle.terminal.specs.declared.State.{State}
 use Rattle.terminal.specs.declared.State.the-variants.{Waiting, Taken}
+use Rattle.terminal.specs.declared.Note.{Note}
 use Rattle.terminal.specs.declared.Record.{Record}
 use Rattle.terminal.specs.Answer.{causeOf, recordAfter}
 use Rattle.firmware.specs.declared.BoardRecord.{BoardRecord}
 use Rattle.firmware.specs.Board.{stateOf, recordOf, boardWith, boardOf, boardAnswer}
 
 -- what a board keeps of a record stands for that record, so that the answer of one step is what the next is given
-state-again : (s : State) (round : ℕ) (notes : List ℕ) → recordOf (boardWith s round notes) ≡ record { state = s; round = round; notes = notes }
+state-again : (s : State) (round : ℕ) (notes : List Note) → recordOf (boardWith s round notes) ≡ record { state = s; round = round; notes = notes }
 unfolding recordOf boardWith stateOf pick _and_
 state-again Waiting round notes = refl
 state-again (Taken at value) round notes = refl

@@ -6,8 +6,9 @@ use lib.ListN.{length}
 use Rattle.sets.specs.Tests.{_and_, pick}
 use Rattle.terminal.specs.declared.State.{State}
 use Rattle.terminal.specs.declared.State.the-variants.{Waiting, Taken}
+use Rattle.terminal.specs.declared.Note.{Note}
 use Rattle.terminal.specs.declared.Record.{Record}
-use Rattle.terminal.specs.Rule.{says}
+use Rattle.terminal.specs.Shown.{says}
 use Rattle.terminal.specs.Answer.{causeOf, recordAfter}
 use Rattle.firmware.specs.declared.BoardRecord.{BoardRecord}
 use Rattle.firmware.specs.declared.BoardAnswer.{BoardAnswer}
@@ -20,7 +21,7 @@ unfoldable pub recordOf : BoardRecord → Record
 recordOf b = record { state = stateOf (b .taken) (b .at) (b .value); round = b .round; notes = b .notes }
 
 -- a record as a board keeps it
-unfoldable pub boardWith : State → ℕ → List ℕ → BoardRecord
+unfoldable pub boardWith : State → ℕ → List Note → BoardRecord
 boardWith Waiting round notes = record { taken = 0; at = 0; value = 0; round = round; notes = notes }
 boardWith (Taken at value) round notes = record { taken = 1; at = at; value = value; round = round; notes = notes }
 
@@ -40,4 +41,4 @@ boardSays b = says (recordOf b)
 
 -- the version of the layout of a board's record and answer, and of the functions: it changes with any of them
 abbrev pub layoutVersion : ℕ
-layoutVersion = 1
+layoutVersion = 2

@@ -1,7 +1,9 @@
 // The step for C, by value. include/terminal.h has the same in C's words.
 ghost use mathlib.Core.Path.{_≡_};
 ghost use Rattle.terminal.specs.Rule.{start, sourceStart};
+ghost use Rattle.terminal.specs.Shown.{shown};
 ghost use Rattle.firmware.specs.Board.{stateOf, recordOf, boardOf, boardAnswer, boardSays, layoutVersion};
+use terminal::Note;
 use terminal::Record;
 use terminal::State;
 
@@ -13,7 +15,7 @@ pub struct BoardRecord {
     pub at: u8,
     pub value: u16,
     pub round: u8,
-    pub notes: [u16; 20],
+    pub notes: [Note; 20],
 }
 
 // The number of a refusal, 0 for none, and the record after the step. A refused one comes back as
@@ -80,7 +82,7 @@ fn board_of(r: Record) -> BoardRecord
 // The record of a terminal that is switched on.
 #[no_mangle]
 pub extern "C" fn hulmayek_start() -> BoardRecord
-    ensures { λ r. ⌜ r ≡ boardOf start ⌝ }
+    ensures { λ r. ⌜ r ≡ boardOf (shown start) ⌝ }
 {
     board_of(terminal::start())
 }
@@ -88,7 +90,7 @@ pub extern "C" fn hulmayek_start() -> BoardRecord
 // The same of the source, which has taken its own value.
 #[no_mangle]
 pub extern "C" fn hulmayek_source_start(value: u16) -> BoardRecord
-    ensures { λ r. ⌜ r ≡ boardOf (sourceStart value) ⌝ }
+    ensures { λ r. ⌜ r ≡ boardOf (shown (sourceStart value)) ⌝ }
 {
     board_of(terminal::source_start(value))
 }
@@ -137,5 +139,5 @@ pub extern "C" fn hulmayek_says(record: BoardRecord) -> u16
 pub extern "C" fn hulmayek_layout() -> u32
     ensures { λ r. ⌜ r ≡ layoutVersion ⌝ }
 {
-    1
+    2
 }

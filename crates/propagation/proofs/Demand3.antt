@@ -9,8 +9,7 @@ use Rattle.sets.specs.Sets.{mem}
 use Rattle.sets.proofs.Bools.{no-by}
 use Rattle.sets.proofs.Laws.{some-member}
 use Rattle.terminal.specs.declared.State.the-variants.{Waiting}
-use Rattle.terminal.specs.declared.Record.{Record}
-use Rattle.terminal.specs.Rule.{start}
+use Rattle.terminal.specs.Rule.{View, start}
 use Rattle.plan.specs.declared.Plan.{Plan}
 use Rattle.plan.specs.Plan.{causeOf}
 use Rattle.plan.proofs.Laws.{Sound, sound}
@@ -37,7 +36,7 @@ module _ (p : Plan) (s : Sound p) where
       → b < p .n → mem b r ≡ true → site p f value script k b .state ≡ Waiting
   unfolding site
   kept-waiting f l r a value script k b quiet lb m =
-      ap (λ (records : List Record). getD records b start .state)
+      ap (λ (records : List View). getD records b start .state)
       (sites-same p f value script silence k (λ round sender hearer first last h _ bad. quiet round sender hearer first last h bad))
       ∙ waits p s f l r (accepts-e p f l r a) value k b lb m
 

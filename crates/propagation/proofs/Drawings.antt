@@ -5,7 +5,7 @@ use Rattle.sets.specs.Tests.{_and_, _or_, _implies_, pick}
 use Rattle.sets.specs.Causes.{firstCause}
 use Rattle.sets.specs.Sets.{mem, count, all, mask, within, size}
 use Rattle.quorum.specs.Quorum.{enough, inRange, hearsSoundly}
-use Rattle.terminal.specs.Rule.{firstWord, noted, hasNoted, certified, lesser, least, candidate, choice, taking, stepFrom, step, saysIn}
+use Rattle.terminal.specs.Rule.{among, isNew, withWord, noted, valuesOf, hasNoted, certified, firstOf, lesser, least, leastOf, candidate, leastFrom, choice, taking, stepFrom, step, saysIn}
 use Rattle.plan.specs.Plan.{heardBy, hears, rowSound, linksSound, causeOf}
 use Rattle.closure.specs.FaultSet.{hearsEnough, isBounded, isFaultSet}
 use Rattle.closure.specs.Closure.{joins, grow, reachedAfter, reached, cutOff}
@@ -17,5 +17,5 @@ use Rattle.propagation.specs.Drawings.{linked, drawing, setOf, ofAnswer,
 
 -- the definitions answer every row as the document does
 pub drawings : map (λ (r : Row). answer (r .asked)) rows ≡ map (λ (r : Row). r .expected) rows
-unfolding _and_ _or_ _implies_ pick firstCause mem count all mask enough within size firstWord noted hasNoted certified lesser least candidate choice taking stepFrom step inRange hearsSoundly heardBy hears rowSound linksSound causeOf hearsEnough isBounded isFaultSet joins grow reachedAfter reached cutOff defeats better bestBelow verdictOf verdict judged answerOf table startRecord saysIn heardFrom recordIn played sites site linked drawing setOf ofAnswer ofState answer linksF linksH chain rows
+unfolding _and_ _or_ _implies_ pick firstCause mem count all mask enough within size among isNew withWord noted valuesOf hasNoted certified firstOf lesser least leastOf candidate leastFrom choice taking stepFrom step inRange hearsSoundly heardBy hears rowSound linksSound causeOf hearsEnough isBounded isFaultSet joins grow reachedAfter reached cutOff defeats better bestBelow verdictOf verdict judged answerOf table startRecord saysIn heardFrom recordIn played sites site linked drawing setOf ofAnswer ofState answer linksF linksH chain rows
 drawings = refl

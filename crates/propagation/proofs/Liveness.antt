@@ -10,9 +10,7 @@ use Rattle.sets.specs.Sets.{mem}
 use Rattle.sets.proofs.Bools.{clash, and-i}
 use Rattle.sets.proofs.Laws.{mem-below}
 use Rattle.terminal.specs.declared.State.the-variants.{Waiting, Taken}
-use Rattle.terminal.specs.declared.Record.{Record}
-use Rattle.terminal.specs.Rule.{holds}
-use Rattle.terminal.proofs.Laws.{room-for}
+use Rattle.terminal.specs.Rule.{View, holds}
 use Rattle.plan.specs.declared.Plan.{Plan}
 use Rattle.plan.specs.Plan.{hears}
 use Rattle.plan.proofs.Laws.{Sound}
@@ -27,12 +25,12 @@ use Rattle.propagation.proofs.Safety.{safe, state-cases, not-both}
 
 module _ (p : Plan) (sound : Sound p) (faulty value : ℕ) (layout : value ≡ 0 → ⊥) (script : Script) (fault : isFaultSet p faulty ≡ true) where
   -- a good terminal's record one round on
-  after : ℕ → ℕ → Record
+  after : ℕ → ℕ → View
   after r b = stepIn p b (word p faulty value script r b) (site p faulty value script r b)
 
   next-state : (r b : ℕ) → b < p .n → mem b faulty ≡ false → site p faulty value script (suc r) b .state ≡ after r b .state
   unfolding after
-  next-state r b k g = ap (λ (x : Record). x .state) (at-next p faulty value script r b k g)
+  next-state r b k g = ap (λ (x : View). x .state) (at-next p faulty value script r b k g)
 
   stays : (r b t v : ℕ) → b < p .n → mem b faulty ≡ false
       → site p faulty value script r b .state ≡ Taken t v → site p faulty value script (suc r) b .state ≡ Taken t v
@@ -71,18 +69,14 @@ module _ (p : Plan) (sound : Sound p) (faulty value : ℕ) (layout : value ≡ 0
       let then = had-taken r j t v jk gj (le-of-suc-le-suc l) e in
       let wr = waited r b k g w in
       let s = safe p sound faulty value script fault r b k g in
-      subst (λ (x : Record). holds x value j ≡ true) (sym (at-next p faulty value script r b k g))
+      subst (λ (x : View). holds x value j ≡ true) (sym (at-next p faulty value script r b k g))
       (⊎-elim
       (λ now.
       let say : word p faulty value script r b j ≡ v = spoken r b j t v h gj now then in
       let vv : v ≡ value = safe p sound faulty value script fault r j jk gj .taken t v then .0 in
-      let heard =
-      spoken-noted p b (word p faulty value script r b) (site p faulty value script r b) j wr
-      (room-for 20 (p .n) (site p faulty value script r b) (sound .twenty) (s .room)) jk h (λ z. layout (sym vv ∙ sym say ∙ z)) in
-      subst (λ (u : ℕ). holds (after r b) u j ≡ true)
-      (safe p sound faulty value script fault (suc r) b k g .notes-good j (heard .0) h gj
-      (subst (λ (x : Record). holds x (heard .0) j ≡ true) (sym (at-next p faulty value script r b k g)) (heard .1)))
-      (heard .1))
+      subst (λ (u : ℕ). holds (after r b) u j ≡ true) (say ∙ vv)
+      (spoken-noted p b (word p faulty value script r b) (site p faulty value script r b) j wr jk
+      (let room = s .regular .room in let twenty = sound .twenty in omega arith) h (λ z. layout (sym vv ∙ sym say ∙ z))))
       (λ before.
       note-stays p b (word p faulty value script r b) (site p faulty value script r b) value j
       (has-heard r b j t v k g h gj wr then before))
@@ -96,7 +90,7 @@ module _ (p : Plan) (sound : Sound p) (faulty value : ℕ) (layout : value ≡ 0
 
   -- the source has taken from the start
   pub source-taken : (r : ℕ) → site p faulty value script r (p .source) .state ≡ Taken 0 value
-  source-taken zero = ap (λ (x : Record). x .state) (source-at-start p faulty value script (sound .source-below))
+  source-taken zero = ap (λ (x : View). x .state) (source-at-start p faulty value script (sound .source-below))
   source-taken (suc r) = stays r (p .source) 0 value (sound .source-below) (fault-source p faulty fault) (source-taken r)
 
   -- whoever hears the source does not wait, and whoever hears more than f that had taken does not
@@ -106,8 +100,8 @@ module _ (p : Plan) (sound : Sound p) (faulty value : ℕ) (layout : value ≡ 0
   source-heard r b k g h w =
       let noted = has-heard (suc r) b (p .source) 0 value k g h (fault-source p faulty fault) w (source-taken (suc r)) (omega arith) in
       clash noted
-      (subst (λ (x : Record). holds x value (p .source) ≡ false) (sym (at-next p faulty value script r b k g))
-      (waits-source p b (word p faulty value script r b) (site p faulty value script r b) (waited r b k g w)
+      (subst (λ (x : View). holds x value (p .source) ≡ false) (sym (at-next p faulty value script r b k g))
+      (waits-source p b (word p faulty value script r b) (site p faulty value script r b) (safe p sound faulty value script fault r b k g .regular) (waited r b k g w)
       (sym (next-state r b k g) ∙ w) h value))
 
   enough-heard : (r b s : ℕ) → b < p .n → mem b faulty ≡ false → hearsEnough p b s ≡ true
@@ -118,7 +112,7 @@ module _ (p : Plan) (sound : Sound p) (faulty value : ℕ) (layout : value ≡ 0
       let votes = hears-enough-of p b s (λ j. hears p b j and holds (site p faulty value script (suc r) b) value j)
       (λ j l e m. and-i _ _ e (voted j l e (took j l m))) h in
       clash votes
-      (subst (λ (x : Record). enoughIn p (λ j. hears p b j and holds x value j) ≡ false) (sym (at-next p faulty value script r b k g))
+      (subst (λ (x : View). enoughIn p (λ j. hears p b j and holds x value j) ≡ false) (sym (at-next p faulty value script r b k g))
       (waits-votes p b (word p faulty value script r b) (site p faulty value script r b) (waited r b k g w)
       (sym (next-state r b k g) ∙ w) value))
     where

@@ -14,8 +14,7 @@ use Rattle.sets.proofs.Bools.{decide, pick-yes, pick-no, pick-case}
 use Rattle.sets.proofs.Tables.{table-length, table-at, table-same}
 use Rattle.terminal.specs.declared.State.{State}
 use Rattle.terminal.specs.declared.State.the-variants.{Waiting, Taken}
-use Rattle.terminal.specs.declared.Record.{Record}
-use Rattle.terminal.specs.Rule.{start, sourceStart, saysIn}
+use Rattle.terminal.specs.Rule.{View, start, sourceStart, saysIn}
 use Rattle.plan.specs.declared.Plan.{Plan}
 use Rattle.plan.specs.Plan.{hears}
 use Rattle.propagation.specs.Run.{Script, stepIn, startRecord, heardFrom, recordIn, played, sites, site, SameWords}
@@ -80,7 +79,7 @@ module _ (p : Plan) (faulty value : ℕ) (script : Script) where
 -- ---- entries of good senders and of missing links are not looked at: scripts that agree on all others give the same sites
 
 module _ (p : Plan) (faulty value : ℕ) (script other : Script) where
-  heard-same : (r round : ℕ) → SameWords p faulty r script other → 1 ≤ round → round ≤ r → (before : List Record) (b : ℕ) → b < p .n → (j : ℕ)
+  heard-same : (r round : ℕ) → SameWords p faulty r script other → 1 ≤ round → round ≤ r → (before : List View) (b : ℕ) → b < p .n → (j : ℕ)
       → heardFrom p faulty script round before b j ≡ heardFrom p faulty other round before b j
   unfolding heardFrom
   heard-same r round same first last before b k j =
@@ -92,7 +91,7 @@ module _ (p : Plan) (faulty value : ℕ) (script other : Script) where
       (λ h. pick-no _ _ _ h ∙ sym (pick-no _ _ _ h))
       (decide (hears p b j))
 
-  record-same : (r round : ℕ) → SameWords p faulty r script other → 1 ≤ round → round ≤ r → (before : List Record) (b : ℕ) → b < p .n
+  record-same : (r round : ℕ) → SameWords p faulty r script other → 1 ≤ round → round ≤ r → (before : List View) (b : ℕ) → b < p .n
       → recordIn p faulty script round before b ≡ recordIn p faulty other round before b
   unfolding recordIn
   record-same r round same first last before b k =

@@ -10,22 +10,21 @@ use Rattle.sets.proofs.Bools.{clash, decide, and-l, and-r}
 use Rattle.sets.proofs.Laws.{equal-or-not}
 use Rattle.terminal.specs.declared.State.{State}
 use Rattle.terminal.specs.declared.State.the-variants.{Waiting, Taken}
-use Rattle.terminal.specs.declared.Record.{Record}
-use Rattle.terminal.specs.Rule.{start, sourceStart, holds}
-use Rattle.terminal.proofs.Laws.{Room, start-room, source-start-room, start-empty, source-start-empty, holds-layout}
+use Rattle.terminal.specs.Rule.{View, start, sourceStart, holds}
+use Rattle.terminal.proofs.Laws.{Regular, start-regular, source-start-regular, start-empty, source-start-empty, holds-layout}
 use Rattle.plan.specs.declared.Plan.{Plan}
 use Rattle.plan.specs.Plan.{hears}
 use Rattle.plan.proofs.Laws.{Sound}
 use Rattle.closure.specs.FaultSet.{enoughIn, isFaultSet}
 use Rattle.propagation.specs.Run.{Script, stepIn, site}
 use Rattle.closure.proofs.Faults.{fault-source, fault-bound, hears-enough}
-use Rattle.propagation.proofs.Steps.{step-round, step-room, taken-stays, takes, note-said}
+use Rattle.propagation.proofs.Steps.{step-round, step-regular, taken-stays, takes, note-said}
 use Rattle.propagation.proofs.Rounds.{word, source-at-start, other-at-start, at-next, word-good, says-why}
 
 -- what holds of every good terminal's record after r rounds
-pub record Safe (p : Plan) (faulty value r b : ℕ) (x : Record) : Type 0 where
+pub record Safe (p : Plan) (faulty value r b : ℕ) (x : View) : Type 0 where
   pub round-is : x .round ≡ r
-  pub room : Room 20 x
+  pub regular : Regular x
   pub taken : (t v : ℕ) → x .state ≡ Taken t v → (v ≡ value) × (t ≤ r)
   pub notes-good : (j v : ℕ) → hears p b j ≡ true → mem j faulty ≡ false → holds x v j ≡ true → v ≡ value
 
@@ -41,7 +40,7 @@ module _ (p : Plan) (sound : Sound p) (faulty value : ℕ) (script : Script) (fa
   private-start : (b : ℕ) → Safe p faulty value 0 b start
   private-start b = record {
     round-is = refl;
-    room = start-room;
+    regular = start-regular;
     taken = λ t v e. let z : _≡_ {A = ℕ} 0 1 = cc in absurd (omega arith);
     notes-good = λ j v h g e. clash e (start-empty v j);
   }
@@ -49,7 +48,7 @@ module _ (p : Plan) (sound : Sound p) (faulty value : ℕ) (script : Script) (fa
   source-safe : Safe p faulty value 0 (p .source) (sourceStart value)
   source-safe = record {
     round-is = refl;
-    room = source-start-room value;
+    regular = source-start-regular value;
     taken = λ t v e. let q : 0 ≡ t = cc in (cc, omega arith);
     notes-good = λ j v h g e. clash e (source-start-empty value v j);
   }
@@ -82,7 +81,7 @@ module _ (p : Plan) (sound : Sound p) (faulty value : ℕ) (script : Script) (fa
       (note-said p b (word p faulty value script r b) (site p faulty value script r b) v j e)
 
   -- more than f neighbours cannot all be faulty, so one of them is good
-  certified-good : (b : ℕ) → b < p .n → mem b faulty ≡ false → (x : Record) (v : ℕ)
+  certified-good : (b : ℕ) → b < p .n → mem b faulty ≡ false → (x : View) (v : ℕ)
       → ((j : ℕ) → hears p b j ≡ true → mem j faulty ≡ false → holds x v j ≡ true → v ≡ value)
       → enoughIn p (λ j. hears p b j and holds x v j) ≡ true → v ≡ value
   unfolding hears
@@ -137,7 +136,7 @@ module _ (p : Plan) (sound : Sound p) (faulty value : ℕ) (script : Script) (fa
             let q : site p faulty value script r b .round ≡ r = safe r b k g .round-is in
             let s : site p faulty value script r b .round + 1 ≡ suc r = omega arith in
             e ∙ s);
-        room = step-room p b (word p faulty value script r b) (site p faulty value script r b) 20 (safe r b k g .room);
+        regular = step-regular p b (word p faulty value script r b) (site p faulty value script r b) (safe r b k g .regular);
         taken = next-taken r (safe r) b k g;
         notes-good = next-notes r (safe r) b k g;
       })

@@ -7,8 +7,7 @@ use Rattle.sets.specs.Tests.{_and_}
 use Rattle.sets.specs.Sets.{mem}
 use Rattle.sets.proofs.Bools.{clash, decide, and-l, and-r}
 use Rattle.terminal.specs.declared.State.the-variants.{Waiting}
-use Rattle.terminal.specs.declared.Record.{Record}
-use Rattle.terminal.specs.Rule.{holds}
+use Rattle.terminal.specs.Rule.{View, holds}
 use Rattle.terminal.proofs.Laws.{start-empty, holds-layout}
 use Rattle.plan.specs.declared.Plan.{Plan}
 use Rattle.plan.specs.Plan.{hears}
@@ -22,7 +21,7 @@ use Rattle.propagation.proofs.Safety.{state-cases, not-both}
 
 module _ (p : Plan) (sound : Sound p) (f l r : ℕ) (accepted : Accepted p f l r) (value : ℕ) where
   -- a cut-off terminal waits, and has notes from reached terminals only
-  Kept : ℕ → ℕ → Record → Type 0
+  Kept : ℕ → ℕ → View → Type 0
   Kept k b x = (x .state ≡ Waiting) × ((j v : ℕ) → hears p b j ≡ true → holds x v j ≡ true → mem j l ≡ true)
 
   start-kept : (b : ℕ) → b < p .n → mem b r ≡ true → Kept 0 b (site p f value silence 0 b)

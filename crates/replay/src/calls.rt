@@ -4,14 +4,14 @@ use super::say;
 use partition::WitnessCheck;
 use terminal::Record;
 
-fn step_on(body: &[u8], said_to: &[u16], line: &mut [u8]) -> usize {
+fn step_on(body: &[u8], before: Record, said_to: &[u16], line: &mut [u8]) -> usize {
     let stepped = terminal::step(
         said::byte(body, 0) as usize,
         said::byte(body, 1) as usize,
         said::byte(body, 2) as usize,
         said::byte(body, 3) as usize,
         said::quad(body, 4),
-        said::record(body, 8),
+        before,
         said_to,
     );
     let outcome = stepped.outcome;
@@ -22,10 +22,12 @@ fn step_on(body: &[u8], said_to: &[u16], line: &mut [u8]) -> usize {
 
 // The count of what was said, then n, source, f, own number, heard set, record, and what was said.
 pub(crate) fn step(count: usize, body: &[u8], line: &mut [u8]) -> usize {
+    let placed = said::record(body, 8);
+    let before = placed.record;
     let mut words = [0u16; 64];
-    said::pairs(body, 53, &mut words);
+    said::pairs(body, placed.next, &mut words);
     if count <= 64 {
-        return step_on(body, &words[..count], line);
+        return step_on(body, before, &words[..count], line);
     }
     0
 }

@@ -1,5 +1,6 @@
 // The run over records that are lent: five places, so that a plan of four terminals, of five and of
 // six lends one too many, as many as it should, and one too few.
+ghost use Prim.Native.Nat.{_≤_};
 use super::said;
 use super::say;
 use plan::Plan;
@@ -36,14 +37,32 @@ fn records(line: &mut [u8], at: usize, list: [Record; 5]) -> usize {
     k
 }
 
-fn lent_on(body: &[u8], words: &[u16], line: &mut [u8]) -> usize {
-    let before = [
-        said::record(body, 90),
-        said::record(body, 135),
-        said::record(body, 180),
-        said::record(body, 225),
-        said::record(body, 270),
-    ];
+// What the five places hold before, and the place after them in the call.
+struct Before {
+    records: [Record; 5],
+    next: usize,
+}
+
+fn places(body: &[u8]) -> Before
+    ensures { λ r. ⌜ r .next ≤ 9000 ⌝ }
+{
+    let first = said::record(body, 90);
+    let second = said::record(body, first.next);
+    let third = said::record(body, second.next);
+    let fourth = said::record(body, third.next);
+    let fifth = said::record(body, fourth.next);
+    let a = first.record;
+    let b = second.record;
+    let c = third.record;
+    let d = fourth.record;
+    let e = fifth.record;
+    Before {
+        records: [a, b, c, d, e],
+        next: fifth.next,
+    }
+}
+
+fn lent_on(body: &[u8], before: [Record; 5], words: &[u16], line: &mut [u8]) -> usize {
     let ran = lend(
         said::plan(body),
         said::quad(body, 83),
@@ -61,10 +80,12 @@ fn lent_on(body: &[u8], words: &[u16], line: &mut [u8]) -> usize {
 // The count of words, then a plan, the fault set, the value, the rounds, what the five places hold
 // before, and the words.
 pub(crate) fn run(count: usize, body: &[u8], line: &mut [u8]) -> usize {
+    let held = places(body);
+    let before = held.records;
     let mut words = [0u16; 12000];
-    said::pairs(body, 315, &mut words);
+    said::pairs(body, held.next, &mut words);
     if count <= 12000 {
-        return lent_on(body, &words[..count], line);
+        return lent_on(body, before, &words[..count], line);
     }
     0
 }

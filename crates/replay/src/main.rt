@@ -32,7 +32,7 @@ fn print(line: &[u8], n: usize) {
 
 // Plays the call and prints its line.
 fn play(kind: u8, size: usize, body: &[u8]) {
-    let mut line = [0u8; 8192];
+    let mut line = [0u8; 65536];
     let n = answer(kind, size, body, &mut line);
     let end = say::end(&mut line, n);
     print(&line, end);

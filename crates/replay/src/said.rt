@@ -1,6 +1,7 @@
 // Numbers out of a call's bytes, high byte first; 0 past their end.
-ghost use Prim.Native.Nat.{_≤_};
+ghost use Prim.Native.Nat.{_+_, _≤_};
 use plan::Plan;
+use terminal::Note;
 use terminal::Record;
 use terminal::State;
 
@@ -41,7 +42,7 @@ pub(crate) fn plan(body: &[u8]) -> Plan {
 
 // 0 for waiting, else the round and the value.
 fn state(body: &[u8], i: usize) -> State
-    requires { ⌜ i ≤ 1000 ⌝ }
+    requires { ⌜ i ≤ 20000 ⌝ }
 {
     if byte(body, i) == 0 {
         return State::Waiting;
@@ -49,27 +50,71 @@ fn state(body: &[u8], i: usize) -> State
     State::Taken(byte(body, i + 1), pair(body, i + 2))
 }
 
-// The state in four bytes, the round, then 20 notes of two bytes: 45 bytes.
-pub(crate) fn record(body: &[u8], i: usize) -> Record
-    requires { ⌜ i ≤ 500 ⌝ }
+// How many places of a note are listed: at most forty.
+fn listed(body: &[u8], i: usize) -> usize
+    ensures { λ r. ⌜ r ≤ 40 ⌝ }
 {
-    let mut notes = [0u16; 20];
+    let places = byte(body, i) as usize;
+    if places <= 40 {
+        return places;
+    }
+    40
+}
+
+// The count, how many places are listed, and these; 0 at the others.
+fn note(body: &[u8], i: usize) -> Note
+    requires { ⌜ i ≤ 60000 ⌝ }
+{
+    let mut values = [0u16; 40];
+    let places = listed(body, i + 1);
+    let mut k = 0;
+    while k < places {
+        values[k] = pair(body, i + 2 + 2 * k);
+        k += 1;
+    }
+    Note {
+        count: byte(body, i),
+        values: values,
+    }
+}
+
+// A record, and the place after it.
+pub(crate) struct Placed {
+    pub record: Record,
+    pub next: usize,
+}
+
+// The state in four bytes, the round, then 20 notes: at most 1,645 bytes.
+pub(crate) fn record(body: &[u8], i: usize) -> Placed
+    requires { ⌜ i ≤ 20000 ⌝ }
+    ensures { λ r. ⌜ r .next ≤ i + 1645 ⌝ }
+{
+    let nothing = Note {
+        count: 0,
+        values: [0u16; 40],
+    };
+    let mut notes = [nothing; 20];
+    let mut at = i + 5;
     let mut j = 0;
     while j < 20 {
-        notes[j] = pair(body, i + 5 + 2 * j);
+        notes[j] = note(body, at);
+        at = at + 2 + 2 * listed(body, at + 1);
         j += 1;
     }
     let state = state(body, i);
-    Record {
-        state: state,
-        round: byte(body, i + 4),
-        notes: notes,
+    Placed {
+        record: Record {
+            state: state,
+            round: byte(body, i + 4),
+            notes: notes,
+        },
+        next: at,
     }
 }
 
 // Pair j of those from place i on; 0 past so many.
 fn pair_from(body: &[u8], i: usize, j: usize) -> u16
-    requires { ⌜ i ≤ 500 ⌝ }
+    requires { ⌜ i ≤ 30000 ⌝ }
 {
     if j < 16000 {
         return pair(body, i + 2 * j);
@@ -79,7 +124,7 @@ fn pair_from(body: &[u8], i: usize, j: usize) -> u16
 
 // The pairs from place i on, into the lent list.
 pub(crate) fn pairs(body: &[u8], i: usize, list: &mut [u16])
-    requires { ⌜ i ≤ 500 ⌝ }
+    requires { ⌜ i ≤ 30000 ⌝ }
 {
     let mut j = 0;
     while j < list.len() {

@@ -1,5 +1,7 @@
 // Digits into a line. Each function answers where the next digit goes; a line that is full takes no
 // more.
+ghost use Prim.Native.Nat.{_<_, _≤_};
+use terminal::Note;
 use terminal::Record;
 use terminal::State;
 
@@ -51,11 +53,48 @@ fn state(line: &mut [u8], at: usize, s: State) -> usize {
     }
 }
 
-fn notes(line: &mut [u8], at: usize, list: [u16; 20]) -> usize {
+// The place after the last one that is not 0, where i is looked at after `last`.
+fn later(last: usize, i: usize, value: u16) -> usize
+    requires { ⌜ (last ≤ 40) × (i < 40) ⌝ }
+    ensures { λ r. ⌜ r ≤ 40 ⌝ }
+{
+    if value == 0 {
+        return last;
+    }
+    i + 1
+}
+
+fn listed(values: [u16; 40]) -> usize
+    ensures { λ r. ⌜ r ≤ 40 ⌝ }
+{
+    let mut last = 0;
+    let mut i = 0;
+    while i < 40 {
+        last = later(last, i, values[i]);
+        i += 1;
+    }
+    last
+}
+
+// The count, how many places are listed, and these: all up to the last that is not 0.
+fn note(line: &mut [u8], at: usize, heard: Note) -> usize {
+    let values = heard.values;
+    let places = listed(values);
+    let one = byte(line, at, heard.count);
+    let mut k = byte(line, one, places as u8);
+    let mut i = 0;
+    while i < places {
+        k = pair(line, k, values[i]);
+        i += 1;
+    }
+    k
+}
+
+fn notes(line: &mut [u8], at: usize, list: [Note; 20]) -> usize {
     let mut k = at;
     let mut j = 0;
     while j < 20 {
-        k = pair(line, k, list[j]);
+        k = note(line, k, list[j]);
         j += 1;
     }
     k

@@ -14,9 +14,8 @@ use Rattle.terminal.specs.declared.State.{State}
 use Rattle.terminal.specs.declared.State.the-variants.{Waiting, Taken}
 use Rattle.closure.specs.Verdict.{verdict}
 use Rattle.faults.proofs.Laws.{fault-sound}
-use Rattle.propagation.specs.Run.{sites, site, scriptOf}
-use Rattle.simulation.specs.Answer.{Demand3Holds}
-use Rattle.simulation.proofs.Promise.{promised}
+use Rattle.propagation.specs.Run.{scriptOf}
+use Rattle.propagation.proofs.Demand3.{demand3}
 use Rattle.digits.specs.Digits.{sixteen, byCase, digitOf, characterOf}
 use Rattle.text.specs.Digits.{hexByte, hexPair}
 use Rattle.text.specs.Texts.{putInto}
@@ -99,19 +98,17 @@ module _ (file : List ℕ) (h : runReading file .number ≡ 0) where
   abbrev played : List ℕ
   played = take (p .rounds * (p .plan .n * p .plan .n)) (runReading file .words)
 
-  -- demand 3 of its records
-  demand3-holds : Demand3Holds (p .plan) (p .faulty) (p .value) (p .rounds) played (sites (p .plan) (p .faulty) (p .value) (scriptOf (p .plan .n) played) (p .rounds))
-  unfolding site
-  demand3-holds =
-      let a = run-accepted file h in
-      promised (p .plan) (a .0) (p .faulty) (p .value) (p .rounds) (fault-sound (p .plan) (p .faulty) (a .1) .1) (start-parts _ _ (a .2) .0) played _ (λ b k. refl)
-
   -- n - 1 rounds are enough
   enough-rounds : verdict (p .plan) .passed ≡ true → p .plan .n - 1 ≤ p .rounds → noneWaits (linesFrom [] (runText file)) ≡ true
-  unfolding runText ranOn ranText scriptRead site noneWaits linesFrom lastLine
+  unfolding runText ranOn ranText scriptRead noneWaits linesFrom lastLine
   enough-rounds passed l =
+      let a = run-accepted file h in
       ap (λ (t : List ℕ). noneWaits (linesFrom [] t)) (answered-is (fileRead (runReading file)) (ranText p (runReading file .words)) h ∙ sym (append-nil _))
-      ∙ site-lines (p .plan .n) (p .faulty) _ [] (λ b k g. demand3-holds .passes passed l b (k, g)) refl
+      ∙ site-lines (p .plan .n) (p .faulty) _ []
+      (λ b k g.
+      demand3 (p .plan) (a .0) .passes passed (p .value) (start-parts _ _ (a .2) .0) (p .faulty) (fault-sound (p .plan) (p .faulty) (a .1) .1)
+      (scriptOf (p .plan .n) played) (p .rounds) b l (k, g))
+      refl
 
 pub rounds-left-out : (file : List ℕ) → RoundsLeftOut file (runText file)
 rounds-left-out file = record {

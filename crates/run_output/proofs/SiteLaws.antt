@@ -15,10 +15,10 @@ use Rattle.sets.proofs.Laws.{equal-or-not}
 use Rattle.terminal.specs.declared.State.{State}
 use Rattle.terminal.specs.declared.State.the-variants.{Waiting, Taken}
 use Rattle.terminal.specs.declared.Record.{Record}
-use Rattle.terminal.specs.Rule.{start}
+use Rattle.terminal.proofs.Shown.{shown-state}
 use Rattle.plan.proofs.Laws.{sound}
 use Rattle.propagation.specs.Run.{site, scriptOf}
-use Rattle.simulation.specs.Answer.{runCause, arrayAfter}
+use Rattle.simulation.specs.Answer.{runCause, arrayAfter, stateOf}
 use Rattle.quorum.proofs.Words.{start-parts}
 use Rattle.simulation.proofs.Causes.{fits, cause-played}
 use Rattle.simulation.proofs.Promise.{array-at}
@@ -113,12 +113,13 @@ module _ (p : Progress) (play : Playable p) (words : List ℕ) (room : length wo
 
   -- the records are those of the rules, and so are the lines
   pub ran-lines : (records : List Record) → records ≡ arrayAfter (p .plan) (p .faulty) (p .value) (p .rounds) (take end words)
-      → siteLines (p .plan .n) (p .faulty) (λ b. getD records b start .state) ≡ ranText p words
+      → siteLines (p .plan .n) (p .faulty) (stateOf records) ≡ ranText p words
   unfolding ranText scriptRead
   ran-lines records e =
-      same-lines (p .plan .n) (p .faulty) (λ b. getD records b start .state)
+      same-lines (p .plan .n) (p .faulty) (stateOf records)
       (λ b. site (p .plan) (p .faulty) (p .value) (scriptOf (p .plan .n) (take end words)) (p .rounds) b .state)
-      (λ b h. ap (λ (r : Record). r .state) (array-at (p .plan) (p .faulty) (p .value) (p .rounds) (take end words) not-refused records e b h))
+      (λ b h. ap (λ (r : Record). r .state) (array-at (p .plan) (p .faulty) (p .value) (p .rounds) (take end words) not-refused records e b h)
+      ∙ shown-state (site (p .plan) (p .faulty) (p .value) (scriptOf (p .plan .n) (take end words)) (p .rounds) b))
 
 -- ---- the lines on a run file
 

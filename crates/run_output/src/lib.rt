@@ -2,7 +2,7 @@
 ghost use mathlib.Core.Path.{_≡_};
 ghost use Prim.Native.Nat.{_≤_};
 ghost use lib.ListN.{length, getD, take};
-ghost use Rattle.terminal.specs.Rule.{start};
+ghost use Rattle.simulation.specs.Answer.{stateOf};
 ghost use Rattle.text.specs.Texts.{held, joined, putInto};
 ghost use Rattle.frames.specs.Reading.{runReading, fileRead};
 ghost use Rattle.output.specs.OnFile.{answerOn};
@@ -49,7 +49,7 @@ fn with_terminal(t: Text, b: u8, bad: bool, state: State) -> Text
 // The terminals in ascending order.
 fn of_site(n: usize, faulty: u32, records: [Record; 20]) -> Text
     requires { ⌜ n ≤ 20 ⌝ }
-    ensures { λ r. ⌜ held r ≡ siteLines n faulty (λ b. getD records b start .state) ⌝ }
+    ensures { λ r. ⌜ held r ≡ siteLines n faulty (stateOf records) ⌝ }
 {
     let mut t = text::empty();
     let mut b = 0;

@@ -1,5 +1,5 @@
 -- What shifts and masks do to membership, one law an operator, over the width. Assumes nothing.
-use Prim.Native.Nat.{ℕ, zero, suc, _+_, _-_, _*_, _/_, _%_, _^_, _<_, min, max}
+use Prim.Native.Nat.{ℕ, zero, suc, _+_, _-_, _*_, _/_, _%_, _^_, _≤_, _<_, min, max}
 use mathlib.Core.Path.{_≡_, refl, sym, ap, ap₂, _∙_, subst}
 use mathlib.Core.Bool.{Bool, true, false, not}
 use native.Mathlib.Nat.{le-of-suc-le-suc, not-suc-le-zero, lt-of-le-of-lt, div-one, one-mul, zero-mul, mod-eq-of-lt}
@@ -9,10 +9,11 @@ use lib.Dec.{eqb, eqb·zero-suc, eqb·suc-zero, eqb·suc-suc}
 use lib.Bits.{bitAnd, bitOr, and-step, or-step, and-shr, or-shr, and-le-l, or-shifted-r}
 use lib.Count.{ones, ones-step}
 use lib.Pow.{shr-shr, pow-lt, pow-pos}
+use mir.Val.{boolByte}
 use Rattle.sets.specs.Tests.{_and_, _or_}
 use Rattle.sets.specs.Sets.{bit, mem, count, mask}
 use Rattle.sets.proofs.Digits.{bit-test, low-bit, bit-and, bit-or, bit-not, half-lt, flip-low, flip-high, power-low, power-high}
-use Rattle.sets.proofs.Laws.{mem-zero, count-cong, mask-lt, mask-next}
+use Rattle.sets.proofs.Laws.{mem-zero, count-cong, mask-lt, mem-mask, mask-of, mask-next}
 
 -- the lowest bit decides: a number whose lowest digit is `bit b` has terminal 0 exactly if b
 low : (s : ℕ) (b : Bool) → s % 2 ≡ bit b → eqb (s % 2) 1 ≡ b
@@ -81,3 +82,25 @@ mask-or w i P h =
     one-bit : (b : Bool) → bit b * 2 ^ i < 2 ^ w
     one-bit true = subst (λ (x : ℕ). x < 2 ^ w) (sym (one-mul (2 ^ i))) (pow-lt h)
     one-bit false = subst (λ (x : ℕ). x < 2 ^ w) (sym (zero-mul (2 ^ i))) (pow-pos w)
+
+-- such a loop at 32 bits, where the bit is d
+pub next-bit : (i : ℕ) (P : ℕ → Bool) (found d : ℕ) → i < 32 → found ≡ mask i P → d ≡ bit (P i)
+    → bitOr found ((d * 2 ^ i) % 4294967296) ≡ mask (i + 1) P
+next-bit i P found d k e q =
+    ap (λ (x : ℕ). bitOr x ((d * 2 ^ i) % 4294967296)) e
+    ∙ ap (λ (x : ℕ). bitOr (mask i P) ((x * 2 ^ i) % 4294967296)) q
+    ∙ mask-or 32 i P k
+
+pub byte-bit : (b : Bool) → boolByte b ≡ bit b
+byte-bit true = refl
+byte-bit false = refl
+
+pub byte-le : (b : Bool) → boolByte b ≤ 1
+byte-le true = omega arith
+byte-le false = omega arith
+
+-- a mask cut down to a set
+pub mask-and : (n : ℕ) (P : ℕ → Bool) (s : ℕ) → bitAnd (mask n P) s ≡ mask n (λ j. P j and mem j s)
+mask-and n P s =
+    mask-of n (bitAnd (mask n P) s) (λ j. P j and mem j s) (lt-of-le-of-lt (and-le-l (mask n P) s) (mask-lt n P))
+    (λ i k. mem-and i (mask n P) s ∙ ap (λ (b : Bool). b and mem i s) (mem-mask n i P k))

@@ -1,10 +1,12 @@
--- The laws of a table: its length, its entries, and when two are one. Assumes nothing.
-use Prim.Native.Nat.{ℕ, zero, suc, _<_, suc-le-suc}
+-- The laws of a table: its length, its entries, when two are one, and a loop that fills it. Assumes nothing.
+use Prim.Native.Nat.{ℕ, zero, suc, _+_, _<_, suc-le-suc}
 use mathlib.Core.Path.{_≡_, refl, sym, ap, _∙_, subst}
 use mathlib.Core.List.{List, _∷_}
 use native.Mathlib.Nat.{le-of-suc-le-suc, not-suc-le-zero, zero-lt-suc}
-use lib.ListN.{length, getD}
-use lib.Seq.{ext-getD}
+use native.Mathlib.Omega.{arith}
+use lib.ListN.{length, getD, set}
+use lib.Seq.{ext-getD, getD-set-same, getD-set-other}
+use borrow.Author.Count.{below-more}
 use Rattle.sets.specs.Tables.{table}
 
 module _ {A : Type 0} where
@@ -30,3 +32,9 @@ module _ {A : Type 0} where
   table-is n one d l e f =
       ext-getD d l (table n one) (e ∙ sym (table-length n one))
       (λ j k. f j (subst (λ (m : ℕ). j < m) e k) ∙ sym (table-at n one d j (subst (λ (m : ℕ). j < m) e k)))
+
+-- a loop that fills a list with a function's values: one place more
+pub filled-more : (g : ℕ → ℕ) (l : List ℕ) (j v : ℕ) → j < length l → v ≡ g j → ((i : ℕ) → i < j → getD l i 0 ≡ g i)
+    → (i : ℕ) → i < j + 1 → getD (set l j v) i 0 ≡ g i
+filled-more g l j v k e f =
+    below-more (λ (i : ℕ). getD (set l j v) i 0 ≡ g i) j (λ i h. getD-set-other l j i v 0 (λ q. omega arith) ∙ f i h) (getD-set-same l j v 0 k ∙ e)

@@ -3,9 +3,9 @@ use Prim.Native.Nat.{ℕ, zero, suc, _-_, _*_, _≤_, _<_}
 use mathlib.Core.Path.{_≡_, refl, sym, ap, ap₂, _∙_, subst, fun-ext}
 use mathlib.Core.Logic.{⊎-elim}
 use mathlib.Core.Bool.{true, false}
-use mathlib.Core.List.{List}
+use mathlib.Core.List.{List, map}
 use native.Mathlib.Omega.{arith}
-use lib.ListN.{length, getD, take, replicate, length-replicate, getD-replicate, List·getD-eq-default}
+use lib.ListN.{length, getD, take, replicate, length-map, length-replicate, getD-replicate, List·getD-eq-default, List·getD-map}
 use lib.Seq.{ext-getD, getD-take, length-take-le}
 use borrow.Author.Tests.{eq-eqb, ne-eqb}
 use Rattle.sets.specs.Tests.{pick}
@@ -14,9 +14,11 @@ use Rattle.sets.proofs.Bools.{decide, pick-yes, pick-no, no-by}
 use Rattle.sets.proofs.Laws.{below-or-not}
 use Rattle.terminal.specs.declared.State.the-variants.{Waiting}
 use Rattle.terminal.specs.declared.Record.{Record}
-use Rattle.terminal.specs.Rule.{start, step, saysIn}
+use Rattle.terminal.specs.Rule.{View, start, step, saysIn}
+use Rattle.terminal.specs.Shown.{shown, nothingHeard}
 use Rattle.terminal.specs.Answer.{causeOf, recordAfter}
-use Rattle.terminal.proofs.Laws.{not-refused}
+use Rattle.terminal.proofs.Shown.{shown-state}
+use Rattle.terminal.proofs.Laws.{not-refused, shown-step}
 use Rattle.plan.specs.declared.Plan.{Plan}
 use Rattle.plan.specs.Plan as plan
 use Rattle.plan.specs.Plan.{heardBy, hears}
@@ -36,18 +38,21 @@ module _ (p : Plan) (checked : plan.causeOf p ≡ 0) (faulty value : ℕ) (layou
   abbrev script : Script
   script = scriptOf (p .n) words
 
+  abbrev held : ℕ → ℕ → View
+  held r b = site p faulty value script r b
+
   abbrev here : ℕ → ℕ → Record
-  here r b = site p faulty value script r b
+  here r b = shown (held r b)
 
   -- no step of a good terminal is refused before round 40
   cause-none : (q b m : ℕ) → q < 40 → b < p .n → mem b faulty ≡ false → m ≡ p .n
       → causeOf (p .n) (p .source) (p .f) b (heardBy p b) (here q b) m ≡ 0
   cause-none q b m h k g e =
       let s = safe p (sound p checked) faulty value script fault q b k g in
-      let rd : here q b .round ≡ q = s .round-is in
-      not-refused (p .n) (p .source) (p .f) b (heardBy p b) (here q b) m (tests p checked .0) (row-of p (tests p checked .1) b k (sound p checked .twenty))
+      let rd : held q b .round ≡ q = s .round-is in
+      not-refused (p .n) (p .source) (p .f) b (heardBy p b) (held q b) (s .regular) m (tests p checked .0) (row-of p (tests p checked .1) b k (sound p checked .twenty))
       (omega arith) k
-      (λ w y. not-both (subst (λ (x : ℕ). here q x .state ≡ Waiting) y w) (source-taken p (sound p checked) faulty value layout script fault q))
+      (λ w y. not-both (subst (λ (x : ℕ). held q x .state ≡ Waiting) y w) (source-taken p (sound p checked) faulty value layout script fault q))
       (λ t v w. let u = s .taken t v w in ((let l : t ≤ q = u .1 in omega arith), λ z. layout (sym (u .0) ∙ z))) e
 
   -- what the terminal hears in its turn is what the rules say it hears
@@ -71,41 +76,43 @@ module _ (p : Plan) (checked : plan.causeOf p ≡ 0) (faulty value : ℕ) (layou
     where
       same : j < p .n → heardIn t words j ≡ word p faulty value script q b j
       same l =
-          λ i. pick (hears (e i) (a i) j) (pick (mem j (f i)) (scriptOf (e i .n) words (r i) j (a i)) (spoken j l i)) 0
+          let says : getD (t .spoken) j 0 ≡ saysIn (suc q) (held q j .state) = spoken j l ∙ ap (saysIn (suc q)) (shown-state (held q j)) in
+          λ i. pick (hears (e i) (a i) j) (pick (mem j (f i)) (scriptOf (e i .n) words (r i) j (a i)) (says i)) 0
 
   -- the record that the turn makes is the one of the rules
   made-record : (ys : List Record) (r b : ℕ) (s : Played) → At p faulty value words here ys r b s → r ≤ 40 → b < p .n
-      → recordOf (s .turn) words (getD (s .records) (s .turn .at) start) ≡ here r b
+      → recordOf (s .turn) words (getD (s .records) (s .turn .at) nothingHeard) ≡ here r b
   unfolding recordOf recordAfter
   made-record ys zero b s a h k =
       pick-yes _ _ _ (eq-eqb (s .turn .round) 0 (a .round-is))
-      ∙ (λ i. startRecord (a .plan-is i) (a .value-is i) (a .at-is i)) ∙ sym (at-start p faulty value script b k)
+      ∙ ap shown ((λ i. startRecord (a .plan-is i) (a .value-is i) (a .at-is i)) ∙ sym (at-start p faulty value script b k))
   made-record ys (suc q) b s a h k =
       pick-no _ _ _ (ne-eqb (s .turn .round) 0 (λ z. let y = a .round-is in omega arith))
       ∙ ⊎-elim
-      (λ m. pick-yes _ _ _ (ap₂ mem (a .at-is) (a .faulty-is) ∙ m) ∙ sym (at-faulty p faulty value script q b k m))
-      (λ g. pick-no _ _ _ (ap₂ mem (a .at-is) (a .faulty-is) ∙ g) ∙ stepped g ∙ sym (at-next p faulty value script q b k g))
+      (λ m. pick-yes _ _ _ (ap₂ mem (a .at-is) (a .faulty-is) ∙ m) ∙ ap shown (sym (at-faulty p faulty value script q b k m)))
+      (λ g. pick-no _ _ _ (ap₂ mem (a .at-is) (a .faulty-is) ∙ g) ∙ stepped g ∙ ap shown (sym (at-next p faulty value script q b k g)))
       (decide (mem b faulty))
     where
-      before : getD (s .records) (s .turn .at) start ≡ here q b
-      before = ap (λ (x : ℕ). getD (s .records) x start) (a .at-is) ∙ a .waiting q refl b (omega arith) k
+      before : getD (s .records) (s .turn .at) nothingHeard ≡ here q b
+      before = ap (λ (x : ℕ). getD (s .records) x nothingHeard) (a .at-is) ∙ a .waiting q refl b (omega arith) k
 
       heard : List ℕ
       heard = take (p .n) (table 20 (heardIn (s .turn) words))
 
       stepped : mem b faulty ≡ false
           → recordAfter (s .turn .plan .n) (s .turn .plan .source) (s .turn .plan .f) (s .turn .at) (heardBy (s .turn .plan) (s .turn .at))
-          (getD (s .records) (s .turn .at) start) (take (s .turn .plan .n) (table 20 (heardIn (s .turn) words)))
-          ≡ step (p .n) (p .source) (p .f) (heardBy p b) (word p faulty value script q b) (here q b)
+          (getD (s .records) (s .turn .at) nothingHeard) (take (s .turn .plan .n) (table 20 (heardIn (s .turn) words)))
+          ≡ shown (step (p .n) (p .source) (p .f) (heardBy p b) (word p faulty value script q b) (held q b))
       stepped g =
+          let safely = safe p (sound p checked) faulty value script fault q b k g in
+          let rd : held q b .round ≡ q = safely .round-is in
           (λ i.
           recordAfter (a .plan-is i .n) (a .plan-is i .source) (a .plan-is i .f) (a .at-is i) (heardBy (a .plan-is i) (a .at-is i)) (before i)
           (take (a .plan-is i .n) (table 20 (heardIn (s .turn) words))))
-          ∙ pick-yes _ _ _
-          (eq-eqb _ _
+          ∙ shown-step (p .n) (p .source) (p .f) b (heardBy p b) (held q b) (safely .regular) heard (omega arith)
           (cause-none q b (length heard) (omega arith) k g
-          (length-take-le (p .n) (table 20 (heardIn (s .turn) words)) (let v = sound p checked .twenty in omega (arith, table-length 20 (heardIn (s .turn) words))))))
-          ∙ ap (λ (w : ℕ → ℕ). step (p .n) (p .source) (p .f) (heardBy p b) w (here q b))
+          (length-take-le (p .n) (table 20 (heardIn (s .turn) words)) (let v = sound p checked .twenty in omega (arith, table-length 20 (heardIn (s .turn) words)))))
+          ∙ ap (λ (w : ℕ → ℕ). shown (step (p .n) (p .source) (p .f) (heardBy p b) w (held q b)))
           (fun-ext (heard-is (s .turn) q b (a .plan-is) (a .faulty-is) (a .round-is) (a .at-is) k (a .spoken-is q refl)))
 
   -- ---- the traversal, with these records
@@ -115,7 +122,7 @@ module _ (p : Plan) (checked : plan.causeOf p ≡ 0) (faulty value : ℕ) (layou
   rounds = rounds-on p (sound p checked .two) (sound p checked .twenty) faulty value words here made-record
 
   there : (ys : List Record) → p .n ≤ length ys → (r : ℕ) → r ≤ 40 → (b : ℕ) → b < p .n
-      → getD (playedAfter words (record { turn = firstTurn p faulty value; records = ys }) (suc r * p .n) .records) b start ≡ here r b
+      → getD (playedAfter words (record { turn = firstTurn p faulty value; records = ys }) (suc r * p .n) .records) b nothingHeard ≡ here r b
   there = walk-at p (sound p checked .two) (sound p checked .twenty) faulty value words here made-record
 
   pub turn-placed : (ys : List Record) → p .n ≤ length ys → (r : ℕ) → r ≤ 40 → (k : ℕ) → k < suc r * p .n → (t : Turn)
@@ -123,31 +130,31 @@ module _ (p : Plan) (checked : plan.causeOf p ≡ 0) (faulty value : ℕ) (layou
   turn-placed = placed-on p (sound p checked .two) (sound p checked .twenty) faulty value words here made-record
 
   pub walk-is : (ys : List Record) → length ys ≡ p .n → (r : ℕ) → r ≤ 40
-      → playedAfter words (record { turn = firstTurn p faulty value; records = ys }) (suc r * p .n) .records ≡ sites p faulty value script r
+      → playedAfter words (record { turn = firstTurn p faulty value; records = ys }) (suc r * p .n) .records ≡ map shown (sites p faulty value script r)
   unfolding site
   walk-is ys e r h =
       let l : p .n ≤ length ys = omega arith in
       let a = rounds ys l (suc r) (omega arith) in
-      ext-getD start (playedAfter words (record { turn = firstTurn p faulty value; records = ys }) (suc r * p .n) .records) (sites p faulty value script r)
-      (a .records-room ∙ e ∙ sym (sites-length p faulty value script r))
-      (λ b k. there ys l r h b (let q = a .records-room in omega arith))
+      ext-getD nothingHeard (playedAfter words (record { turn = firstTurn p faulty value; records = ys }) (suc r * p .n) .records) (map shown (sites p faulty value script r))
+      (a .records-room ∙ e ∙ sym (length-map (sites p faulty value script r) shown ∙ sites-length p faulty value script r))
+      (λ b k. there ys l r h b (let q = a .records-room in omega arith) ∙ sym (List·getD-map shown (sites p faulty value script r) b start))
 
   -- the records in an array of twenty
   pub walk-array : (r : ℕ) → r ≤ 40
-      → playedAfter words (record { turn = firstTurn p faulty value; records = replicate 20 start }) (suc r * p .n) .records ≡ table 20 (site p faulty value script r)
+      → playedAfter words (record { turn = firstTurn p faulty value; records = replicate 20 nothingHeard }) (suc r * p .n) .records ≡ table 20 (here r)
   unfolding site
   walk-array r h =
-      let l : p .n ≤ length (replicate 20 start) = let t = sound p checked .twenty in omega (arith, length-replicate 20 start) in
-      let a = rounds (replicate 20 start) l (suc r) (omega arith) in
-      let room : length (playedAfter words (record { turn = firstTurn p faulty value; records = replicate 20 start }) (suc r * p .n) .records) ≡ 20 =
-      a .records-room ∙ length-replicate 20 start in
-      ext-getD start (playedAfter words (record { turn = firstTurn p faulty value; records = replicate 20 start }) (suc r * p .n) .records)
-      (table 20 (site p faulty value script r)) (room ∙ sym (table-length 20 (site p faulty value script r)))
+      let l : p .n ≤ length (replicate 20 nothingHeard) = let t = sound p checked .twenty in omega (arith, length-replicate 20 nothingHeard) in
+      let a = rounds (replicate 20 nothingHeard) l (suc r) (omega arith) in
+      let room : length (playedAfter words (record { turn = firstTurn p faulty value; records = replicate 20 nothingHeard }) (suc r * p .n) .records) ≡ 20 =
+      a .records-room ∙ length-replicate 20 nothingHeard in
+      ext-getD nothingHeard (playedAfter words (record { turn = firstTurn p faulty value; records = replicate 20 nothingHeard }) (suc r * p .n) .records)
+      (table 20 (here r)) (room ∙ sym (table-length 20 (here r)))
       (λ b k.
       let kb : b < 20 = subst (λ (x : ℕ). b < x) room k in
-      ⊎-elim (λ m. there (replicate 20 start) l r h b m)
+      ⊎-elim (λ m. there (replicate 20 nothingHeard) l r h b m)
       (λ m.
-      a .beyond b m ∙ getD-replicate 20 b start start kb
-      ∙ sym (List·getD-eq-default (sites p faulty value script r) start (let e = sites-length p faulty value script r in omega arith)))
+      a .beyond b m ∙ getD-replicate 20 b nothingHeard nothingHeard kb
+      ∙ ap shown (sym (List·getD-eq-default (sites p faulty value script r) start (let e = sites-length p faulty value script r in omega arith))))
       (below-or-not b (p .n))
-      ∙ sym (table-at 20 (site p faulty value script r) start b kb))
+      ∙ sym (table-at 20 (here r) nothingHeard b kb))

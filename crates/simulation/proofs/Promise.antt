@@ -2,18 +2,20 @@
 use Prim.Native.Nat.{ℕ, zero, suc, _*_, _-_, _≤_, _<_}
 use mathlib.Core.Path.{_≡_, refl, sym, ap, _∙_, subst}
 use mathlib.Core.Bool.{true, false}
-use mathlib.Core.List.{List}
+use mathlib.Core.List.{List, map}
 use mathlib.Core.Logic.{⊎-elim}
 use native.Mathlib.Nat.{not-suc-le-zero}
 use native.Mathlib.Numerals.{add-one}
 use native.Mathlib.Omega.{arith}
 use lib.Dec.{eqb}
-use lib.ListN.{length, getD, replicate, length-replicate}
+use lib.ListN.{length, getD, replicate, length-replicate, List·getD-map}
 use borrow.Author.Tests.{eqb-true, eq-eqb, ne-eqb, le-leb}
 use Rattle.sets.specs.Tests.{pick}
 use Rattle.sets.proofs.Bools.{decide, and-i, not-i, pick-yes, pick-no}
 use Rattle.terminal.specs.declared.Record.{Record}
 use Rattle.terminal.specs.Rule.{start}
+use Rattle.terminal.specs.Shown.{shown, nothingHeard}
+use Rattle.terminal.proofs.Shown.{shown-state}
 use Rattle.plan.specs.declared.Plan.{Plan}
 use Rattle.plan.specs.Plan.{causeOf}
 use Rattle.plan.proofs.Laws.{sound}
@@ -27,23 +29,26 @@ use Rattle.sets.proofs.Tables.{table-at}
 use Rattle.faults.proofs.Laws.{fault-is}
 use Rattle.simulation.specs.declared.Turn.{Turn}
 use Rattle.simulation.specs.Turns.{firstTurn, playedAfter, CanPlay, leftAfter}
-use Rattle.simulation.specs.Answer.{runCause, turnsOf, recordsAfter, arrayAfter, Demand3Holds, Defeated, silentWords}
+use Rattle.simulation.specs.Answer.{runCause, turnsOf, recordsAfter, arrayAfter, stateOf, Demand3Holds, Defeated, silentWords}
 use Rattle.quorum.specs.Words.{startSound}
 use Rattle.simulation.proofs.Causes.{fits, cause-played, accepted-run, turns-played, turns-refused}
 use Rattle.simulation.proofs.Meaning.{walk-is, walk-array, turn-placed}
 
 -- records that are, terminal by terminal, those of the rules have demand 3
 pub promised : (p : Plan) → causeOf p ≡ 0 → (faulty value rounds : ℕ) → isFaultSet p faulty ≡ true → 1 ≤ value → (words : List ℕ) (records : List Record)
-    → ((b : ℕ) → b < p .n → getD records b start ≡ site p faulty value (scriptOf (p .n) words) rounds b)
+    → ((b : ℕ) → b < p .n → getD records b nothingHeard ≡ shown (site p faulty value (scriptOf (p .n) words) rounds b))
     → Demand3Holds p faulty value rounds words records
 promised p c faulty value rounds fault v words records same = record {
-  safe = λ b g at u e. demand3 p c .safe value v faulty fault (scriptOf (p .n) words) rounds b g at u (sym (ap (λ (r : Record). r .state) (same b (g .0))) ∙ e);
-  passes = λ h l b g e. demand3 p c .passes h value v faulty fault (scriptOf (p .n) words) rounds b l g (sym (ap (λ (r : Record). r .state) (same b (g .0))) ∙ e);
+  safe = λ b g at u e. demand3 p c .safe value v faulty fault (scriptOf (p .n) words) rounds b g at u (sym (state-same b (g .0)) ∙ e);
+  passes = λ h l b g e. demand3 p c .passes h value v faulty fault (scriptOf (p .n) words) rounds b l g (sym (state-same b (g .0)) ∙ e);
   silent = λ h f z b k m.
-      ap (λ (r : Record). r .state) (same b k)
+      state-same b k
       ∙ (λ i. site p (f i) value (scriptOf (p .n) words) rounds b .state)
       ∙ demand3 p c .silent h value (scriptOf (p .n) words) rounds b (subst (λ (x : ℕ). Silent p x rounds (scriptOf (p .n) words)) f z) k m;
 }
+  where
+    state-same : (b : ℕ) → b < p .n → stateOf records b ≡ site p faulty value (scriptOf (p .n) words) rounds b .state
+    state-same b k = ap (λ (r : Record). r .state) (same b k) ∙ shown-state (site p faulty value (scriptOf (p .n) words) rounds b)
 
 -- ---- the turns of a run on a list that has a place for each terminal where the run is accepted
 
@@ -85,33 +90,33 @@ module _ (p : Plan) (faulty value rounds : ℕ) (words : List ℕ) (places : ℕ
 -- ---- the array of twenty
 
 module _ (p : Plan) (faulty value rounds : ℕ) (words : List ℕ) where
-  array-room : runCause p faulty value rounds (length words) (p .n) ≡ 0 → p .n ≤ length (replicate 20 start)
-  array-room e = let s = sound p (accepted-run p faulty value rounds (length words) (p .n) e .0) .twenty in omega (arith, length-replicate 20 start)
+  array-room : runCause p faulty value rounds (length words) (p .n) ≡ 0 → p .n ≤ length (replicate 20 nothingHeard)
+  array-room e = let s = sound p (accepted-run p faulty value rounds (length words) (p .n) e .0) .twenty in omega (arith, length-replicate 20 nothingHeard)
 
-  pub array-ready : (t : Turn) (n : ℕ) → t ≡ firstTurn p faulty value → n ≡ turnsOf p faulty value rounds (length words) (p .n) → (x : Record) → x ≡ start
+  pub array-ready : (t : Turn) (n : ℕ) → t ≡ firstTurn p faulty value → n ≡ turnsOf p faulty value rounds (length words) (p .n) → (x : Record) → x ≡ nothingHeard
       → CanPlay words t (replicate 20 x) n
   array-ready t n e f x q =
-      subst (λ (y : Record). CanPlay words t (replicate 20 y) n) (sym q) (ready p faulty value rounds words (p .n) (replicate 20 start) array-room t n e f)
+      subst (λ (y : Record). CanPlay words t (replicate 20 y) n) (sym q) (ready p faulty value rounds words (p .n) (replicate 20 nothingHeard) array-room t n e f)
 
   -- the turns leave the records that the contract says
-  pub array-left : (t : Turn) (n : ℕ) → t ≡ firstTurn p faulty value → n ≡ turnsOf p faulty value rounds (length words) (p .n) → (x : Record) → x ≡ start
+  pub array-left : (t : Turn) (n : ℕ) → t ≡ firstTurn p faulty value → n ≡ turnsOf p faulty value rounds (length words) (p .n) → (x : Record) → x ≡ nothingHeard
       → leftAfter words t (replicate 20 x) n ≡ arrayAfter p faulty value rounds words
   unfolding arrayAfter table
   array-left t n e f x q =
       ap (λ (y : Record). leftAfter words t (replicate 20 y) n) q
-      ∙ left p faulty value rounds words (p .n) (replicate 20 start) array-room t n e f (table 20 (site p faulty value (scriptOf (p .n) words) rounds))
+      ∙ left p faulty value rounds words (p .n) (replicate 20 nothingHeard) array-room t n e f (table 20 (λ b. shown (site p faulty value (scriptOf (p .n) words) rounds b)))
       (λ h.
       let a = accepted-run p faulty value rounds (length words) (p .n) h in
       walk-array p (a .0) faulty value (λ z. let v = a .2 in omega arith) words (a .1) rounds (a .3))
 
   -- of an accepted run they are, terminal by terminal, those of the rules
   pub array-at : runCause p faulty value rounds (length words) (p .n) ≡ 0 → (records : List Record) → records ≡ arrayAfter p faulty value rounds words
-      → (b : ℕ) → b < p .n → getD records b start ≡ site p faulty value (scriptOf (p .n) words) rounds b
+      → (b : ℕ) → b < p .n → getD records b nothingHeard ≡ shown (site p faulty value (scriptOf (p .n) words) rounds b)
   unfolding arrayAfter
   array-at e records q b k =
       let t = sound p (accepted-run p faulty value rounds (length words) (p .n) e .0) .twenty in
-      ap (λ (l : List Record). getD l b start) (q ∙ pick-yes _ _ _ (eq-eqb _ _ e))
-      ∙ table-at 20 (site p faulty value (scriptOf (p .n) words) rounds) start b (omega arith)
+      ap (λ (l : List Record). getD l b nothingHeard) (q ∙ pick-yes _ _ _ (eq-eqb _ _ e))
+      ∙ table-at 20 (λ b. shown (site p faulty value (scriptOf (p .n) words) rounds b)) nothingHeard b (omega arith)
 
   pub array-promised : runCause p faulty value rounds (length words) (p .n) ≡ 0 → (records : List Record)
       → records ≡ arrayAfter p faulty value rounds words → Demand3Holds p faulty value rounds words records
@@ -133,7 +138,7 @@ module _ (p : Plan) (faulty value rounds : ℕ) (words : List ℕ) (ys : List Re
       → leftAfter words t ys n ≡ recordsAfter p faulty value rounds words ys
   unfolding recordsAfter
   lent-left t n e f =
-      left p faulty value rounds words (length ys) ys lent-room t n e f (sites p faulty value (scriptOf (p .n) words) rounds)
+      left p faulty value rounds words (length ys) ys lent-room t n e f (map shown (sites p faulty value (scriptOf (p .n) words) rounds))
       (λ h.
       let a = accepted-run p faulty value rounds (length words) (length ys) h in
       walk-is p (a .0) faulty value (λ z. let v = a .2 in omega arith) words (a .1) ys (a .5) rounds (a .3))
@@ -144,7 +149,9 @@ module _ (p : Plan) (faulty value rounds : ℕ) (words : List ℕ) (ys : List Re
   lent-promised e records q =
       let a = accepted-run p faulty value rounds (length words) (length ys) e in
       promised p (a .0) faulty value rounds (a .1) (a .2) words records
-      (λ b k. ap (λ (l : List Record). getD l b start) (q ∙ pick-yes _ _ _ (eq-eqb _ _ e)))
+      (λ b k.
+      ap (λ (l : List Record). getD l b nothingHeard) (q ∙ pick-yes _ _ _ (eq-eqb _ _ e))
+      ∙ List·getD-map shown (sites p faulty value (scriptOf (p .n) words) rounds) b start)
 
 -- ---- a failed plan is defeated in the run itself, by silence
 

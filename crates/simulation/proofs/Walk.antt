@@ -13,7 +13,8 @@ use borrow.Author.Count.{below-more}
 use borrow.Author.Tests.{lt-ltb, le-ltb}
 use Rattle.sets.proofs.Bools.{pick-yes, pick-no}
 use Rattle.terminal.specs.declared.Record.{Record}
-use Rattle.terminal.specs.Rule.{start, saysIn}
+use Rattle.terminal.specs.Rule.{saysIn}
+use Rattle.terminal.specs.Shown.{nothingHeard}
 use Rattle.plan.specs.declared.Plan.{Plan}
 use Rattle.plan.specs.Plan as plan
 use Rattle.simulation.specs.declared.Turn.{Turn}
@@ -27,7 +28,7 @@ played-add words s a (suc b) = ap (playedAfter words s) (add-suc a b) ∙ ap (pl
 
 -- one turn of the loop
 pub turn-on : (words : List ℕ) (s₀ : Played) (k : ℕ) (t : Turn) (records : List Record) (made : Made)
-    → _≡_ {A = Played} (record { turn = t; records = records }) (playedAfter words s₀ k) → made ≡ madeOf t words (getD records (t .at) start)
+    → _≡_ {A = Played} (record { turn = t; records = records }) (playedAfter words s₀ k) → made ≡ madeOf t words (getD records (t .at) nothingHeard)
     → _≡_ {A = Played} (record { turn = made .turn; records = set records (t .at) (made .after) }) (playedAfter words s₀ (k + 1))
 unfolding playedAfter playOne
 turn-on words s₀ k t records made e q =
@@ -53,14 +54,14 @@ module _ (p : Plan) (faulty value : ℕ) (words : List ℕ) (here : ℕ → ℕ 
     pub next-room : length (s .turn .next) ≡ 20
     pub next-is : (j : ℕ) → j < b → getD (s .turn .next) j 0 ≡ saysIn (r + 1) (here r j .state)
     pub records-room : length (s .records) ≡ length ys
-    pub done : (i : ℕ) → i < b → getD (s .records) i start ≡ here r i
-    pub waiting : (q : ℕ) → r ≡ suc q → (i : ℕ) → b ≤ i → i < p .n → getD (s .records) i start ≡ here q i
-    pub beyond : (i : ℕ) → p .n ≤ i → getD (s .records) i start ≡ getD ys i start
+    pub done : (i : ℕ) → i < b → getD (s .records) i nothingHeard ≡ here r i
+    pub waiting : (q : ℕ) → r ≡ suc q → (i : ℕ) → b ≤ i → i < p .n → getD (s .records) i nothingHeard ≡ here q i
+    pub beyond : (i : ℕ) → p .n ≤ i → getD (s .records) i nothingHeard ≡ getD ys i nothingHeard
 
 -- where each turn makes the record that is said
 module _ (p : Plan) (two : 2 ≤ p .n) (twenty : p .n ≤ 20) (faulty value : ℕ) (words : List ℕ) (here : ℕ → ℕ → Record)
     (makes : (ys : List Record) (r b : ℕ) (s : Played) → At p faulty value words here ys r b s → r ≤ 40 → b < p .n
-    → recordOf (s .turn) words (getD (s .records) (s .turn .at) start) ≡ here r b) where
+    → recordOf (s .turn) words (getD (s .records) (s .turn .at) nothingHeard) ≡ here r b) where
   -- the records and what is collected, one turn on
   next-records : (ys : List Record) (r b : ℕ) (s : Played) → At p faulty value words here ys r b s → r ≤ 40 → b < p .n → p .n ≤ length ys
       → playOne words s .records ≡ set (s .records) b (here r b)
@@ -73,11 +74,11 @@ module _ (p : Plan) (two : 2 ≤ p .n) (twenty : p .n ≤ 20) (faulty value : �
   next-turn-is ys r b s a h k = λ i. nextTurn (s .turn) (saysIn (a .round-is i + 1) (makes ys r b s a h k i .state))
 
   set-done : (ys : List Record) (r b : ℕ) (s : Played) → At p faulty value words here ys r b s → b < p .n → p .n ≤ length ys
-      → (i : ℕ) → i < b + 1 → getD (set (s .records) b (here r b)) i start ≡ here r i
+      → (i : ℕ) → i < b + 1 → getD (set (s .records) b (here r b)) i nothingHeard ≡ here r i
   set-done ys r b s a k l =
-      below-more (λ (i : ℕ). getD (set (s .records) b (here r b)) i start ≡ here r i) b
-      (λ i h. getD-set-other (s .records) b i (here r b) start (λ q. omega arith) ∙ a .done i h)
-      (getD-set-same (s .records) b (here r b) start (let e = a .records-room in omega arith))
+      below-more (λ (i : ℕ). getD (set (s .records) b (here r b)) i nothingHeard ≡ here r i) b
+      (λ i h. getD-set-other (s .records) b i (here r b) nothingHeard (λ q. omega arith) ∙ a .done i h)
+      (getD-set-same (s .records) b (here r b) nothingHeard (let e = a .records-room in omega arith))
 
   set-next : (ys : List Record) (r b : ℕ) (s : Played) → At p faulty value words here ys r b s → b < p .n
       → (j : ℕ) → j < b + 1 → getD (set (s .turn .next) b (saysIn (r + 1) (here r b .state))) j 0 ≡ saysIn (r + 1) (here r j .state)
@@ -115,10 +116,10 @@ module _ (p : Plan) (two : 2 ≤ p .n) (twenty : p .n ≤ 20) (faulty value : �
         next-room = ap length nx ∙ length-set (s .turn .next) b w ∙ a .next-room;
         next-is = λ j lj. ap (λ (x : List ℕ). getD x j 0) nx ∙ set-next ys r b s a bk j lj;
         records-room = ap length rs ∙ length-set (s .records) b (here r b) ∙ a .records-room;
-        done = λ i li. ap (λ (x : List Record). getD x i start) rs ∙ set-done ys r b s a bk l i li;
+        done = λ i li. ap (λ (x : List Record). getD x i nothingHeard) rs ∙ set-done ys r b s a bk l i li;
         waiting = λ q e i li ln.
-            ap (λ (x : List Record). getD x i start) rs ∙ getD-set-other (s .records) b i (here r b) start (λ y. omega arith) ∙ a .waiting q e i (omega arith) ln;
-        beyond = λ i li. ap (λ (x : List Record). getD x i start) rs ∙ getD-set-other (s .records) b i (here r b) start (λ y. omega arith) ∙ a .beyond i li;
+            ap (λ (x : List Record). getD x i nothingHeard) rs ∙ getD-set-other (s .records) b i (here r b) nothingHeard (λ y. omega arith) ∙ a .waiting q e i (omega arith) ln;
+        beyond = λ i li. ap (λ (x : List Record). getD x i nothingHeard) rs ∙ getD-set-other (s .records) b i (here r b) nothingHeard (λ y. omega arith) ∙ a .beyond i li;
       }
 
   -- the last turn of a round
@@ -155,8 +156,8 @@ module _ (p : Plan) (two : 2 ≤ p .n) (twenty : p .n ≤ 20) (faulty value : �
         done = λ i li. absurd (omega arith);
         waiting = λ q e i li ln.
             let qr : r ≡ q = omega arith in
-            ap (λ (x : List Record). getD x i start) rs ∙ set-done ys r b s a bk l i (omega arith) ∙ ap (λ (x : ℕ). here x i) qr;
-        beyond = λ i li. ap (λ (x : List Record). getD x i start) rs ∙ getD-set-other (s .records) b i (here r b) start (λ y. omega arith) ∙ a .beyond i li;
+            ap (λ (x : List Record). getD x i nothingHeard) rs ∙ set-done ys r b s a bk l i (omega arith) ∙ ap (λ (x : ℕ). here x i) qr;
+        beyond = λ i li. ap (λ (x : List Record). getD x i nothingHeard) rs ∙ getD-set-other (s .records) b i (here r b) nothingHeard (λ y. omega arith) ∙ a .beyond i li;
       }
 
   -- ---- whole rounds
@@ -204,7 +205,7 @@ module _ (p : Plan) (two : 2 ≤ p .n) (twenty : p .n ≤ 20) (faulty value : �
   -- ---- the records that the run leaves
 
   pub walk-at : (ys : List Record) → p .n ≤ length ys → (r : ℕ) → r ≤ 40 → (b : ℕ) → b < p .n
-      → getD (playedAfter words (record { turn = firstTurn p faulty value; records = ys }) (suc r * p .n) .records) b start ≡ here r b
+      → getD (playedAfter words (record { turn = firstTurn p faulty value; records = ys }) (suc r * p .n) .records) b nothingHeard ≡ here r b
   walk-at ys l r h b k = rounds-on ys l (suc r) (omega arith) .waiting r refl b (omega arith) k
 
   -- ---- every turn on the way is one that can be played

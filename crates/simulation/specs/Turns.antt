@@ -8,7 +8,8 @@ use Rattle.sets.specs.Tests.{pick}
 use Rattle.sets.specs.Tables.{table}
 use Rattle.sets.specs.Sets.{mem}
 use Rattle.terminal.specs.declared.Record.{Record}
-use Rattle.terminal.specs.Rule.{start, saysIn}
+use Rattle.terminal.specs.Rule.{saysIn}
+use Rattle.terminal.specs.Shown.{shown, nothingHeard}
 use Rattle.terminal.specs.Answer.{recordAfter}
 use Rattle.plan.specs.declared.Plan.{Plan}
 use Rattle.plan.specs.Plan.{heardBy, hears}
@@ -24,8 +25,8 @@ heardIn t words j =
 -- its record after the turn: the start record, or what the step answers on the record before
 unfoldable pub recordOf : Turn → List ℕ → Record → Record
 recordOf t words before =
-    pick (eqb (t .round) 0) (startRecord (t .plan) (t .value) (t .at))
-    (pick (mem (t .at) (t .faulty)) start
+    pick (eqb (t .round) 0) (shown (startRecord (t .plan) (t .value) (t .at)))
+    (pick (mem (t .at) (t .faulty)) nothingHeard
     (recordAfter (t .plan .n) (t .plan .source) (t .plan .f) (t .at) (heardBy (t .plan) (t .at)) before (take (t .plan .n) (table 20 (heardIn t words)))))
 
 -- the next turn, where this terminal says `word` in the next round: what is said in a round is fixed before its first step
@@ -64,8 +65,8 @@ pub record Played : Type 0 where
 
 unfoldable pub playOne : List ℕ → Played → Played
 playOne words s = record {
-  turn = madeOf (s .turn) words (getD (s .records) (s .turn .at) start) .turn;
-  records = set (s .records) (s .turn .at) (madeOf (s .turn) words (getD (s .records) (s .turn .at) start) .after);
+  turn = madeOf (s .turn) words (getD (s .records) (s .turn .at) nothingHeard) .turn;
+  records = set (s .records) (s .turn .at) (madeOf (s .turn) words (getD (s .records) (s .turn .at) nothingHeard) .after);
 }
 
 unfoldable pub playedAfter : List ℕ → Played → ℕ → Played

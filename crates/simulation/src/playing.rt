@@ -3,6 +3,7 @@ ghost use mathlib.Core.Path.{_≡_};
 ghost use Prim.Native.Nat.{_+_, _<_, _≤_};
 ghost use Rattle.propagation.specs.Run.{startRecord, scriptOf};
 ghost use Rattle.terminal.specs.Rule.{saysIn};
+ghost use Rattle.terminal.specs.Shown.{shown};
 ghost use Rattle.simulation.specs.Turns.{heardIn, recordOf, nextTurn, madeOf};
 ghost use Rattle.sets.specs.Tables.{table};
 use super::Made;
@@ -54,7 +55,7 @@ fn heard(t: Turn, words: &[u16]) -> [u16; 20]
 }
 
 fn start_record(t: Turn) -> Record
-    ensures { λ r. ⌜ r ≡ startRecord (t .plan) (t .value) (t .at) ⌝ }
+    ensures { λ r. ⌜ r ≡ shown (startRecord (t .plan) (t .value) (t .at)) ⌝ }
 {
     let plan = t.plan;
     if t.at == plan.source {

@@ -4,34 +4,36 @@ use Prim.Native.Nat.{ℕ, zero, suc, _+_, _≤_, _<_}
 use mathlib.Core.Path.{_≡_, refl, sym, ap, _∙_, subst}
 use mathlib.Core.Logic.{_⊎_, inl, inr, ⊎-elim}
 use mathlib.Core.Bool.{Bool, true, false, not}
-use mathlib.Core.List.{List}
-use native.Mathlib.Nat.{lt-of-lt-of-le}
+use mathlib.Core.List.{List, []}
 use native.Mathlib.Omega.{arith}
 use lib.Dec.{eqb, ltb, leb}
 use borrow.Author.Tests.{lt-ltb, le-leb, eq-eqb, ne-eqb}
 use lib.ListN.{length, getD, replicate, length-replicate}
-use Rattle.sets.specs.Tests.{_and_}
+use Rattle.sets.specs.Tests.{_and_, _implies_}
 use Rattle.sets.specs.Sets.{mem}
 use Rattle.quorum.specs.Quorum.{enough, inRange, hearsSoundly}
-use Rattle.sets.proofs.Bools.{no-by, and-i, and-no-r, not-i, not-yes, pick-yes, pick-no}
+use Rattle.sets.proofs.Bools.{no-by, and-i, and-no-l, and-no-r, not-i, not-yes, implies-i, pick-yes, pick-no}
+use Rattle.sets.proofs.Laws.{all-i}
 use Rattle.sets.proofs.Causes.{cause-here, cause-later, cause-last}
 use Rattle.terminal.specs.declared.State.{State}
 use Rattle.terminal.specs.declared.State.the-variants.{Waiting, Taken}
 use Rattle.terminal.specs.declared.Record.{Record}
-use Rattle.terminal.specs.Rule.{start, sourceStart, firstWord, noted, hasNoted, holds, certified, choice, taking, stepFrom, step, saysIn, says}
-use Rattle.terminal.specs.Answer.{stateSound, recordSound, causeOf}
-use Rattle.terminal.proofs.Notes.{noted-length, noted-at, noted-change, first-spoken, zeros, has-i, has-layout, has-value, choice-why, choice-none-source, choice-none-certified, choice-least}
+use Rattle.terminal.specs.Rule.{View, start, sourceStart, among, withWord, noted, valuesOf, hasNoted, holds, certified, choice, taking, stepFrom, step, saysIn}
+use Rattle.terminal.specs.Shown.{noteOf, shownOver, shown, says}
+use Rattle.terminal.specs.Answer.{stateSound, countsSound, recordSound, causeOf, recordAfter}
+use Rattle.terminal.proofs.Values.{word-length, word-longer, word-said, word-stays, word-noted, word-clean, first-some}
+use Rattle.terminal.proofs.Notes.{noted-length, noted-at, noted-by, nothing-noted, has-i, has-layout, has-among, choice-why, choice-none-source, choice-none-certified, choice-least}
+use Rattle.terminal.proofs.Shown.{shown-state, shown-round, shown-count, view-shown, shown-over}
 
--- the record has a note for each of m terminals
-unfoldable pub Room : ℕ → Record → Type 0
-Room m r = m ≤ length (r .notes)
-
-pub room-for : (m n : ℕ) (r : Record) → n ≤ m → Room m r → Room n r
-unfolding Room
-room-for m n r l h = omega arith
+-- what holds of a record that was made by steps from a start: it has a place for each terminal; what is noted is a layout; and no neighbour has more values
+-- than there were rounds
+pub record Regular (r : View) : Type 0 where
+  pub room : length (r .notes) ≡ 20
+  pub layouts : (j : ℕ) → among 0 (valuesOf (r .notes) j) ≡ false
+  pub few : (j : ℕ) → length (valuesOf (r .notes) j) ≤ r .round
 
 -- why a waiting terminal took v: it has it from the source, or from more than f neighbours
-unfoldable pub Reason : ℕ → ℕ → ℕ → ℕ → Record → ℕ → Type 0
+unfoldable pub Reason : ℕ → ℕ → ℕ → ℕ → View → ℕ → Type 0
 Reason n source f heard r v =
     ((mem source heard ≡ true) × (holds r v source ≡ true))
     ⊎ (enough n f (λ j. mem j heard and holds r v j) ≡ true)
@@ -48,16 +50,23 @@ taking-waits round (suc v) e = let z : _≡_ {A = ℕ} 0 1 = cc in absurd (omega
 
 -- ---- the start records
 
-pub start-room : Room 20 start
-unfolding Room
-start-room = omega (arith, length-replicate {A = ℕ} 20 0)
+nothing-regular : (state : State) → Regular (record { state = state; round = 0; notes = replicate 20 [] })
+unfolding among
+nothing-regular state = record {
+  room = length-replicate {A = List ℕ} 20 [];
+  layouts = λ j. ap (among 0) (nothing-noted 20 j);
+  few = λ j. let e = ap length (nothing-noted 20 j) in omega arith;
+}
 
-pub source-start-room : (value : ℕ) → Room 20 (sourceStart value)
-unfolding Room
-source-start-room value = omega (arith, length-replicate {A = ℕ} 20 0)
+pub start-regular : Regular start
+start-regular = nothing-regular Waiting
 
-none-noted : (v j : ℕ) → hasNoted (replicate 20 0) v j ≡ false
-none-noted v j = no-by (λ h. has-layout (replicate 20 0) v j h (sym (has-value (replicate 20 0) v j h) ∙ zeros 20 j))
+pub source-start-regular : (value : ℕ) → Regular (sourceStart value)
+source-start-regular value = nothing-regular (Taken 0 value)
+
+none-noted : (v j : ℕ) → hasNoted (replicate 20 []) v j ≡ false
+unfolding hasNoted among
+none-noted v j = and-no-r _ _ (ap (among v) (nothing-noted 20 j))
 
 pub start-empty : (v j : ℕ) → holds start v j ≡ false
 unfolding holds
@@ -68,82 +77,99 @@ unfolding holds
 source-start-empty value v j = none-noted v j
 
 -- what is held is a layout
-pub holds-layout : (r : Record) (v j : ℕ) → holds r v j ≡ true → v ≡ 0 → ⊥
+pub holds-layout : (r : View) (v j : ℕ) → holds r v j ≡ true → v ≡ 0 → ⊥
 unfolding holds
 holds-layout r v j h = has-layout (r .notes) v j h
 
 -- a source that starts with 0, which is no layout, is refused by its first step
 pub source-start-zero : (n source f own heard words : ℕ) → inRange n source f ≡ true → hearsSoundly n own heard ≡ true
-    → causeOf n source f own heard (sourceStart 0) words ≡ 13
-unfolding causeOf recordSound stateSound
+    → causeOf n source f own heard (shown (sourceStart 0)) words ≡ 13
+unfolding causeOf recordSound stateSound shown shownOver
 source-start-zero n source f own heard words r h =
     cause-later _ 4 _ (not-yes r) ∙ cause-later _ 5 _ (not-yes h)
-    ∙ cause-here _ 13 _ (not-i (and-no-r (ltb 0 40) _ (and-no-r (ltb own n) _ (and-no-r (leb 0 0) (not (eqb 0 0)) refl))))
-
--- ---- a step that is not refused
-
-state-sound : (s : State) (isSource : Bool) (round : ℕ) → (s ≡ Waiting → isSource ≡ false) → ((t v : ℕ) → s ≡ Taken t v → (t ≤ round) × (v ≡ 0 → ⊥))
-    → stateSound s isSource round ≡ true
-unfolding stateSound
-state-sound Waiting isSource round w t = not-i (w refl)
-state-sound (Taken a v) isSource round w t = let h = t a v refl in and-i _ _ (le-leb a round (h .0)) (not-i (ne-eqb v 0 (h .1)))
-
-pub not-refused : (n source f own heard : ℕ) (r : Record) (words : ℕ) → inRange n source f ≡ true → hearsSoundly n own heard ≡ true
-    → r .round < 40 → own < n → (r .state ≡ Waiting → own ≡ source → ⊥) → ((t v : ℕ) → r .state ≡ Taken t v → (t ≤ r .round) × (v ≡ 0 → ⊥))
-    → words ≡ n → causeOf n source f own heard r words ≡ 0
-unfolding causeOf recordSound
-not-refused n source f own heard r words range hears early placed waiting taken fit =
-    cause-later _ 4 _ (not-yes range) ∙ cause-later _ 5 _ (not-yes hears)
-    ∙ cause-later _ 13 _
-    (not-yes
-    (and-i _ _ (lt-ltb (r .round) 40 early)
-    (and-i _ _ (lt-ltb own n placed) (state-sound (r .state) (eqb own source) (r .round) (λ w. ne-eqb own source (waiting w)) taken))))
-    ∙ cause-last _ 12 (not-yes (eq-eqb words n fit))
+    ∙ cause-here _ 13 _ (not-i (and-no-r (ltb 0 40) _ (and-no-r (ltb own n) _ (and-no-l _ _ (and-no-r (leb 0 0) (not (eqb 0 0)) refl)))))
 
 -- ---- the step: `notes` stands for the notes before it
 
 module _ (n source f heard : ℕ) (said : ℕ → ℕ) where
-  from-round : (s : State) (round : ℕ) (notes : List ℕ) → stepFrom s n source f heard said round notes .round ≡ round + 1
+  from-round : (s : State) (round : ℕ) (notes : List (List ℕ)) → stepFrom s n source f heard said round notes .round ≡ round + 1
   unfolding stepFrom
   from-round Waiting round notes = refl
   from-round (Taken at value) round notes = refl
 
   -- each step raises the round number by one
-  pub step-round : (r : Record) → step n source f heard said r .round ≡ r .round + 1
+  pub step-round : (r : View) → step n source f heard said r .round ≡ r .round + 1
   unfolding step
   step-round r = from-round (r .state) (r .round) (r .notes)
 
-  from-room : (s : State) (round : ℕ) (notes : List ℕ) → length (stepFrom s n source f heard said round notes .notes) ≡ length notes
+  from-room : (s : State) (round : ℕ) (notes : List (List ℕ)) → length (stepFrom s n source f heard said round notes .notes) ≡ length notes
   unfolding stepFrom
   from-room Waiting round notes = noted-length n (λ j. mem j heard) said notes
   from-room (Taken at value) round notes = refl
 
-  pub step-room : (m : ℕ) (r : Record) → Room m r → Room m (step n source f heard said r)
-  unfolding step Room
-  step-room m r h = subst (λ (k : ℕ). m ≤ k) (sym (from-room (r .state) (r .round) (r .notes))) h
+  -- what holds of a neighbour's values before the step, and of them with what it says, holds after it
+  from-by {ℓ} : (Q : List ℕ → Type ℓ) (s : State) (round : ℕ) (notes : List (List ℕ)) (j : ℕ)
+      → Q (valuesOf notes j) → Q (withWord (mem j heard) (valuesOf notes j) (said j)) → Q (valuesOf (stepFrom s n source f heard said round notes .notes) j)
+  unfolding stepFrom
+  from-by Q Waiting round notes j p q = noted-by Q n (λ j. mem j heard) said notes j p q
+  from-by Q (Taken at value) round notes j p q = p
+
+  pub step-by {ℓ} : (Q : List ℕ → Type ℓ) (r : View) (j : ℕ)
+      → Q (valuesOf (r .notes) j) → Q (withWord (mem j heard) (valuesOf (r .notes) j) (said j)) → Q (valuesOf (step n source f heard said r .notes) j)
+  unfolding step
+  step-by Q r j p q = from-by Q (r .state) (r .round) (r .notes) j p q
+
+  pub step-regular : (r : View) → Regular r → Regular (step n source f heard said r)
+  unfolding step
+  step-regular r g = record {
+    room = from-room (r .state) (r .round) (r .notes) ∙ g .room;
+    layouts = λ j.
+        step-by (λ (values : List ℕ). among 0 values ≡ false) r j (g .layouts j) (word-clean (mem j heard) (valuesOf (r .notes) j) (said j) (g .layouts j));
+    few = λ j.
+        let e : step n source f heard said r .round ≡ r .round + 1 = step-round r in
+        let old : length (valuesOf (r .notes) j) ≤ r .round = g .few j in
+        subst (λ (m : ℕ). length (valuesOf (step n source f heard said r .notes) j) ≤ m) (sym e)
+        (step-by (λ (values : List ℕ). length values ≤ r .round + 1) r j (omega arith)
+        (omega (arith, word-length (mem j heard) (valuesOf (r .notes) j) (said j))));
+  }
+
+  -- the values of one who is not heard stay, and no neighbour loses any
+  pub step-unheard : (r : View) (j : ℕ) → mem j heard ≡ false → valuesOf (step n source f heard said r .notes) j ≡ valuesOf (r .notes) j
+  step-unheard r j h =
+      step-by (λ (values : List ℕ). values ≡ valuesOf (r .notes) j) r j refl
+      (ap (λ (b : Bool). withWord b (valuesOf (r .notes) j) (said j)) h ∙ Rattle.terminal.proofs.Values.unheard-word (valuesOf (r .notes) j) (said j))
+
+  pub step-longer : (r : View) (j : ℕ) → length (valuesOf (r .notes) j) ≤ length (valuesOf (step n source f heard said r .notes) j)
+  step-longer r j =
+      step-by (λ (values : List ℕ). length (valuesOf (r .notes) j) ≤ length values) r j (omega arith) (word-longer (mem j heard) (valuesOf (r .notes) j) (said j))
 
   -- a taken state stays
-  pub taken-stays : (r : Record) (at value : ℕ) → r .state ≡ Taken at value → step n source f heard said r .state ≡ Taken at value
+  pub taken-stays : (r : View) (at value : ℕ) → r .state ≡ Taken at value → step n source f heard said r .state ≡ Taken at value
   unfolding step stepFrom
   taken-stays r at value e = ap (λ (s : State). stepFrom s n source f heard said (r .round) (r .notes) .state) e
 
+  -- one that has taken notes nothing
+  pub taken-notes : (r : View) (at value : ℕ) → r .state ≡ Taken at value → step n source f heard said r .notes ≡ r .notes
+  unfolding step stepFrom
+  taken-notes r at value e = ap (λ (s : State). stepFrom s n source f heard said (r .round) (r .notes) .notes) e
+
   -- the step of a waiting terminal: its notes, and the state that its choice gives
-  waiting-notes : (r : Record) → r .state ≡ Waiting → step n source f heard said r .notes ≡ noted n (λ j. mem j heard) said (r .notes)
+  waiting-notes : (r : View) → r .state ≡ Waiting → step n source f heard said r .notes ≡ noted n (λ j. mem j heard) said (r .notes)
   unfolding step stepFrom
   waiting-notes r e = ap (λ (s : State). stepFrom s n source f heard said (r .round) (r .notes) .notes) e
 
-  waiting-taking : (r : Record) → r .state ≡ Waiting
+  waiting-taking : (r : View) → r .state ≡ Waiting
       → step n source f heard said r .state ≡ taking (r .round + 1) (choice n source f heard (noted n (λ j. mem j heard) said (r .notes)))
   unfolding step stepFrom
   waiting-taking r e = ap (λ (s : State). stepFrom s n source f heard said (r .round) (r .notes) .state) e
 
-  waiting-state : (r : Record) → r .state ≡ Waiting
+  waiting-state : (r : View) → r .state ≡ Waiting
       → step n source f heard said r .state ≡ taking (r .round + 1) (choice n source f heard (step n source f heard said r .notes))
   waiting-state r e =
-      waiting-taking r e ∙ ap (λ (ns : List ℕ). taking (r .round + 1) (choice n source f heard ns)) (sym (waiting-notes r e))
+      waiting-taking r e ∙ ap (λ (ns : List (List ℕ)). taking (r .round + 1) (choice n source f heard ns)) (sym (waiting-notes r e))
 
   -- what a waiting terminal takes is the source's word or has more than f votes, and the take keeps the raised round number
-  pub takes : (r : Record) (at value : ℕ) → r .state ≡ Waiting → step n source f heard said r .state ≡ Taken at value
+  pub takes : (r : View) (at value : ℕ) → r .state ≡ Waiting → step n source f heard said r .state ≡ Taken at value
       → (at ≡ r .round + 1) × Reason n source f heard (step n source f heard said r) value
   unfolding Reason certified holds
   takes r at value w t =
@@ -151,14 +177,18 @@ module _ (n source f heard : ℕ) (said : ℕ → ℕ) where
       (p .0, subst (λ (v : ℕ). Reason n source f heard (step n source f heard said r) v) (sym (p .1)) (choice-why n source f heard (step n source f heard said r .notes) (p .2)))
 
   -- one that goes on waiting has nothing from the source, and no value with more than f votes
-  pub waits-source : (r : Record) → r .state ≡ Waiting → step n source f heard said r .state ≡ Waiting → mem source heard ≡ true
+  pub waits-source : (r : View) → Regular r → r .state ≡ Waiting → step n source f heard said r .state ≡ Waiting → mem source heard ≡ true
       → (v : ℕ) → holds (step n source f heard said r) v source ≡ false
   unfolding holds
-  waits-source r w t h v =
-      choice-none-source n source f heard (step n source f heard said r .notes)
-      (taking-waits (r .round + 1) (choice n source f heard (step n source f heard said r .notes)) (sym (waiting-state r w) ∙ t)) h v
+  waits-source r g w t h v =
+      no-by
+      (λ k.
+      first-some v (valuesOf (step n source f heard said r .notes) source) (step-regular r g .layouts source)
+      (has-among (step n source f heard said r .notes) v source k)
+      (choice-none-source n source f heard (step n source f heard said r .notes)
+      (taking-waits (r .round + 1) (choice n source f heard (step n source f heard said r .notes)) (sym (waiting-state r w) ∙ t)) h))
 
-  pub waits-votes : (r : Record) → r .state ≡ Waiting → step n source f heard said r .state ≡ Waiting
+  pub waits-votes : (r : View) → r .state ≡ Waiting → step n source f heard said r .state ≡ Waiting
       → (v : ℕ) → enough n f (λ j. mem j heard and holds (step n source f heard said r) v j) ≡ false
   unfolding certified holds
   waits-votes r w t v =
@@ -166,7 +196,7 @@ module _ (n source f heard : ℕ) (said : ℕ → ℕ) where
       (taking-waits (r .round + 1) (choice n source f heard (step n source f heard said r .notes)) (sym (waiting-state r w) ∙ t)) v
 
   -- a waiting terminal that has enough votes takes, and the smallest value that has them, unless the source has spoken to it
-  pub takes-least : (r : Record) (at value : ℕ) → r .state ≡ Waiting → step n source f heard said r .state ≡ Taken at value
+  pub takes-least : (r : View) (at value : ℕ) → r .state ≡ Waiting → step n source f heard said r .state ≡ Taken at value
       → (mem source heard and holds (step n source f heard said r) value source ≡ false)
       → (v : ℕ) → enough n f (λ j. mem j heard and holds (step n source f heard said r) v j) ≡ true → value ≤ v
   unfolding certified holds
@@ -176,56 +206,77 @@ module _ (n source f heard : ℕ) (said : ℕ → ℕ) where
       (choice-least n source f heard (step n source f heard said r .notes) (p .2)
       (subst (λ (x : ℕ). mem source heard and holds (step n source f heard said r) x source ≡ false) (p .1) s) v h)
 
-  -- a note stays, or it was nothing and is now what that neighbour said
-  from-change : (s : State) (round : ℕ) (notes : List ℕ) (j : ℕ)
-      → (getD (stepFrom s n source f heard said round notes .notes) j 0 ≡ getD notes j 0)
-      ⊎ ((mem j heard ≡ true) × (getD notes j 0 ≡ 0) × (getD (stepFrom s n source f heard said round notes .notes) j 0 ≡ said j))
-  unfolding stepFrom
-  from-change Waiting round notes j = noted-change n (λ j. mem j heard) said notes j
-  from-change (Taken at value) round notes j = inl refl
-
-  pub step-change : (r : Record) (j : ℕ)
-      → (getD (step n source f heard said r .notes) j 0 ≡ getD (r .notes) j 0)
-      ⊎ ((mem j heard ≡ true) × (getD (r .notes) j 0 ≡ 0) × (getD (step n source f heard said r .notes) j 0 ≡ said j))
-  unfolding step
-  step-change r j = from-change (r .state) (r .round) (r .notes) j
-
-  -- a note was there before, or that neighbour said it now
-  pub note-said : (r : Record) (v j : ℕ) → holds (step n source f heard said r) v j ≡ true
+  -- what is noted of a neighbour was noted before, or it said it now
+  pub note-said : (r : View) (v j : ℕ) → holds (step n source f heard said r) v j ≡ true
       → (holds r v j ≡ true) ⊎ ((mem j heard ≡ true) × (said j ≡ v))
   unfolding holds
   note-said r v j h =
-      let e = has-value (step n source f heard said r .notes) v j h in
-      ⊎-elim (λ p. inl (has-i (r .notes) v j (has-layout (step n source f heard said r .notes) v j h) (sym p ∙ e)))
-      (λ p. inr (p .0, sym (p .2) ∙ e))
-      (step-change r j)
+      let z = has-layout (step n source f heard said r .notes) v j h in
+      ⊎-elim (λ e. inl (has-i (r .notes) v j z e)) inr
+      (step-by (λ (values : List ℕ). among v values ≡ true → (among v (valuesOf (r .notes) j) ≡ true) ⊎ ((mem j heard ≡ true) × (said j ≡ v))) r j
+      inl (word-said (mem j heard) (valuesOf (r .notes) j) (said j) v) (has-among (step n source f heard said r .notes) v j h))
 
-  -- a note stays
-  pub note-stays : (r : Record) (v j : ℕ) → holds r v j ≡ true → holds (step n source f heard said r) v j ≡ true
+  -- what is noted stays
+  pub note-stays : (r : View) (v j : ℕ) → holds r v j ≡ true → holds (step n source f heard said r) v j ≡ true
   unfolding holds
   note-stays r v j h =
-      let e = has-value (r .notes) v j h in
-      let z = has-layout (r .notes) v j h in
-      ⊎-elim (λ p. has-i (step n source f heard said r .notes) v j z (p ∙ e)) (λ p. absurd (z (sym e ∙ p .1))) (step-change r j)
+      let e = has-among (r .notes) v j h in
+      has-i (step n source f heard said r .notes) v j (has-layout (r .notes) v j h)
+      (step-by (λ (values : List ℕ). among v values ≡ true) r j e (word-stays (mem j heard) (valuesOf (r .notes) j) (said j) v e))
 
-  -- the note of a heard neighbour after the step of a waiting terminal
-  heard-note : (r : Record) (j : ℕ) → r .state ≡ Waiting → Room n r → j < n → mem j heard ≡ true
-      → getD (step n source f heard said r .notes) j 0 ≡ firstWord true (getD (r .notes) j 0) (said j)
-  unfolding Room
-  heard-note r j w m k h =
-      ap (λ (ns : List ℕ). getD ns j 0) (waiting-notes r w)
-      ∙ noted-at n (λ j. mem j heard) said (r .notes) j k (lt-of-lt-of-le k m)
-      ∙ ap (λ (b : Bool). firstWord b (getD (r .notes) j 0) (said j)) h
-
-  -- whoever is heard and has spoken has a note
-  pub spoken-noted : (r : Record) (j : ℕ) → r .state ≡ Waiting → Room n r → j < n → mem j heard ≡ true → (said j ≡ 0 → ⊥)
-      → (u : ℕ) × (holds (step n source f heard said r) u j ≡ true)
+  -- what a heard neighbour says to a waiting terminal is noted, whatever it said before: from then on it counts for the value
+  pub spoken-noted : (r : View) (j : ℕ) → r .state ≡ Waiting → j < n → j < length (r .notes) → mem j heard ≡ true → (said j ≡ 0 → ⊥)
+      → holds (step n source f heard said r) (said j) j ≡ true
   unfolding holds
-  spoken-noted r j w m k h s = (
-    getD (step n source f heard said r .notes) j 0,
-    has-i (step n source f heard said r .notes) (getD (step n source f heard said r .notes) j 0) j
-        (λ z. first-spoken (getD (r .notes) j 0) (said j) s (sym (heard-note r j w m k h) ∙ z)) refl,
-  )
+  spoken-noted r j w k l h z =
+      has-i (step n source f heard said r .notes) (said j) j z
+      (ap (λ (ns : List (List ℕ)). among (said j) (valuesOf ns j)) (waiting-notes r w)
+      ∙ ap (among (said j)) (noted-at n (λ j. mem j heard) said (r .notes) j k l)
+      ∙ ap (λ (b : Bool). among (said j) (withWord b (valuesOf (r .notes) j) (said j))) h
+      ∙ word-noted (valuesOf (r .notes) j) (said j) z)
+
+-- ---- the code's step on a record that is shown
+
+state-sound : (s : State) (isSource : Bool) (round : ℕ) → (s ≡ Waiting → isSource ≡ false) → ((t v : ℕ) → s ≡ Taken t v → (t ≤ round) × (v ≡ 0 → ⊥))
+    → stateSound s isSource round ≡ true
+unfolding stateSound
+state-sound Waiting isSource round w t = not-i (w refl)
+state-sound (Taken a v) isSource round w t = let h = t a v refl in and-i _ _ (le-leb a round (h .0)) (not-i (ne-eqb v 0 (h .1)))
+
+module _ (n source f own heard : ℕ) (r : View) (regular : Regular r) where
+  -- it is not refused before round 40
+  pub not-refused : (words : ℕ) → inRange n source f ≡ true → hearsSoundly n own heard ≡ true
+      → r .round < 40 → own < n → (r .state ≡ Waiting → own ≡ source → ⊥) → ((t v : ℕ) → r .state ≡ Taken t v → (t ≤ r .round) × (v ≡ 0 → ⊥))
+      → words ≡ n → causeOf n source f own heard (shown r) words ≡ 0
+  unfolding causeOf recordSound countsSound
+  not-refused words range hears early placed waiting taken fit =
+      let e : shown r .round ≡ r .round = shown-round r in
+      cause-later _ 4 _ (not-yes range) ∙ cause-later _ 5 _ (not-yes hears)
+      ∙ cause-later _ 13 _
+      (not-yes
+      (and-i _ _ (lt-ltb (shown r .round) 40 (omega arith))
+      (and-i _ _ (lt-ltb own n placed)
+      (and-i _ _
+      (subst (λ (m : ℕ). stateSound (shown r .state) (eqb own source) m ≡ true) (sym e)
+      (subst (λ (s : State). stateSound s (eqb own source) (r .round) ≡ true) (sym (shown-state r))
+      (state-sound (r .state) (eqb own source) (r .round) (λ w. ne-eqb own source (waiting w)) taken)))
+      (all-i 20 (λ j. mem j heard implies leb (noteOf (shown r .notes) j .count) (shown r .round))
+      (λ j k. implies-i _ _ (λ m. le-leb (noteOf (shown r .notes) j .count) (shown r .round) (let c = shown-count r j k in let l = regular .few j in omega arith))))))))
+      ∙ cause-last _ 12 (not-yes (eq-eqb words n fit))
+
+  -- the record that comes back shows the rule's
+  pub shown-step : (said : List ℕ) → r .round < 40 → causeOf n source f own heard (shown r) (length said) ≡ 0
+      → recordAfter n source f own heard (shown r) said ≡ shown (step n source f heard (λ j. getD said j 0) r)
+  unfolding recordAfter
+  shown-step said early e =
+      let few : (j : ℕ) → length (valuesOf (r .notes) j) ≤ 40 = λ j. let l = regular .few j in omega arith in
+      pick-yes _ _ _ (eq-eqb _ _ e)
+      ∙ ap (λ (x : View). shownOver (λ j. mem j heard) (shown r) (step n source f heard (λ j. getD said j 0) x)) (view-shown r (regular .room) few)
+      ∙ shown-over r (regular .room) few (λ j. mem j heard) (step n source f heard (λ j. getD said j 0) r)
+      (λ j h. step-unheard n source f heard (λ j. getD said j 0) r j h)
+      (λ j. step-longer n source f heard (λ j. getD said j 0) r j)
+      (λ j. let g = step-regular n source f heard (λ j. getD said j 0) r regular .few j in
+      let q = step-round n source f heard (λ j. getD said j 0) r in omega arith)
 
 -- ---- what a terminal says after a round
 

@@ -1,5 +1,10 @@
--- The laws of the rule that the layers above cite, so that none of them opens its text (Notes, Laws), and those of this crate's own loops (Walks).
+-- The laws of the rule that the layers above cite, so that none of them opens its text, and those of this crate's own loops.
+pub mod Values
 pub mod Notes
-pub mod Laws
-pub mod Unheard
 mod Walks
+pub mod Shown
+pub mod Laws
+mod Search
+mod Noting
+pub mod Unheard
+pub mod SaidCounts

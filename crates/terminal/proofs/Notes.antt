@@ -7,77 +7,77 @@ use mathlib.Core.List.{List, [], _∷_}
 use native.Mathlib.Nat.{le-of-suc-le-suc, not-suc-le-zero, zero-lt-suc}
 use native.Mathlib.Omega.{arith}
 use lib.Dec.{eqb}
-use lib.ListN.{length, getD, replicate}
+use lib.ListN.{length, replicate}
 use borrow.Author.Tests.{eq-eqb, ne-eqb, eqb-true}
-use Rattle.sets.specs.Tests.{_and_}
+use Rattle.sets.specs.Tests.{_and_, _or_}
 use Rattle.sets.specs.Sets.{mem, all}
-use Rattle.sets.proofs.Bools.{clash, decide, and-l, and-r, and-i, and-no-l, and-no-r, not-i, not-e, pick-yes, pick-case}
+use Rattle.sets.proofs.Bools.{clash, decide, no-by, and-l, and-r, and-i, or-e, not-i, not-e, pick-yes, pick-case}
 use Rattle.sets.proofs.Laws.{all-at, all-not}
 use Rattle.quorum.proofs.Laws.{enough-none}
-use Rattle.terminal.specs.Rule.{firstWord, noted, hasNoted, certified, lesser, least, candidate, choice}
+use Rattle.terminal.specs.Rule.{among, withWord, noted, valuesOf, hasNoted, certified, firstOf, lesser, least, leastOf, candidate, leastFrom, choice}
+use Rattle.terminal.proofs.Values.{first-among, unheard-word}
 
--- ---- a note
+-- ---- a neighbour's values
 
-pub noted-length : (n : ℕ) (hears : ℕ → Bool) (said : ℕ → ℕ) (notes : List ℕ) → length (noted n hears said notes) ≡ length notes
+pub noted-length : (n : ℕ) (hears : ℕ → Bool) (said : ℕ → ℕ) (notes : List (List ℕ)) → length (noted n hears said notes) ≡ length notes
 unfolding noted
 noted-length zero hears said notes = refl
 noted-length (suc n) hears said [] = refl
 noted-length (suc n) hears said (x ∷ notes) = ap suc (noted-length n (λ j. hears (suc j)) (λ j. said (suc j)) notes)
 
-pub noted-at : (n : ℕ) (hears : ℕ → Bool) (said : ℕ → ℕ) (notes : List ℕ) (j : ℕ) → j < n → j < length notes
-    → getD (noted n hears said notes) j 0 ≡ firstWord (hears j) (getD notes j 0) (said j)
-unfolding noted
+pub noted-at : (n : ℕ) (hears : ℕ → Bool) (said : ℕ → ℕ) (notes : List (List ℕ)) (j : ℕ) → j < n → j < length notes
+    → valuesOf (noted n hears said notes) j ≡ withWord (hears j) (valuesOf notes j) (said j)
+unfolding noted valuesOf
 noted-at zero hears said notes j k l = absurd (not-suc-le-zero k)
 noted-at (suc n) hears said [] j k l = absurd (not-suc-le-zero l)
 noted-at (suc n) hears said (x ∷ notes) zero k l = refl
 noted-at (suc n) hears said (x ∷ notes) (suc j) k l =
     noted-at n (λ j. hears (suc j)) (λ j. said (suc j)) notes j (le-of-suc-le-suc k) (le-of-suc-le-suc l)
 
--- a note stays, or it was nothing and is now what that neighbour said
-Change : Bool → ℕ → ℕ → ℕ → Type 0
-Change hears before said after = (after ≡ before) ⊎ ((hears ≡ true) × (before ≡ 0) × (after ≡ said))
+-- what holds of the values that were there, and of those after the neighbour's word, holds of what is noted
+pub noted-by {ℓ} : (Q : List ℕ → Type ℓ) (n : ℕ) (hears : ℕ → Bool) (said : ℕ → ℕ) (notes : List (List ℕ)) (j : ℕ)
+    → Q (valuesOf notes j) → Q (withWord (hears j) (valuesOf notes j) (said j)) → Q (valuesOf (noted n hears said notes) j)
+unfolding noted valuesOf
+noted-by Q zero hears said notes j p q = p
+noted-by Q (suc n) hears said [] j p q = p
+noted-by Q (suc n) hears said (x ∷ notes) zero p q = q
+noted-by Q (suc n) hears said (x ∷ notes) (suc j) p q = noted-by Q n (λ j. hears (suc j)) (λ j. said (suc j)) notes j p q
 
-first-word : (hears : Bool) (note said : ℕ) → Change hears note said (firstWord hears note said)
-unfolding Change firstWord
-first-word hears note said =
-    pick-case (Change hears note said) (hears and eqb note 0) said note
-    (λ e. inr (and-l _ _ e, eqb-true note 0 (and-r _ _ e), refl))
-    (λ e. inl refl)
+pub noted-above : (n : ℕ) (hears : ℕ → Bool) (said : ℕ → ℕ) (notes : List (List ℕ)) (j : ℕ) → n ≤ j
+    → valuesOf (noted n hears said notes) j ≡ valuesOf notes j
+unfolding noted valuesOf
+noted-above zero hears said notes j k = refl
+noted-above (suc n) hears said [] j k = refl
+noted-above (suc n) hears said (x ∷ notes) zero k = absurd (not-suc-le-zero k)
+noted-above (suc n) hears said (x ∷ notes) (suc j) k = noted-above n (λ j. hears (suc j)) (λ j. said (suc j)) notes j (le-of-suc-le-suc k)
 
-pub noted-change : (n : ℕ) (hears : ℕ → Bool) (said : ℕ → ℕ) (notes : List ℕ) (j : ℕ)
-    → (getD (noted n hears said notes) j 0 ≡ getD notes j 0)
-    ⊎ ((hears j ≡ true) × (getD notes j 0 ≡ 0) × (getD (noted n hears said notes) j 0 ≡ said j))
-unfolding noted Change
-noted-change zero hears said notes j = inl refl
-noted-change (suc n) hears said [] j = inl refl
-noted-change (suc n) hears said (x ∷ notes) zero = first-word (hears 0) x (said 0)
-noted-change (suc n) hears said (x ∷ notes) (suc j) = noted-change n (λ j. hears (suc j)) (λ j. said (suc j)) notes j
+-- of one who is not heard they stay
+pub noted-unheard : (n : ℕ) (hears : ℕ → Bool) (said : ℕ → ℕ) (notes : List (List ℕ)) (j : ℕ) → hears j ≡ false
+    → valuesOf (noted n hears said notes) j ≡ valuesOf notes j
+noted-unheard n hears said notes j h =
+    noted-by (λ (values : List ℕ). values ≡ valuesOf notes j) n hears said notes j refl
+    (ap (λ (b : Bool). withWord b (valuesOf notes j) (said j)) h ∙ unheard-word (valuesOf notes j) (said j))
 
-pub first-spoken : (note said : ℕ) → (said ≡ 0 → ⊥) → firstWord true note said ≡ 0 → ⊥
-unfolding firstWord
-first-spoken note said s =
-    pick-case (λ (x : ℕ). x ≡ 0 → ⊥) (true and eqb note 0) said note (λ e. s)
-    (λ e z. clash (and-i _ _ refl (eq-eqb note 0 z)) e)
+pub nothing-noted : (k j : ℕ) → _≡_ {A = List ℕ} (valuesOf (replicate k []) j) []
+unfolding valuesOf
+nothing-noted zero j = refl
+nothing-noted (suc k) zero = refl
+nothing-noted (suc k) (suc j) = nothing-noted k j
 
-pub zeros : (k j : ℕ) → _≡_ {A = ℕ} (getD (replicate k 0) j 0) 0
-zeros zero j = refl
-zeros (suc k) zero = refl
-zeros (suc k) (suc j) = zeros k j
-
-pub has-i : (notes : List ℕ) (v j : ℕ) → (v ≡ 0 → ⊥) → getD notes j 0 ≡ v → hasNoted notes v j ≡ true
+pub has-i : (notes : List (List ℕ)) (v j : ℕ) → (v ≡ 0 → ⊥) → among v (valuesOf notes j) ≡ true → hasNoted notes v j ≡ true
 unfolding hasNoted
-has-i notes v j z e = and-i _ _ (not-i (ne-eqb v 0 z)) (eq-eqb (getD notes j 0) v e)
+has-i notes v j z e = and-i _ _ (not-i (ne-eqb v 0 z)) e
 
-pub has-layout : (notes : List ℕ) (v j : ℕ) → hasNoted notes v j ≡ true → v ≡ 0 → ⊥
+pub has-layout : (notes : List (List ℕ)) (v j : ℕ) → hasNoted notes v j ≡ true → v ≡ 0 → ⊥
 unfolding hasNoted
 has-layout notes v j h z = clash (eq-eqb v 0 z) (not-e (eqb v 0) (and-l _ _ h))
 
-pub has-value : (notes : List ℕ) (v j : ℕ) → hasNoted notes v j ≡ true → getD notes j 0 ≡ v
+pub has-among : (notes : List (List ℕ)) (v j : ℕ) → hasNoted notes v j ≡ true → among v (valuesOf notes j) ≡ true
 unfolding hasNoted
-has-value notes v j h = eqb-true (getD notes j 0) v (and-r _ _ h)
+has-among notes v j h = and-r _ _ h
 
 -- a value that is certified is noted from some neighbour
-pub certified-by : (n f heard : ℕ) (notes : List ℕ) (v : ℕ) → certified n f heard notes v ≡ true
+pub certified-by : (n f heard : ℕ) (notes : List (List ℕ)) (v : ℕ) → certified n f heard notes v ≡ true
     → (j : ℕ) × (j < n) × (mem j heard ≡ true) × (hasNoted notes v j ≡ true)
 unfolding certified
 certified-by n f heard notes v h = go (decide (all n (λ j. not (voter j))))
@@ -148,69 +148,154 @@ least-from (suc n) value z =
     (λ e. let r = least-from n (λ j. value (suc j)) (λ y. z (e ∙ y)) in (suc (r .0), Prim.Native.Nat.suc-le-suc (r .1), r .2 ∙ sym e))
     (lesser-one (value 0) (least n (λ j. value (suc j))))
 
+-- two functions of which each takes only values of the other, and 0, have the same least
+pub least-same : (n : ℕ) (g h : ℕ → ℕ)
+    → ((j : ℕ) → j < n → (g j ≡ 0 → ⊥) → (i : ℕ) × (i < n) × (h i ≡ g j))
+    → ((j : ℕ) → j < n → (h j ≡ 0 → ⊥) → (i : ℕ) × (i < n) × (g i ≡ h j))
+    → least n g ≡ least n h
+least-same n g h there back =
+    ⊎-elim
+    (λ z. ⊎-elim (λ y. z ∙ sym y) (λ y. absurd (below g h back y (least-none n g z))) (zero-or (least n h)))
+    (λ z. ⊎-elim (λ y. absurd (below h g there z (least-none n h y))) (λ y. antisym (bound g h back z y) (bound h g there y z)) (zero-or (least n h)))
+    (zero-or (least n g))
+  where
+    zero-or : (v : ℕ) → (v ≡ 0) ⊎ (v ≡ 0 → ⊥)
+    zero-or zero = inl refl
+    zero-or (suc v) = inr (λ z. omega arith)
+
+    antisym : {a b : ℕ} → a ≤ b → b ≤ a → a ≡ b
+    antisym p q = omega arith
+
+    -- a function whose least is not 0 has a value that is not 0, and so has the other
+    below : (a b : ℕ → ℕ) → ((j : ℕ) → j < n → (b j ≡ 0 → ⊥) → (i : ℕ) × (i < n) × (a i ≡ b j)) → (least n b ≡ 0 → ⊥) → ((j : ℕ) → j < n → a j ≡ 0) → ⊥
+    below a b to z none =
+        let w = least-from n b z in
+        let i = to (w .0) (w .1) (λ e. z (sym (w .2) ∙ e)) in
+        z (sym (w .2) ∙ sym (i .2) ∙ none (i .0) (i .1))
+
+    bound : (a b : ℕ → ℕ) → ((j : ℕ) → j < n → (b j ≡ 0 → ⊥) → (i : ℕ) × (i < n) × (a i ≡ b j)) → (least n a ≡ 0 → ⊥) → (least n b ≡ 0 → ⊥) → least n a ≤ least n b
+    bound a b to y z =
+        let w = least-from n b z in
+        let i = to (w .0) (w .1) (λ e. z (sym (w .2) ∙ e)) in
+        subst (λ (x : ℕ). least n a ≤ x) (i .2 ∙ w .2) (least-le n a (i .0) (i .1) (λ e. z (sym (w .2) ∙ sym (i .2) ∙ e)))
+
+-- the same of a list of values
+pub least-of-none : (value : ℕ → ℕ) (values : List ℕ) → leastOf value values ≡ 0 → (v : ℕ) → among v values ≡ true → value v ≡ 0
+unfolding leastOf among
+least-of-none value [] e v h = clash h refl
+least-of-none value (x ∷ values) e v h =
+    let z = lesser-zero (value x) (leastOf value values) e in
+    ⊎-elim (λ q. ap value (sym (eqb-true x v q)) ∙ z .0) (λ q. least-of-none value values (z .1) v q) (or-e (eqb x v) (among v values) h)
+
+pub least-of-le : (value : ℕ → ℕ) (values : List ℕ) (v : ℕ) → among v values ≡ true → (value v ≡ 0 → ⊥) → leastOf value values ≤ value v
+unfolding leastOf among
+least-of-le value [] v h z = clash h refl
+least-of-le value (x ∷ values) v h z =
+    ⊎-elim
+    (λ q. subst (λ (y : ℕ). lesser (value x) (leastOf value values) ≤ value y) (eqb-true x v q) (lesser-l (value x) (leastOf value values) (λ e. z (ap value (sym (eqb-true x v q)) ∙ e))))
+    (λ q.
+    let t : leastOf value values ≤ value v = least-of-le value values v q z in
+    let u : lesser (value x) (leastOf value values) ≤ leastOf value values =
+    lesser-r (value x) (leastOf value values) (λ e. z (least-of-none value values e v q)) in
+    omega arith)
+    (or-e (eqb x v) (among v values) h)
+
+pub least-of-from : (value : ℕ → ℕ) (values : List ℕ) → (leastOf value values ≡ 0 → ⊥) → (v : ℕ) × (among v values ≡ true) × (value v ≡ leastOf value values)
+unfolding leastOf among
+least-of-from value [] z = absurd (z refl)
+least-of-from value (x ∷ values) z =
+    ⊎-elim (λ e. (x, Rattle.sets.proofs.Bools.or-l _ _ (eq-eqb x x refl), sym e))
+    (λ e. let r = least-of-from value values (λ y. z (e ∙ y)) in (r .0, Rattle.sets.proofs.Bools.or-r _ _ (r .1), r .2 ∙ sym e))
+    (lesser-one (value x) (leastOf value values))
+
 -- ---- the choice
 
-module _ (n source f heard : ℕ) (notes : List ℕ) where
-  -- the source's note, or a certified value
+module _ (n f heard : ℕ) (notes : List (List ℕ)) where
+  pub candidate-yes : (v : ℕ) → certified n f heard notes v ≡ true → candidate n f heard notes v ≡ v
+  unfolding candidate
+  candidate-yes v h = pick-yes _ _ _ h
+
+  -- a candidate that is not 0 is the value, and certified
+  pub candidate-why : (v : ℕ) → (candidate n f heard notes v ≡ 0 → ⊥) → (candidate n f heard notes v ≡ v) × (certified n f heard notes v ≡ true)
+  unfolding candidate
+  candidate-why v =
+      pick-case (λ (x : ℕ). (x ≡ 0 → ⊥) → (x ≡ v) × (certified n f heard notes v ≡ true)) (certified n f heard notes v) v 0
+      (λ h z. (refl, h)) (λ h z. absurd (z refl))
+
+  -- what is found from a neighbour is certified, and it is heard and has said it
+  pub from-why : (j : ℕ) → (leastFrom n f heard notes j ≡ 0 → ⊥)
+      → (mem j heard ≡ true) × (among (leastFrom n f heard notes j) (valuesOf notes j) ≡ true) × (certified n f heard notes (leastFrom n f heard notes j) ≡ true)
+  unfolding leastFrom
+  from-why j =
+      pick-case
+      (λ (x : ℕ). (x ≡ 0 → ⊥) → (mem j heard ≡ true) × (among x (valuesOf notes j) ≡ true) × (certified n f heard notes x ≡ true))
+      (mem j heard) (leastOf (candidate n f heard notes) (valuesOf notes j)) 0
+      (λ m z.
+      let w = least-of-from (candidate n f heard notes) (valuesOf notes j) z in
+      let y = candidate-why (w .0) (λ e. z (sym (w .2) ∙ e)) in
+      let e : w .0 ≡ leastOf (candidate n f heard notes) (valuesOf notes j) = sym (y .0) ∙ w .2 in
+      (m, subst (λ (x : ℕ). among x (valuesOf notes j) ≡ true) e (w .1), subst (λ (x : ℕ). certified n f heard notes x ≡ true) e (y .1)))
+      (λ m z. absurd (z refl))
+
+  -- a certified value is found from whoever has said it: that one or a smaller
+  pub from-voter : (v j : ℕ) → certified n f heard notes v ≡ true → mem j heard ≡ true → hasNoted notes v j ≡ true
+      → (leastFrom n f heard notes j ≡ 0 → ⊥) × (leastFrom n f heard notes j ≤ v)
+  unfolding leastFrom
+  from-voter v j h m s =
+      let e = candidate-yes v h in
+      let some : candidate n f heard notes v ≡ 0 → ⊥ = λ z. has-layout notes v j s (sym e ∙ z) in
+      let a = has-among notes v j s in
+      let q = pick-yes (mem j heard) (leastOf (candidate n f heard notes) (valuesOf notes j)) 0 m in (
+        λ z. some (least-of-none (candidate n f heard notes) (valuesOf notes j) (sym q ∙ z) v a),
+        subst (λ (x : ℕ). x ≤ v) (sym q) (subst (λ (x : ℕ). leastOf (candidate n f heard notes) (valuesOf notes j) ≤ x) e (least-of-le (candidate n f heard notes) (valuesOf notes j) v a some)),
+      )
+
+  least-certified : (least n (leastFrom n f heard notes) ≡ 0 → ⊥) → certified n f heard notes (least n (leastFrom n f heard notes)) ≡ true
+  least-certified z =
+      let w = least-from n (leastFrom n f heard notes) z in
+      subst (λ (x : ℕ). certified n f heard notes x ≡ true) (w .2) (from-why (w .0) (λ e. z (sym (w .2) ∙ e)) .2)
+
+  least-below : (v : ℕ) → certified n f heard notes v ≡ true → (least n (leastFrom n f heard notes) ≡ 0 → ⊥) × (least n (leastFrom n f heard notes) ≤ v)
+  least-below v h =
+      let w = certified-by n f heard notes v h in
+      let x = from-voter v (w .0) h (w .2) (w .3) in
+      let l : least n (leastFrom n f heard notes) ≤ leastFrom n f heard notes (w .0) = least-le n (leastFrom n f heard notes) (w .0) (w .1) (x .0) in
+      let u : leastFrom n f heard notes (w .0) ≤ v = x .1 in
+      (λ z. x .0 (least-none n (leastFrom n f heard notes) z (w .0) (w .1)), omega arith)
+
+module _ (n source f heard : ℕ) (notes : List (List ℕ)) where
+  abbrev direct : Bool
+  direct = mem source heard and not (eqb (firstOf (valuesOf notes source)) 0)
+
+  -- the source's first value, or a certified one
   pub choice-why : (choice n source f heard notes ≡ 0 → ⊥)
       → ((mem source heard ≡ true) × (hasNoted notes (choice n source f heard notes) source ≡ true))
       ⊎ (certified n f heard notes (choice n source f heard notes) ≡ true)
-  unfolding choice candidate
+  unfolding choice
   choice-why =
       pick-case
       (λ (x : ℕ).
       (x ≡ 0 → ⊥) → ((mem source heard ≡ true) × (hasNoted notes x source ≡ true)) ⊎ (certified n f heard notes x ≡ true))
-      (mem source heard and not (eqb (getD notes source 0) 0)) (getD notes source 0) (least n (candidate n f heard notes))
-      (λ e z. inl (and-l _ _ e, has-i notes (getD notes source 0) source z refl))
-      (λ e z. inr (fromLeast z))
-    where
-      fromCandidate : (j : ℕ) → (candidate n f heard notes j ≡ 0 → ⊥) → certified n f heard notes (candidate n f heard notes j) ≡ true
-      fromCandidate j =
-          pick-case (λ (x : ℕ). (x ≡ 0 → ⊥) → certified n f heard notes x ≡ true) (mem j heard and certified n f heard notes (getD notes j 0))
-          (getD notes j 0) 0 (λ e z. and-r _ _ e) (λ e z. absurd (z refl))
-
-      fromLeast : (least n (candidate n f heard notes) ≡ 0 → ⊥) → certified n f heard notes (least n (candidate n f heard notes)) ≡ true
-      fromLeast z =
-          let w = least-from n (candidate n f heard notes) z in
-          subst (λ (x : ℕ). certified n f heard notes x ≡ true) (w .2) (fromCandidate (w .0) (λ e. z (sym (w .2) ∙ e)))
-
-  candidate-of : (v : ℕ) → certified n f heard notes v ≡ true → (j : ℕ) × (j < n) × (candidate n f heard notes j ≡ v) × (v ≡ 0 → ⊥)
-  unfolding candidate
-  candidate-of v h =
-      let w = certified-by n f heard notes v h in
-      let e : getD notes (w .0) 0 ≡ v = has-value notes v (w .0) (w .3) in (
-        w .0,
-        w .1,
-        pick-yes _ _ _ (and-i _ _ (w .2) (subst (λ (x : ℕ). certified n f heard notes x ≡ true) (sym e) h)) ∙ e,
-        has-layout notes v (w .0) (w .3),
-      )
+      direct (firstOf (valuesOf notes source)) (least n (leastFrom n f heard notes))
+      (λ e z. inl (and-l _ _ e, has-i notes (firstOf (valuesOf notes source)) source z (first-among (valuesOf notes source) z)))
+      (λ e z. inr (least-certified n f heard notes z))
 
   -- nothing is chosen only where the source has said nothing and no value is certified
-  pub choice-none-source : choice n source f heard notes ≡ 0 → mem source heard ≡ true → (v : ℕ) → hasNoted notes v source ≡ false
-  unfolding choice hasNoted
-  choice-none-source e h v =
-      ⊎-elim
-      (λ z. and-no-l _ _ (ap not (eq-eqb v 0 z)))
-      (λ z. and-no-r _ _ (ne-eqb (getD notes source 0) v (λ q. z (sym q ∙ silent))))
-      (zero-or v)
-    where
-      zero-or : (v : ℕ) → (v ≡ 0) ⊎ (v ≡ 0 → ⊥)
-      zero-or zero = inl refl
-      zero-or (suc v) = inr (λ z. omega arith)
-
-      silent : getD notes source 0 ≡ 0
-      silent =
-          ⊎-elim (λ z. z)
-          (λ z. absurd (z (sym (pick-yes _ _ _ (and-i _ _ h (not-i (ne-eqb (getD notes source 0) 0 z)))) ∙ e)))
-          (zero-or (getD notes source 0))
+  pub choice-none-source : choice n source f heard notes ≡ 0 → mem source heard ≡ true → firstOf (valuesOf notes source) ≡ 0
+  unfolding choice
+  choice-none-source =
+      pick-case (λ (x : ℕ). x ≡ 0 → mem source heard ≡ true → firstOf (valuesOf notes source) ≡ 0)
+      direct (firstOf (valuesOf notes source)) (least n (leastFrom n f heard notes))
+      (λ e z h. z)
+      (λ e z h. ⊎-elim (λ t. eqb-true (firstOf (valuesOf notes source)) 0 t) (λ t. clash (and-i _ _ h (not-i t)) e) (decide (eqb (firstOf (valuesOf notes source)) 0)))
 
   pub choice-none-certified : choice n source f heard notes ≡ 0 → (v : ℕ) → certified n f heard notes v ≡ false
   unfolding choice
   choice-none-certified =
       pick-case (λ (x : ℕ). x ≡ 0 → (v : ℕ) → certified n f heard notes v ≡ false)
-      (mem source heard and not (eqb (getD notes source 0) 0)) (getD notes source 0) (least n (candidate n f heard notes))
-      (λ e z v. clash (eq-eqb (getD notes source 0) 0 z) (not-e (eqb (getD notes source 0) 0) (and-r _ _ e)))
-      (λ e z v. Rattle.sets.proofs.Bools.no-by (λ h. let w = candidate-of v h in w .3 (sym (w .2) ∙ least-none n (candidate n f heard notes) z (w .0) (w .1))))
+      direct (firstOf (valuesOf notes source)) (least n (leastFrom n f heard notes))
+      (λ e z v. clash (eq-eqb (firstOf (valuesOf notes source)) 0 z) (not-e (eqb (firstOf (valuesOf notes source)) 0) (and-r _ _ e)))
+      (λ e z v. no-by (λ h. least-below n f heard notes v h .0 z))
 
   -- where the chosen value is not the source's, no certified value is smaller
   pub choice-least : (choice n source f heard notes ≡ 0 → ⊥)
@@ -221,9 +306,6 @@ module _ (n source f heard : ℕ) (notes : List ℕ) where
       pick-case
       (λ (x : ℕ).
       (x ≡ 0 → ⊥) → (mem source heard and hasNoted notes x source ≡ false) → (v : ℕ) → certified n f heard notes v ≡ true → x ≤ v)
-      (mem source heard and not (eqb (getD notes source 0) 0)) (getD notes source 0) (least n (candidate n f heard notes))
-      (λ e z s v h. clash (and-i _ _ (and-l _ _ e) (has-i notes (getD notes source 0) source z refl)) s)
-      (λ e z s v h.
-      let w = candidate-of v h in
-      subst (λ (x : ℕ). least n (candidate n f heard notes) ≤ x) (w .2)
-      (least-le n (candidate n f heard notes) (w .0) (w .1) (λ y. w .3 (sym (w .2) ∙ y))))
+      direct (firstOf (valuesOf notes source)) (least n (leastFrom n f heard notes))
+      (λ e z s v h. clash (and-i _ _ (and-l _ _ e) (has-i notes (firstOf (valuesOf notes source)) source z (first-among (valuesOf notes source) z))) s)
+      (λ e z s v h. least-below n f heard notes v h .1)

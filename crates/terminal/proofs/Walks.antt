@@ -1,24 +1,42 @@
--- Each fold of the rule taken one terminal further, from the lowest up, as the loops take it; and what the step's answer says of its parts. Assumes nothing.
-use Prim.Native.Nat.{ℕ, zero, suc, _+_, _≤_, _<_, min}
+-- Each fold of the rule taken one turn further, as the loops take it; and what the step's answer says of its parts. Assumes nothing.
+use Prim.Native.Nat.{ℕ, zero, suc, _+_, _^_, _≤_, _<_, min}
 use mathlib.Core.Path.{_≡_, refl, sym, ap, _∙_}
-use mathlib.Core.Bool.{Bool, false}
-use mathlib.Core.List.{List, [], _∷_}
-use native.Mathlib.Nat.{not-suc-le-zero}
+use mathlib.Core.Bool.{Bool, true, false, _||_}
+use mathlib.Core.List.{List, [], _∷_, _++_}
+use mathlib.Core.Logic.{_⊎_, ⊎-elim}
+use native.Mathlib.Nat.{not-suc-le-zero, eq-or-lt-of-le, le-of-suc-le-suc}
 use native.Mathlib.Numerals.{add-one}
 use native.Mathlib.Omega.{arith}
-use lib.Dec.{eqb}
-use lib.ListN.{length, getD, set}
+use lib.Dec.{eqb, leb}
+use lib.ListN.{length, getD, take}
+use lib.Seq.{take-suc}
 use borrow.Author.Tests.{ltb-true, leb-true, eqb-true, eq-eqb}
-use Rattle.sets.specs.Sets.{bit, count}
-use Rattle.sets.proofs.Bools.{and-l, and-r, pick-yes, pick-no, not-no}
+use Rattle.sets.specs.Tests.{_or_, _implies_}
+use Rattle.sets.specs.Sets.{mem, within}
+use Rattle.sets.proofs.Bools.{and-l, and-r, implies-e, not-no, pick-yes, pick-no}
+use Rattle.sets.proofs.Laws.{all-at, mem-below}
 use Rattle.sets.proofs.Causes.{cause-none}
-use Rattle.sets.proofs.Laws.{count-le, count-next}
-use Rattle.terminal.specs.declared.State.{State}
+use Rattle.quorum.specs.Quorum.{inRange, hearsSoundly}
 use Rattle.terminal.specs.declared.State.the-variants.{Taken}
 use Rattle.terminal.specs.declared.Record.{Record}
-use Rattle.terminal.specs.Rule.{firstWord, noted, lesser, least, taking, step}
-use Rattle.terminal.specs.Answer.{recordSound, causeOf, recordAfter}
-use Rattle.quorum.specs.Quorum.{inRange}
+use Rattle.terminal.specs.Rule.{among, lesser, least, leastOf, taking, step}
+use Rattle.terminal.specs.Shown.{noteOf, viewOf, shownOver}
+use Rattle.terminal.specs.Answer.{countsSound, recordSound, causeOf, recordAfter}
+use Rattle.terminal.proofs.Values.{among-last}
+
+-- ---- a value among the first i
+
+pub among-turn : (v i : ℕ) (found : Bool) (values : List ℕ) → i < length values → found ≡ among v (take i values)
+    → (found || eqb (getD values i 0) v) ≡ among v (take (i + 1) values)
+unfolding _or_
+among-turn v i found values k e =
+    ap (λ (b : Bool). b || eqb (getD values i 0) v) e ∙ joined (among v (take i values)) (eqb (getD values i 0) v)
+    ∙ sym (among-last v (getD values i 0) (take i values))
+    ∙ ap (among v) (sym (take-suc values i 0 k) ∙ ap (λ (m : ℕ). take m values) (sym (add-one i)))
+  where
+    joined : (a b : Bool) → (a || b) ≡ (a or b)
+    joined true b = refl
+    joined false b = refl
 
 -- ---- the lesser of two values, where 0 is none
 
@@ -46,45 +64,56 @@ lesser-assoc (suc a) (suc b) (suc d) =
     regroup : (x y z : ℕ) → min x (min y z) ≡ min (min x y) z
     regroup x y z = omega arith
 
+-- a value that is in reach already changes nothing
+lesser-again : (a b : ℕ) → lesser (lesser a b) b ≡ lesser a b
+unfolding lesser
+lesser-again zero zero = refl
+lesser-again zero (suc b) = omega arith
+lesser-again (suc a) zero = refl
+lesser-again (suc a) (suc b) = lesser-some (min (suc a) (suc b)) (suc b) (omega arith) (omega arith) ∙ omega arith
+
+lesser-swap : (a b : ℕ) → lesser a b ≡ lesser b a
+unfolding lesser
+lesser-swap zero zero = refl
+lesser-swap zero (suc b) = refl
+lesser-swap (suc a) zero = refl
+lesser-swap (suc a) (suc b) = omega arith
+
 pub least-next : (i : ℕ) (value : ℕ → ℕ) → least (suc i) value ≡ lesser (least i value) (value i)
 unfolding least lesser
 least-next zero value = lesser-none (value 0)
 least-next (suc i) value =
     ap (lesser (value 0)) (least-next i (λ j. value (suc j))) ∙ lesser-assoc (value 0) (least i (λ j. value (suc j))) (value (suc i))
 
--- ---- the notes of the terminals below i, and of i
+-- a value that one below i has
+pub least-again : (i : ℕ) (value : ℕ → ℕ) (j : ℕ) → j < i → lesser (least i value) (value j) ≡ least i value
+least-again zero value j k = absurd (not-suc-le-zero k)
+least-again (suc i) value j k =
+    ap (λ (x : ℕ). lesser x (value j)) (least-next i value)
+    ∙ ⊎-elim
+    (λ e. ap (λ (m : ℕ). lesser (lesser (least i value) (value i)) (value m)) e ∙ lesser-again (least i value) (value i))
+    (λ l.
+    sym (lesser-assoc (least i value) (value i) (value j)) ∙ ap (lesser (least i value)) (lesser-swap (value i) (value j))
+    ∙ lesser-assoc (least i value) (value j) (value i) ∙ ap (λ (x : ℕ). lesser x (value i)) (least-again i value j l))
+    (eq-or-lt-of-le (le-of-suc-le-suc k))
+    ∙ sym (least-next i value)
 
-pub noted-next : (i : ℕ) (hears : ℕ → Bool) (said : ℕ → ℕ) (notes : List ℕ)
-    → noted (suc i) hears said notes ≡ set (noted i hears said notes) i (firstWord (hears i) (getD notes i 0) (said i))
-unfolding noted
-noted-next zero hears said [] = refl
-noted-next (suc i) hears said [] = refl
-noted-next zero hears said (note ∷ notes) = refl
-noted-next (suc i) hears said (note ∷ notes) =
-    ap (_∷_ (firstWord (hears 0) note (said 0))) (noted-next i (λ j. hears (suc j)) (λ j. said (suc j)) notes)
+least-of-last : (value : ℕ → ℕ) (values : List ℕ) (v : ℕ) → leastOf value (values ++ (v ∷ [])) ≡ lesser (leastOf value values) (value v)
+unfolding leastOf lesser
+least-of-last value [] v = lesser-none (value v)
+least-of-last value (x ∷ values) v =
+    ap (lesser (value x)) (least-of-last value values v) ∙ lesser-assoc (value x) (leastOf value values) (value v)
 
-pub noted-above : (i : ℕ) (hears : ℕ → Bool) (said : ℕ → ℕ) (notes : List ℕ) → getD (noted i hears said notes) i 0 ≡ getD notes i 0
-unfolding noted
-noted-above zero hears said notes = refl
-noted-above (suc i) hears said [] = refl
-noted-above (suc i) hears said (note ∷ notes) = noted-above i (λ j. hears (suc j)) (λ j. said (suc j)) notes
-
--- ---- a turn of each loop: what it had of the terminals below i it has of those below i + 1
-
-pub count-turn : (i total more : ℕ) (P : ℕ → Bool) → total ≡ count i P → more ≡ bit (P i) → (total + more ≡ count (i + 1) P) × (total + more ≤ i + 1)
-count-turn i total more P p q =
-    let s : total + more ≡ count (i + 1) P = rw (add-one, count-next, p, q) in
-    (s, omega (arith, count-le (i + 1) P))
+-- ---- a turn of each loop: what it had of those below i it has of those below i + 1
 
 pub least-turn : (i best next : ℕ) (value : ℕ → ℕ) → best ≡ least i value → next ≡ value i → lesser best next ≡ least (i + 1) value
 least-turn i best next value p q = rw (p, q, add-one, least-next)
 
-pub noted-turn : (i word : ℕ) (hears : ℕ → Bool) (said : ℕ → ℕ) (state : State) (round : ℕ) (notes : List ℕ) (r : Record)
-    → r ≡ record { state = state; round = round; notes = noted i hears said notes }
-    → word ≡ firstWord (hears i) (getD (r .notes) i 0) (said i)
-    → _≡_ {A = Record} (record { state = r .state; round = r .round; notes = set (r .notes) i word })
-    (record { state = state; round = round; notes = noted (i + 1) hears said notes })
-noted-turn i word hears said state round notes r p q = rw (q, p, add-one, noted-next, noted-above)
+pub least-of-turn : (i best next : ℕ) (value : ℕ → ℕ) (values : List ℕ) → i < length values → best ≡ leastOf value (take i values)
+    → next ≡ value (getD values i 0) → lesser best next ≡ leastOf value (take (i + 1) values)
+least-of-turn i best next value values k p q =
+    (λ m. lesser (p m) (q m)) ∙ sym (least-of-last value (take i values) (getD values i 0))
+    ∙ ap (leastOf value) (sym (take-suc values i 0 k) ∙ ap (λ (m : ℕ). take m values) (sym (add-one i)))
 
 -- ---- a value that was chosen is taken
 
@@ -93,11 +122,18 @@ unfolding taking
 taking-some round zero h = absurd (h refl)
 taking-some round (suc v) h = refl
 
--- ---- where no cause of refusal applies, the round can be played
+-- ---- where no cause of refusal applies, whoever is heard is of the site, and the round can be played
+
+pub accepted-hears : (n source f own heard : ℕ) (r : Record) (words : ℕ) → causeOf n source f own heard r words ≡ 0 → (j : ℕ) → mem j heard ≡ true → j < n
+unfolding causeOf hearsSoundly within
+accepted-hears n source f own heard r words h j m =
+    let a = cause-none _ 4 _ (λ z. omega arith) h in
+    let b = cause-none _ 5 _ (λ z. omega arith) (a .1) in
+    mem-below n j heard (ltb-true heard (2 ^ n) (and-l _ _ (not-no (hearsSoundly n own heard) (b .0)))) m
 
 pub accepted-plays : (n source f own heard : ℕ) (r : Record) (words : ℕ) → causeOf n source f own heard r words ≡ 0
-    → (n ≤ 20) × (source < n) × (n ≤ words) × (r .round < 40)
-unfolding causeOf inRange recordSound
+    → (n ≤ 20) × (source < n) × (n ≤ words) × (r .round < 40) × ((j : ℕ) → mem j heard ≡ true → noteOf (r .notes) j .count < 40)
+unfolding causeOf inRange recordSound countsSound
 accepted-plays n source f own heard r words h =
     let a = cause-none _ 4 _ (λ z. omega arith) h in
     let b = cause-none _ 5 _ (λ z. omega arith) (a .1) in
@@ -105,12 +141,27 @@ accepted-plays n source f own heard r words h =
     let e : words ≡ n = eqb-true words n (not-no _ (cause-none _ 12 _ (λ z. omega arith) (d .1) .0)) in
     let range = not-no (inRange n source f) (a .0) in
     let s = and-r _ _ (and-r _ _ range) in
-    (leb-true n 20 (and-l _ _ (and-r _ _ range)), ltb-true source n (and-l _ _ s), omega arith, ltb-true (r .round) 40 (and-l _ _ (not-no (recordSound n source own r) (d .0))))
+    let n20 : n ≤ 20 = leb-true n 20 (and-l _ _ (and-r _ _ range)) in
+    let good = not-no (recordSound n source own heard r) (d .0) in
+    let early : r .round < 40 = ltb-true (r .round) 40 (and-l _ _ good) in
+    let counts = and-r _ _ (and-r _ _ (and-r _ _ good)) in (
+      n20,
+      ltb-true source n (and-l _ _ s),
+      omega arith,
+      early,
+      λ j m.
+          let l : j < n = accepted-hears n source f own heard r words h j m in
+          let c : noteOf (r .notes) j .count ≤ r .round =
+          leb-true (noteOf (r .notes) j .count) (r .round)
+          (implies-e _ _ (all-at 20 (λ j. mem j heard implies leb (noteOf (r .notes) j .count) (r .round)) counts j (omega arith)) m) in
+          omega arith,
+    )
 
 -- ---- the record that comes back, by the number of the cause
 
 module _ (n source f own heard : ℕ) (r : Record) (said : List ℕ) where
-  pub after-accepted : 0 ≡ causeOf n source f own heard r (length said) → step n source f heard (λ j. getD said j 0) r ≡ recordAfter n source f own heard r said
+  pub after-accepted : 0 ≡ causeOf n source f own heard r (length said)
+      → shownOver (λ j. mem j heard) r (step n source f heard (λ j. getD said j 0) (viewOf r)) ≡ recordAfter n source f own heard r said
   unfolding recordAfter
   after-accepted h = sym (pick-yes _ _ _ (eq-eqb _ _ (sym h)))
 

@@ -4,18 +4,19 @@ use mathlib.Core.Bool.{Bool, not}
 use mathlib.Core.List.{List, [], _∷_}
 use lib.Dec.{eqb, ltb, leb}
 use lib.ListN.{length, getD}
-use Rattle.sets.specs.Tests.{_and_, pick}
+use Rattle.sets.specs.Tests.{_and_, _implies_, pick}
 use Rattle.sets.specs.Causes.{_gives_, firstCause}
-use Rattle.sets.specs.Sets.{Terminal, Set}
-use Rattle.quorum.specs.Quorum.{inRange, hearsSoundly}
-use Rattle.quorum.specs.Words.{mostRounds}
+use Rattle.sets.specs.Sets.{Terminal, Set, mem, all}
+use Rattle.quorum.specs.Quorum.{mostTerminals, inRange, hearsSoundly}
 use Rattle.quorum.specs.Words.{mostRounds}
 use Rattle.terminal.specs.declared.State.{State}
 use Rattle.terminal.specs.declared.State.the-variants.{Waiting, Taken}
+use Rattle.terminal.specs.declared.Note.{Note}
 use Rattle.terminal.specs.declared.Record.{Record}
 use Rattle.terminal.specs.declared.Outcome.{Outcome}
 use Rattle.terminal.specs.declared.Outcome.the-variants.{Accepted, WrongRange, WrongLink, WrongLength, WrongRecord}
 use Rattle.terminal.specs.Rule.{Layout, Round, step}
+use Rattle.terminal.specs.Shown.{noteOf, viewOf, shownOver}
 
 -- document 01's number of each outcome, 0 where nothing is refused
 abbrev pub numberOf : Outcome → ℕ
@@ -30,9 +31,14 @@ unfoldable pub stateSound : State → (isSource : Bool) (round : Round) → Bool
 stateSound Waiting isSource round = not isSource
 stateSound (Taken at value) isSource round = leb at round and not (eqb value 0)
 
--- the record can be stepped: before round 40, its own number below n, its state sound
-unfoldable pub recordSound : (n : ℕ) (source own : Terminal) → Record → Bool
-recordSound n source own r = ltb (r .round) mostRounds and ltb own n and stateSound (r .state) (eqb own source) (r .round)
+-- no neighbour that it hears has more values than the record has rounds (document 02, P4)
+unfoldable pub countsSound : (heard : Set) (notes : List Note) (round : Round) → Bool
+countsSound heard notes round = all mostTerminals (λ j. mem j heard implies leb (noteOf notes j .count) round)
+
+-- the record can be stepped: before round 40, its own number below n, its state sound, and the counts of its notes
+unfoldable pub recordSound : (n : ℕ) (source own : Terminal) (heard : Set) → Record → Bool
+recordSound n source own heard r =
+    ltb (r .round) mostRounds and ltb own n and stateSound (r .state) (eqb own source) (r .round) and countsSound heard (r .notes) (r .round)
 
 -- the causes, in their order; 0 where none applies
 unfoldable pub causeOf : (n : ℕ) (source : Terminal) (f : ℕ) (own : Terminal) (heard : Set) → Record → (words : ℕ) → ℕ
@@ -40,12 +46,15 @@ causeOf n source f own heard r words =
     firstCause (
     not (inRange n source f) gives 4
     ∷ not (hearsSoundly n own heard) gives 5
-    ∷ not (recordSound n source own r) gives 13
+    ∷ not (recordSound n source own heard r) gives 13
     ∷ not (eqb words n) gives 12
     ∷ []
     )
 
--- the record that comes back: the stepped one, or where the step is refused the one that went in
+-- the record that comes back: the stepped one, or where the step is refused the one that went in. The step is the rule's on what the record says, shown in
+-- its place: a neighbour that is not heard keeps its note, and of one that is heard only the count and the place of a new value change
 unfoldable pub recordAfter : (n : ℕ) (source : Terminal) (f : ℕ) (own : Terminal) (heard : Set) → Record → (said : List Layout) → Record
 recordAfter n source f own heard r said =
-    pick (eqb (causeOf n source f own heard r (length said)) 0) (step n source f heard (λ j. getD said j 0) r) r
+    pick (eqb (causeOf n source f own heard r (length said)) 0)
+    (shownOver (λ j. mem j heard) r (step n source f heard (λ j. getD said j 0) (viewOf r)))
+    r

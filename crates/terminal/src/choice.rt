@@ -1,51 +1,73 @@
 // Which value a waiting terminal takes, from what it has noted; 0 for none.
+//
+// A value that more than f neighbours have said has a voter outside any f of them. So where at most f
+// have said more than one value, as in every run, only what the others have said can be taken: one
+// value each. Where more have, every value of every neighbour is looked at.
 ghost use mathlib.Core.Path.{_≡_};
-ghost use mathlib.Core.Bool.{not};
-ghost use Prim.Native.Nat.{_<_, _≤_};
-ghost use lib.Dec.{eqb};
+ghost use mathlib.Core.Bool.{true};
+ghost use mathlib.Core.List.{map};
+ghost use Prim.Native.Nat.{ℕ, _<_, _≤_};
+ghost use lib.Bits.{bitOr};
+ghost use lib.ListN.{getD};
 ghost use Rattle.sets.specs.Tests.{_and_};
-ghost use Rattle.sets.specs.Sets.{bit, mem, count};
-ghost use Rattle.terminal.specs.Rule.{hasNoted, lesser, least, candidate, choice};
+ghost use Rattle.terminal.specs.Rule.{among, lesser, least, leastOf, leastFrom, candidate, choice};
+ghost use Rattle.terminal.specs.Shown.{valuesIn, Whole};
+ghost use Rattle.terminal.specs.Votes.{Fits, votersIn, singleIn, fickleIn, firstPlace, sameIn, ifMany, fromFirst};
+use super::Note;
 
-// One neighbour's vote for the value, 1 or 0.
-fn vote(hears: bool, note: u16, value: u16) -> usize
-    ensures { λ r. ⌜ r ≡ bit (hears and not (eqb value 0) and eqb note value) ⌝ }
-{
-    if value == 0 {
-        return 0;
-    }
-    if hears {
-        if note == value {
-            return 1;
-        }
-    }
-    0
+// Who has said one value, who has said more, and the first place of each note.
+pub(crate) struct FirstValues {
+    pub single: u32,
+    pub fickle: u32,
+    pub values: [u16; 20],
 }
 
-// How many different neighbours it has the value from.
-fn votes(notes: [u16; 20], n: usize, heard: u32, value: u16) -> usize
-    requires { ⌜ n ≤ 20 ⌝ }
-    ensures { λ r. ⌜ r ≡ count n (λ j. mem j heard and hasNoted notes value j) ⌝ }
+fn voted(hears: bool, note: Note, value: u16) -> bool
+    requires { ⌜ («hears» ≡ true → note .count ≤ 40) ⌝ }
+    ensures { λ r. ⌜ r ≡ «hears» and among value (valuesIn note) ⌝ }
 {
-    let mut votes: usize = 0;
-    let mut j = 0;
+    if hears {
+        return note.has(value);
+    }
+    false
+}
+
+// Those of a set who have said the value.
+fn voters(notes: [Note; 20], n: usize, rows: u32, value: u16) -> u32
+    requires { ⌜ (n ≤ 20) × Fits rows notes ⌝ }
+    ensures { λ r. ⌜ r ≡ votersIn n notes rows value ⌝ }
+{
+    let mut who: u32 = 0;
+    let mut j: usize = 0;
     while j < n {
-        votes += vote(sets::member(heard, j), notes[j], value);
+        let vote = voted(sets::member(rows, j), notes[j], value) as u32;
+        who = who | (vote << j);
         j += 1;
     }
-    votes
+    who
 }
 
-// The note of neighbour j, if more than f neighbours have said it.
-fn candidate(notes: [u16; 20], n: usize, f: usize, heard: u32, j: usize) -> u16
-    requires { ⌜ (n ≤ 20) × (j < n) ⌝ }
-    ensures { λ r. ⌜ r ≡ candidate n f heard notes j ⌝ }
+// Those of a set whose first place has the value.
+fn same(firsts: [u16; 20], n: usize, rows: u32, value: u16) -> u32
+    requires { ⌜ n ≤ 20 ⌝ }
+    ensures { λ r. ⌜ r ≡ sameIn n firsts rows value ⌝ }
 {
-    let value = notes[j];
-    if sets::member(heard, j) {
-        if f < votes(notes, n, heard, value) {
-            return value;
-        }
+    let mut who: u32 = 0;
+    let mut j: usize = 0;
+    while j < n {
+        let vote = (firsts[j] == value) as u32;
+        who = who | (vote << j);
+        j += 1;
+    }
+    who & rows
+}
+
+// The value, if more than f have said it.
+fn if_many(f: usize, who: u32, value: u16) -> u16
+    ensures { λ r. ⌜ r ≡ ifMany f who value ⌝ }
+{
+    if f < u32::count_ones(who) as usize {
+        return value;
     }
     0
 }
@@ -65,29 +87,128 @@ fn lesser(a: u16, b: u16) -> u16
     b
 }
 
-fn least_certified(notes: [u16; 20], n: usize, f: usize, heard: u32) -> u16
-    requires { ⌜ n ≤ 20 ⌝ }
-    ensures { λ r. ⌜ r ≡ least n (candidate n f heard notes) ⌝ }
+// The least certified value of one neighbour.
+fn least_of(notes: [Note; 20], n: usize, f: usize, heard: u32, note: Note) -> u16
+    requires { ⌜ (n ≤ 20) × Fits heard notes × (note .count ≤ 40) ⌝ }
+    ensures { λ r. ⌜ r ≡ leastOf (candidate n f heard (map valuesIn notes)) (valuesIn note) ⌝ }
+{
+    let count = note.count as usize;
+    let values = note.values;
+    let mut best: u16 = 0;
+    let mut i: usize = 0;
+    while i < count {
+        let value = values[i];
+        best = lesser(best, if_many(f, voters(notes, n, heard, value), value));
+        i += 1;
+    }
+    best
+}
+
+fn least_from(notes: [Note; 20], n: usize, f: usize, heard: u32, j: usize) -> u16
+    requires { ⌜ (n ≤ 20) × (j < n) × Fits heard notes ⌝ }
+    ensures { λ r. ⌜ r ≡ leastFrom n f heard (map valuesIn notes) j ⌝ }
+{
+    if sets::member(heard, j) {
+        return least_of(notes, n, f, heard, notes[j]);
+    }
+    0
+}
+
+// The least certified value, by every value of every neighbour.
+fn least_of_all(notes: [Note; 20], n: usize, f: usize, heard: u32) -> u16
+    requires { ⌜ (n ≤ 20) × Fits heard notes ⌝ }
+    ensures { λ r. ⌜ r ≡ least n (leastFrom n f heard (map valuesIn notes)) ⌝ }
 {
     let mut best: u16 = 0;
-    let mut j = 0;
+    let mut j: usize = 0;
     while j < n {
-        best = lesser(best, candidate(notes, n, f, heard, j));
+        best = lesser(best, least_from(notes, n, f, heard, j));
         j += 1;
     }
     best
 }
 
-// The source's word is taken before any other.
-pub(crate) fn choice(notes: [u16; 20], n: usize, source: usize, f: usize, heard: u32) -> u16
-    requires { ⌜ (n ≤ 20) × (source < n) ⌝ }
-    ensures { λ r. ⌜ r ≡ choice n source f heard notes ⌝ }
+// The value, if more than f have said it, where `who` has and of `fickle` each may have.
+fn judged(notes: [Note; 20], n: usize, f: usize, who: u32, fickle: u32, value: u16) -> u16
+    requires { ⌜ (n ≤ 20) × Fits fickle notes ⌝ }
+    ensures { λ r. ⌜ r ≡ ifMany f (bitOr who (votersIn n notes fickle value)) value ⌝ }
 {
-    let word = notes[source];
-    if sets::member(heard, source) {
+    if u32::count_ones(who | fickle) as usize <= f {
+        return 0;
+    }
+    if_many(f, who | voters(notes, n, fickle, value), value)
+}
+
+// The least certified value of those who have said one. Each value is looked at once: whoever
+// said the same has been looked at with it.
+fn least_of_firsts(notes: [Note; 20], n: usize, f: usize, first: FirstValues) -> u16
+    requires { ⌜ (n ≤ 20) × Fits (first .fickle) notes ⌝ }
+    ensures { λ r. ⌜ r ≡ least n (fromFirst n f notes (first .values) (first .single) (first .fickle)) ⌝ }
+{
+    let values = first.values;
+    let mut best: u16 = 0;
+    let mut rest = first.single;
+    let mut j: usize = 0;
+    while j < n {
+        if sets::member(rest, j) {
+            let value = values[j];
+            let who = same(values, n, first.single, value);
+            best = lesser(best, judged(notes, n, f, who, first.fickle, value));
+            rest = rest & !who;
+            j += 1;
+        } else {
+            j += 1;
+        }
+    }
+    best
+}
+
+fn first_values(notes: [Note; 20], n: usize, heard: u32) -> FirstValues
+    requires { ⌜ n ≤ 20 ⌝ }
+    ensures { λ r. ⌜ (r .single ≡ singleIn n notes heard) × (r .fickle ≡ fickleIn n notes heard) × ((j : ℕ) → j < n → getD (r .values) j 0 ≡ firstPlace notes j) ⌝ }
+{
+    let mut single: u32 = 0;
+    let mut fickle: u32 = 0;
+    let mut values = [0u16; 20];
+    let mut j: usize = 0;
+    while j < n {
+        let note = notes[j];
+        let one = (note.count == 1) as u32;
+        let more = (1 < note.count) as u32;
+        values[j] = note.values[0];
+        single = single | (one << j);
+        fickle = fickle | (more << j);
+        j += 1;
+    }
+    FirstValues {
+        single: single & heard,
+        fickle: fickle & heard,
+        values: values,
+    }
+}
+
+fn least_certified(notes: [Note; 20], n: usize, f: usize, heard: u32, first: FirstValues) -> u16
+    requires { ⌜ (n ≤ 20) × Whole notes × Fits heard notes × (first .single ≡ singleIn n notes heard) × (first .fickle ≡ fickleIn n notes heard) × ((j : ℕ) → j < n → getD (first .values) j 0 ≡ firstPlace notes j) ⌝ }
+    ensures { λ r. ⌜ r ≡ least n (leastFrom n f heard (map valuesIn notes)) ⌝ }
+{
+    if u32::count_ones(first.fickle) as usize <= f {
+        return least_of_firsts(notes, n, f, first);
+    }
+    least_of_all(notes, n, f, heard)
+}
+
+// The source's first value is taken before any other.
+pub(crate) fn choice(notes: [Note; 20], n: usize, source: usize, f: usize, heard: u32) -> u16
+    requires { ⌜ (n ≤ 20) × (source < n) × Whole notes × Fits heard notes ⌝ }
+    ensures { λ r. ⌜ r ≡ choice n source f heard (map valuesIn notes) ⌝ }
+{
+    let first = first_values(notes, n, heard);
+    let values = first.values;
+    let word = values[source];
+    if sets::member(first.single | first.fickle, source) {
         if word != 0 {
             return word;
         }
     }
-    least_certified(notes, n, f, heard)
+    least_certified(notes, n, f, heard, first)
 }

@@ -2,11 +2,17 @@
 mod choice;
 
 ghost use mathlib.Core.Path.{_≡_};
+ghost use mathlib.Core.Bool.{true};
+ghost use mathlib.Core.List.{map};
 ghost use Prim.Native.Nat.{_+_, _<_, _≤_};
-ghost use lib.ListN.{length, getD};
+ghost use lib.Dec.{leb};
+ghost use lib.ListN.{length, getD, set};
+ghost use Rattle.sets.specs.Tests.{_implies_};
 ghost use Rattle.sets.specs.Sets.{mem};
-ghost use Rattle.terminal.specs.Rule.{start, sourceStart, firstWord, noted, choice, taking, step, says};
-ghost use Rattle.terminal.specs.Answer.{numberOf, stateSound, recordSound, causeOf, recordAfter};
+ghost use Rattle.terminal.specs.Rule.{start, sourceStart, among, isNew, noted, choice, taking, step};
+ghost use Rattle.terminal.specs.Shown.{valuesIn, Whole, viewOf, noNote, notesOver, shownOver, shown, says};
+ghost use Rattle.terminal.specs.Votes.{Fits, Room};
+ghost use Rattle.terminal.specs.Answer.{numberOf, stateSound, countsSound, recordSound, causeOf, recordAfter};
 
 // A terminal waits, or it has taken a layout in a round and keeps both.
 pub enum State {
@@ -14,11 +20,20 @@ pub enum State {
     Taken(u8, u16),
 }
 
-// notes[j] is the first value that terminal j said to this one, 0 for none.
+// What a neighbour has said: the first `count` places are its different values, in the order in
+// which they were first said. The places after them are not looked at. Laid out as C has it, for
+// boards.
+#[repr(C)]
+pub struct Note {
+    pub count: u8,
+    pub values: [u16; 40],
+}
+
+// notes[j] is what terminal j has said to this one.
 pub struct Record {
     pub state: State,
     pub round: u8,
-    pub notes: [u16; 20],
+    pub notes: [Note; 20],
 }
 
 pub enum Outcome {
@@ -48,57 +63,103 @@ pub struct Stepped {
     pub after: Record,
 }
 
-pub fn start() -> Record
-    ensures { λ r. ⌜ r ≡ start ⌝ }
+fn no_note() -> Note
+    ensures { λ r. ⌜ r ≡ noNote ⌝ }
 {
+    Note {
+        count: 0,
+        values: [0u16; 40],
+    }
+}
+
+pub fn start() -> Record
+    ensures { λ r. ⌜ r ≡ shown start ⌝ }
+{
+    let nothing = no_note();
     Record {
         state: State::Waiting,
         round: 0,
-        notes: [0u16; 20],
+        notes: [nothing; 20],
     }
 }
 
 pub fn source_start(value: u16) -> Record
-    ensures { λ r. ⌜ r ≡ sourceStart value ⌝ }
+    ensures { λ r. ⌜ r ≡ shown (sourceStart value) ⌝ }
 {
+    let nothing = no_note();
     Record {
         state: State::Taken(0, value),
         round: 0,
-        notes: [0u16; 20],
+        notes: [nothing; 20],
     }
 }
 
-// The note of one neighbour after a round.
-fn first_word(hears: bool, note: u16, said: u16) -> u16
-    ensures { λ r. ⌜ r ≡ firstWord hears note said ⌝ }
+impl Note {
+    // The neighbour has said the value. It looks at all of them, without a branch: several at once.
+    pub(crate) fn has(self, value: u16) -> bool
+        requires { ⌜ self .count ≤ 40 ⌝ }
+        ensures { λ r. ⌜ r ≡ among value (valuesIn self) ⌝ }
+    {
+        let count = self.count as usize;
+        let values = self.values;
+        let mut found = false;
+        let mut i: usize = 0;
+        while i < count {
+            found = found | (values[i] == value);
+            i += 1;
+        }
+        found
+    }
+
+    // The value comes after those that are there.
+    fn with(mut self, value: u16) -> Note
+        requires { ⌜ self .count < 40 ⌝ }
+        ensures { λ r. ⌜ r ≡ record { count = self .count + 1; values = set (self .values) (self .count) value } ⌝ }
+    {
+        let at = self.count as usize;
+        self.values[at] = value;
+        self.count = self.count + 1;
+        self
+    }
+}
+
+// A word that is new of a neighbour: it is heard, it has said a value, and not this one before.
+fn is_new(hears: bool, note: Note, said: u16) -> bool
+    requires { ⌜ («hears» ≡ true → note .count ≤ 40) ⌝ }
+    ensures { λ r. ⌜ r ≡ isNew «hears» (valuesIn note) said ⌝ }
 {
     if hears {
-        if note == 0 {
-            return said;
+        if said != 0 {
+            return !note.has(said);
         }
     }
-    note
+    false
 }
 
 impl Record {
-    // The first value of each neighbour it hears.
+    // What is new of each neighbour it hears.
     fn note(mut self, n: usize, heard: u32, said: &[u16]) -> Record
-        requires { ⌜ (n ≤ 20) × (n ≤ length (now said)) ⌝ }
-        ensures { λ r. ⌜ r ≡ record { state = self .state; round = self .round; notes = noted n (λ j. mem j heard) (λ j. getD (now (said .entry)) j 0) (self .notes) } ⌝ }
+        requires { ⌜ (n ≤ 20) × (n ≤ length (now said)) × Whole (self .notes) × Room heard (self .notes) ⌝ }
+        ensures { λ r. ⌜ r ≡ record { state = self .state; round = self .round; notes = notesOver (λ j. mem j heard) (self .notes) (noted n (λ j. mem j heard) (λ j. getD (now (said .entry)) j 0) (map valuesIn (self .notes))) } ⌝ }
     {
-        let mut j = 0;
+        let mut j: usize = 0;
         while j < n {
-            let word = first_word(sets::member(heard, j), self.notes[j], said[j]);
-            self.notes[j] = word;
-            j += 1;
+            let word = said[j];
+            let note = self.notes[j];
+            if is_new(sets::member(heard, j), note, word) {
+                self.notes[j] = note.with(word);
+                j += 1;
+            } else {
+                j += 1;
+            }
         }
         self
     }
 
     // It takes what it chose, in the round that its record shows.
     fn decide(mut self, n: usize, source: usize, f: usize, heard: u32) -> Record
-        requires { ⌜ (n ≤ 20) × (source < n) ⌝ }
-        ensures { λ r. ⌜ r ≡ record { state = taking (self .round) (choice n source f heard (self .notes)); round = self .round; notes = self .notes } ⌝ }
+        requires { ⌜ (n ≤ 20) × (source < n) × Whole (self .notes) × Fits heard (self .notes) ⌝ }
+        ensures { λ r. ⌜ r ≡ record { state = taking (self .round) (choice n source f heard (map valuesIn (self .notes))); round = self .round; notes = self .notes } ⌝ }
     {
         let notes = self.notes;
         let round = self.round;
@@ -140,18 +201,46 @@ fn state_sound(state: State, is_source: bool, round: u8) -> bool
     }
 }
 
-fn record_sound(n: usize, source: usize, own: usize, before: Record) -> bool
-    ensures { λ r. ⌜ r ≡ recordSound n source own before ⌝ }
+fn count_sound(hears: bool, note: Note, round: u8) -> bool
+    ensures { λ r. ⌜ (r ≡ «hears» implies leb (note .count) round) × (length (note .values) ≡ 40) ⌝ }
+{
+    if hears {
+        return note.count <= round;
+    }
+    true
+}
+
+// No neighbour that it hears has said more values than there were rounds.
+fn counts_sound(heard: u32, notes: [Note; 20], round: u8) -> bool
+    ensures { λ r. ⌜ (r ≡ countsSound heard notes round) × (r ≡ true → Whole notes) ⌝ }
+{
+    let mut j: usize = 0;
+    while j < 20 {
+        if count_sound(sets::member(heard, j), notes[j], round) {
+            j += 1;
+        } else {
+            return false;
+        }
+    }
+    true
+}
+
+fn record_sound(n: usize, source: usize, own: usize, heard: u32, before: Record) -> bool
+    ensures { λ r. ⌜ (r ≡ recordSound n source own heard before) × (r ≡ true → Whole (before .notes)) ⌝ }
 {
     let round = before.round;
     let state = before.state;
+    let notes = before.notes;
     if 40 <= round {
         return false;
     }
     if n <= own {
         return false;
     }
-    state_sound(state, own == source, round)
+    if state_sound(state, own == source, round) {
+        return counts_sound(heard, notes, round);
+    }
+    false
 }
 
 // The first cause that applies. A record that cannot be stepped comes before a wrong length.
@@ -164,11 +253,11 @@ fn first_cause(
     before: Record,
     words: usize,
 ) -> Outcome
-    ensures { λ r. ⌜ numberOf r ≡ causeOf n source f own heard before words ⌝ }
+    ensures { λ r. ⌜ (numberOf r ≡ causeOf n source f own heard before words) × (numberOf r ≡ 0 → Whole (before .notes)) ⌝ }
 {
     if quorum::in_range(n, source, f) {
         if quorum::hears_soundly(n, own, heard) {
-            if record_sound(n, source, own, before) {
+            if record_sound(n, source, own, heard, before) {
                 if words == n {
                     return Outcome::Accepted;
                 }
@@ -183,8 +272,8 @@ fn first_cause(
 
 // The round of a record that can be stepped. It is raised first: a take keeps the raised number.
 fn play(n: usize, source: usize, f: usize, heard: u32, before: Record, said: &[u16]) -> Record
-    requires { ⌜ (n ≤ 20) × (source < n) × (n ≤ length (now said)) × (before .round < 40) ⌝ }
-    ensures { λ r. ⌜ r ≡ step n source f heard (λ j. getD (now (said .entry)) j 0) before ⌝ }
+    requires { ⌜ (n ≤ 20) × (source < n) × (n ≤ length (now said)) × (before .round < 40) × Whole (before .notes) × Room heard (before .notes) ⌝ }
+    ensures { λ r. ⌜ r ≡ shownOver (λ j. mem j heard) before (step n source f heard (λ j. getD (now (said .entry)) j 0) (viewOf before)) ⌝ }
 {
     let state = before.state;
     let raised = before.advance();

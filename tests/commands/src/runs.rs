@@ -8,7 +8,7 @@ pub fn check(checks: &mut Checks) {
     no_run(checks);
     with_bad(checks);
     both_starts(checks);
-    for name in ["runs/example", "runs/liars", "runs/silence"] {
+    for name in ["runs/example", "runs/liars", "runs/silence", "runs/wet"] {
         same_in_frames(checks, name);
     }
 }
@@ -78,7 +78,7 @@ fn words_of(states: &[&str]) -> String {
 /// 8 has it from 4 alone until 5 speaks in round 3, when 9 has it from 5 and 6. The word 9 has one
 /// voter wherever it is heard.
 fn traces(checks: &mut Checks) {
-    let table: [(&str, &[&str]); 3] = [
+    let table: [(&str, &[&str]); 4] = [
         (
             "example",
             &[
@@ -109,6 +109,17 @@ fn traces(checks: &mut Checks) {
                 "round 2: nobody takes",
                 "round 3: nobody takes",
                 "after 3 rounds: 3 of 5 good terminals have layout 7, the last since round 1; waiting: 5, 6; bad: 1, 3",
+            ],
+        ),
+        (
+            // 3 has 7 from 2 in round 2, and from 1 in round 3, after its spoiled first word.
+            "wet",
+            &[
+                "round 0: 0, the source, has 7",
+                "round 1: 2 takes 7",
+                "round 2: bad 1 (wet connector) says 9 to 3; nobody takes",
+                "round 3: bad 1 (wet connector) says 7 to 3; 3 takes 7",
+                "after 3 rounds: 3 of 3 good terminals have layout 7, the last since round 3; waiting: none; bad: 1 (wet connector)",
             ],
         ),
     ];

@@ -25,6 +25,12 @@ pub enum Manner {
     Steady,
     /// A lie at first, later the truth.
     Turncoat,
+    /// The truth at first, later a lie.
+    Faithless,
+    /// All the same lies, but each liar one round after the one before it.
+    Staggered,
+    /// A lie that is new in each round; the truth in the last.
+    Flood,
     /// The truth, in this round alone.
     Once(u32),
 }
@@ -92,9 +98,10 @@ fn words(rng: &mut Rng, draft: &Draft, value: u16, manner: Manner) -> Vec<Vec<u8
     if manner == Manner::Silent {
         return Vec::new();
     }
-    // Few values, so that liars agree by chance; one on each side of the true one.
-    let lies = [value.max(2) - 1, value.min(65_534) + 1, 9];
-    let share = rng.pick(&[20, 60, 100]);
+    let share = match manner {
+        Manner::Staggered | Manner::Flood => 100,
+        _ => rng.pick(&[20, 60, 100]),
+    };
     let turn = rng.between(1, 4);
     let mut lines = Vec::new();
     let rounds = match manner {
@@ -109,14 +116,15 @@ fn words(rng: &mut Rng, draft: &Draft, value: u16, manner: Manner) -> Vec<Vec<u8
             .filter(|link| draft.bad.contains(&link.0))
         {
             let said = match manner {
-                Manner::Steady => lies[to as usize % 2],
-                Manner::Turncoat if round > turn => value,
-                Manner::Turncoat => lies[0],
-                Manner::Once(_) => value,
+                Manner::Turncoat | Manner::Faithless => turned(manner, value, round > turn),
+                Manner::Staggered => staggered(&draft.bad, value, round, from),
+                Manner::Flood if round < draft.rounds => 10_000 + 100 * from as u16 + round as u16,
+                Manner::Flood | Manner::Once(_) => value,
+                Manner::Steady => lies(value)[to as usize % 2],
                 _ if rng.chance(30) => value,
-                _ => rng.pick(&lies),
+                _ => rng.pick(&lies(value)),
             };
-            if rng.chance(share) {
+            if said != 0 && rng.chance(share) {
                 lines.push(word_line(round, from, to, said));
             }
         }
@@ -124,6 +132,31 @@ fn words(rng: &mut Rng, draft: &Draft, value: u16, manner: Manner) -> Vec<Vec<u8
     let room = LONGEST_FILE.saturating_sub(join(&draft.lines).len()) / 13;
     lines.truncate(room);
     lines
+}
+
+/// Few values, so that liars agree by chance; one on each side of the true one, where there is one.
+fn lies(value: u16) -> [u16; 3] {
+    let below = if value > 1 { value - 1 } else { 3 };
+    let above = value.checked_add(1).unwrap_or(8);
+    [below, above, 9]
+}
+
+/// The truth of a turncoat after its turn, and of a faithless one before.
+fn turned(manner: Manner, value: u16, after: bool) -> u16 {
+    if after == (manner == Manner::Turncoat) {
+        value
+    } else {
+        lies(value)[0]
+    }
+}
+
+/// The lies one after the other; the second liar begins in round 2, the third in round 3.
+fn staggered(bad: &Set, value: u16, round: u32, from: u32) -> u16 {
+    let before = bad.iter().filter(|&&member| member < from).count();
+    match (round as usize).checked_sub(before + 1) {
+        Some(turn) => lies(value)[turn % 3],
+        None => 0,
+    }
 }
 
 /// A run file of exactly `size` bytes (about 24,576) in which every line is accepted.

@@ -1,4 +1,5 @@
-//! The whole space of sites with three terminals: every plan, bad set and script.
+//! The whole space of sites with three terminals: every plan, bad set and script of two or three
+//! rounds. The liars say other values in other rounds as they like.
 
 use crate::faults::Fault;
 use crate::plan::{number_of, Plan, Set};
@@ -12,6 +13,7 @@ const SILENT_ROUNDS: u32 = 10;
 const VALUE: u16 = 7;
 /// Smaller than the true value: where both had enough votes it would be taken.
 const LIE: u16 = 3;
+const GREATER_LIE: u16 = 9;
 
 #[derive(Clone, Copy, Debug, Default, PartialEq, Eq)]
 pub struct Totals {
@@ -53,7 +55,8 @@ fn subsets<T: Copy>(list: &[T]) -> Vec<Vec<T>> {
 fn check_plan(plan: &Plan, totals: &mut Totals, fault: Fault) -> Result<(), String> {
     totals.plans += 1;
     let answer = verdict(plan, fault).map_err(|cause| format!("verdict refused {cause:?}"))?;
-    let mut someone_waits = false;
+    let lengths = [ROUNDS, ROUNDS + 1];
+    let mut someone_waits = lengths.map(|_| false);
     let mut least: Option<(usize, u32)> = None;
     for bad in subsets(&[1, 2]) {
         let bad: Set = bad.into_iter().collect();
@@ -61,13 +64,15 @@ fn check_plan(plan: &Plan, totals: &mut Totals, fault: Fault) -> Result<(), Stri
             continue;
         }
         totals.bad_sets += 1;
-        someone_waits |= play_scripts(plan, &bad, totals, fault)?;
+        for (waits, rounds) in someone_waits.iter_mut().zip(lengths) {
+            *waits |= play_scripts(plan, &bad, rounds, totals, fault)?;
+        }
         if !silent_waiting(plan, &bad, ROUNDS, totals, fault)?.is_empty() {
             let key = (bad.len(), number_of(&bad));
             least = Some(least.map_or(key, |other| other.min(key)));
         }
     }
-    if answer.fails != someone_waits {
+    if someone_waits != lengths.map(|_| answer.fails) {
         return Err("the verdict differs from what the runs show".to_string());
     }
     if answer.fails {
@@ -108,18 +113,25 @@ fn check_witness(
     Ok(())
 }
 
-/// Every script on the links from bad senders; true if some leaves a good terminal waiting.
-fn play_scripts(plan: &Plan, bad: &Set, totals: &mut Totals, fault: Fault) -> Result<bool, String> {
-    let places: Vec<usize> = (0..ROUNDS)
+/// Every script on the links from bad senders to good hearers; true if some leaves a good
+/// terminal waiting.
+fn play_scripts(
+    plan: &Plan,
+    bad: &Set,
+    rounds: u32,
+    totals: &mut Totals,
+    fault: Fault,
+) -> Result<bool, String> {
+    let places: Vec<usize> = (0..rounds)
         .flat_map(|round| plan.links.iter().map(move |&(from, to)| (round, from, to)))
-        .filter(|(_, from, _)| bad.contains(from))
+        .filter(|(_, from, to)| bad.contains(from) && !bad.contains(to))
         .map(|(round, from, to)| ((round * TERMINALS + from) * TERMINALS + to) as usize)
         .collect();
-    let mut words = vec![0; (ROUNDS * TERMINALS * TERMINALS) as usize];
+    let mut words = vec![0; (rounds * TERMINALS * TERMINALS) as usize];
     let mut someone_waits = false;
     loop {
         totals.runs += 1;
-        for state in good_states(plan, bad, &words, ROUNDS, fault)? {
+        for state in good_states(plan, bad, &words, rounds, fault)? {
             match state {
                 State::Taken(_, value) if value != VALUE => {
                     return Err(format!("a good terminal took {value}, bad set {bad:?}"));
@@ -134,12 +146,13 @@ fn play_scripts(plan: &Plan, bad: &Set, totals: &mut Totals, fault: Fault) -> Re
     }
 }
 
-/// Counts the words on: silence, the value, the lie. False after the last script.
+/// Counts the words on: silence, the value, either lie. False after the last script.
 fn next_script(words: &mut [u16], places: &[usize]) -> bool {
     for &place in places {
         words[place] = match words[place] {
             0 => VALUE,
             VALUE => LIE,
+            LIE => GREATER_LIE,
             _ => 0,
         };
         if words[place] != 0 {

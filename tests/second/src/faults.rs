@@ -1,11 +1,12 @@
 //! Planted faults: the implementation broken in one place at a time, to see that the cases
 //! would find it.
 
-use crate::generate::{case, step_case, Kind, StepCase};
+use crate::generate::{case, Kind};
 use crate::output::{run_text, verdict_text};
 use crate::plan::Cause;
 use crate::reader::read_plan;
 use crate::step::{step, Record};
+use crate::steps::{step_case, StepCase};
 
 /// The place that is broken. Normal use is `None`.
 #[derive(Clone, Copy, Debug, PartialEq, Eq)]
@@ -15,8 +16,29 @@ pub enum Fault {
     ClosureWithoutOne,
     SourceUnbounded,
     BadSetBoundedInAll,
+    FirstWordOnly,
+    FirstValueCounted,
     LastWordKept,
     WordsCounted,
+    PlacesCounted,
+    RepeatedNoted,
+    LastWordOfSource,
+    ZeroSkippedAtSource,
+    SourceCountNotAsked,
+    SourceRowNotCounted,
+    CountAtRoundRefused,
+    CountNotChecked,
+    CountCheckedByPlaces,
+    CountOfTakenNotChecked,
+    CountOfUnheardChecked,
+    CountsFirst,
+    LengthBeforeCounts,
+    UnheardNoted,
+    UnheardCounted,
+    TakenNotes,
+    StalePlacesKnown,
+    StalePlacesCounted,
+    StalePlacesCleared,
     SameRoundPassedOn,
     LargestValue,
     WitnessByNumber,
@@ -35,7 +57,7 @@ pub enum Fault {
     NamedRoundsIgnored,
 }
 
-pub const PLANTED: [(Fault, &str); 22] = [
+pub const PLANTED: [(Fault, &str); 43] = [
     (Fault::VotesWithoutOne, "f instead of f+1 votes in the step"),
     (Fault::ClosureWithoutOne, "f instead of f+1 in the closure"),
     (
@@ -46,11 +68,74 @@ pub const PLANTED: [(Fault, &str); 22] = [
         Fault::BadSetBoundedInAll,
         "bad set bounded by f members in all",
     ),
-    (Fault::LastWordKept, "last word kept instead of the first"),
+    (Fault::FirstWordOnly, "a neighbour's second value not noted"),
+    (
+        Fault::FirstValueCounted,
+        "only a neighbour's first value counted",
+    ),
+    (Fault::LastWordKept, "only a neighbour's last word kept"),
     (
         Fault::WordsCounted,
         "words counted instead of different neighbours",
     ),
+    (
+        Fault::PlacesCounted,
+        "a value that stands twice in a row counted twice",
+    ),
+    (Fault::RepeatedNoted, "an equal word noted again"),
+    (
+        Fault::LastWordOfSource,
+        "the source's last word instead of its first",
+    ),
+    (
+        Fault::ZeroSkippedAtSource,
+        "0 in the source's first place passed over",
+    ),
+    (
+        Fault::SourceCountNotAsked,
+        "the source's first place taken where nothing is noted",
+    ),
+    (
+        Fault::SourceRowNotCounted,
+        "the source's row not counted among the votes",
+    ),
+    (
+        Fault::CountAtRoundRefused,
+        "as many values as rounds refused",
+    ),
+    (Fault::CountNotChecked, "more values than rounds accepted"),
+    (
+        Fault::CountCheckedByPlaces,
+        "more values than rounds accepted up to 40",
+    ),
+    (
+        Fault::CountOfTakenNotChecked,
+        "more values than rounds accepted of a taken record",
+    ),
+    (
+        Fault::CountOfUnheardChecked,
+        "more values than rounds refused of one not heard",
+    ),
+    (
+        Fault::CountsFirst,
+        "more values than rounds before causes 4 and 5",
+    ),
+    (
+        Fault::LengthBeforeCounts,
+        "cause 12 before more values than rounds",
+    ),
+    (Fault::UnheardNoted, "words noted of terminals not heard"),
+    (
+        Fault::UnheardCounted,
+        "values counted of terminals not heard",
+    ),
+    (Fault::TakenNotes, "words noted after taking"),
+    (
+        Fault::StalePlacesKnown,
+        "a value after the count held to be noted",
+    ),
+    (Fault::StalePlacesCounted, "values after the count counted"),
+    (Fault::StalePlacesCleared, "places after the count cleared"),
     (
         Fault::SameRoundPassedOn,
         "value passed on in the round that takes it",

@@ -3,13 +3,12 @@
 use crate::damage::{change_byte, change_lines, change_text, noise, plant, sized, spoil_line};
 use crate::draft::{join, plan_draft, run_draft, Draft, Manner};
 use crate::drawings::DRAWINGS;
-use crate::plan::{Plan, Set};
+use crate::plan::Plan;
 use crate::plans::{
     border_plan, deep_plan, hear_at_source, joined_plan, random_plan, strong_plan, thin_plan,
     weak_plan,
 };
 use crate::rng::Rng;
-use crate::step::{Place, Record, State};
 use std::fs;
 use std::io;
 use std::path::Path;
@@ -110,7 +109,12 @@ fn run_case(rng: &mut Rng, sort: u64, turn: u64) -> Draft {
         2 => named_run(rng, weak_plan, n, rounds, Manner::Wild),
         3 => named_run(rng, weak_plan, n, rounds, Manner::Steady),
         4 => {
-            let manner = rng.pick(&[Manner::Silent, Manner::Wild, Manner::Turncoat]);
+            let manner = rng.pick(&[
+                Manner::Silent,
+                Manner::Wild,
+                Manner::Turncoat,
+                Manner::Staggered,
+            ]);
             let plan = if turn.is_multiple_of(2) {
                 drawing(turn / 2)
             } else {
@@ -121,9 +125,10 @@ fn run_case(rng: &mut Rng, sort: u64, turn: u64) -> Draft {
         5 if turn.is_multiple_of(2) => edge_run(rng, n),
         5 => {
             let rounds = rng.pick(&[None, Some(0), Some(1), Some(39), Some(40), Some(41)]);
-            named_run(rng, deep_plan, n, rounds, Manner::Wild)
+            let manner = rng.pick(&[Manner::Wild, Manner::Flood]);
+            named_run(rng, deep_plan, n, rounds, manner)
         }
-        6 => named_run(rng, weak_plan, n, rounds, Manner::Turncoat),
+        6 => turning_run(rng, n, rounds),
         _ => shuffled_run(rng, n, rounds),
     }
 }
@@ -140,6 +145,20 @@ fn named_run(
         hear_at_source(rng, &mut plan);
     }
     run_draft(rng, plan, rounds, manner)
+}
+
+/// Liars that say one value early and another later. Where nobody is to spare, whoever hears them
+/// waits for the true one.
+pub fn turning_run(rng: &mut Rng, n: u32, rounds: Option<u32>) -> Draft {
+    let make = rng.pick(&[weak_plan as fn(&mut Rng, u32) -> Plan, thin_plan, thin_plan]);
+    let manner = rng.pick(&[
+        Manner::Turncoat,
+        Manner::Turncoat,
+        Manner::Faithless,
+        Manner::Staggered,
+        Manner::Flood,
+    ]);
+    named_run(rng, make, n, rounds, manner)
 }
 
 /// A start in either form, and the liars' words in round n-1, n or 40 alone. They are the truth, so
@@ -225,78 +244,4 @@ fn damaged(rng: &mut Rng, kind: Kind, sort: u64, turn: u64) -> Vec<u8> {
         }
     }
     join(&lines)
-}
-
-/// One call of the step, right or wrong.
-#[derive(Clone, Debug)]
-pub struct StepCase {
-    pub place: Place,
-    pub record: Record,
-    pub said: Vec<u16>,
-}
-
-/// Step calls reach what no run shows: several values with enough votes, wrong arguments.
-pub fn step_case(seed: u64, index: u64) -> StepCase {
-    let mut rng = Rng::for_case(seed, 3, index);
-    let n = rng.between(2, 20);
-    let f = if rng.chance(80) {
-        rng.between(0, (n - 1).min(2))
-    } else {
-        rng.between(0, n - 1)
-    };
-    let (source, number) = (rng.between(0, n - 1), rng.between(0, n - 1));
-    let share = rng.pick(&[20, 50, 90]);
-    let heard: Set = (0..n)
-        .filter(|&j| j != number && rng.chance(share))
-        .collect();
-    let mut record = Record::waiting();
-    record.round = rng.between(0, 39);
-    if number == source || rng.chance(10) {
-        record.state = State::Taken(rng.between(0, record.round), 7);
-    }
-    let values = [0, 0, 5, 7, 9];
-    for j in (0..n).filter(|_| rng.chance(30)).collect::<Vec<u32>>() {
-        record.notes.insert(j, rng.pick(&values[2..]));
-    }
-    let said = (0..n).map(|_| rng.pick(&values)).collect();
-    let mut case = StepCase {
-        place: Place {
-            n,
-            source,
-            f,
-            number,
-            heard,
-        },
-        record,
-        said,
-    };
-    if rng.chance(30) {
-        break_step(&mut rng, &mut case);
-    }
-    case
-}
-
-/// One or two wrong arguments.
-fn break_step(rng: &mut Rng, case: &mut StepCase) {
-    let n = case.place.n;
-    for _ in 0..rng.between(1, 2) {
-        match rng.below(10) {
-            0 => case.place.n = rng.pick(&[0, 1, 21]),
-            1 => case.place.source = rng.pick(&[n, 255]),
-            2 => case.place.f = rng.pick(&[n, n + 1]),
-            3 => drop(
-                case.place
-                    .heard
-                    .insert(rng.pick(&[n, 31, case.place.number])),
-            ),
-            4 => case.place.number = rng.pick(&[n, 31]),
-            5 => case.record.round = rng.pick(&[40, 41, 255]),
-            6 => case.record.state = State::Taken(case.record.round + 1, 7),
-            7 => case.record.state = State::Taken(0, 0),
-            8 => case.record.state = State::Waiting,
-            _ => case
-                .said
-                .resize(rng.pick(&[0, n as usize - 1, n as usize + 1]), 7),
-        }
-    }
 }

@@ -2,7 +2,8 @@
 //!
 //! It is written from the specification alone and takes other data structures than the one
 //! it is compared with: sets are ordered sets of terminal numbers, files are split into
-//! lines, bad sets are listed by size, the closure is a work list.
+//! lines, bad sets are listed by size, the closure is a work list, a row of a record is a map
+//! of the places that hold something.
 
 pub mod characters;
 pub mod compare;
@@ -20,6 +21,7 @@ pub mod record;
 pub mod rng;
 pub mod run;
 pub mod step;
+pub mod steps;
 pub mod verdict;
 
 use faults::Fault;

@@ -2,18 +2,23 @@
 //!
 //! A call is its kind, the length of the list that it lends, the length of its body (both two
 //! bytes, high byte first) and the body. Each call has one line of digits.
+//!
+//! A record is its state (0 waiting, 1 taken), the round of taking, the value (2), the round, and
+//! 20 rows. A row is its count, how many places follow, and these (2 each): all up to the last
+//! that is not 0.
 
 use crate::characters;
-use crate::draft::join;
+use crate::draft::{join, run_draft, Draft, Manner};
 use crate::faults::Fault;
-use crate::generate::{case, edge_run, step_case, Kind, StepCase};
+use crate::generate::{case, edge_run, turning_run, Kind};
 use crate::output::{digits, refusal_line, run_answer, verdict_answer};
 use crate::plan::{number_of, set_of, write_plan, Cause, Plan, Set};
-use crate::plans::{deep_plan, random_plan, strong_plan, weak_plan};
+use crate::plans::{deep_plan, random_plan, strong_plan, thin_plan, weak_plan};
 use crate::reader::{read_run, Refusal, RunFile};
 use crate::rng::Rng;
 use crate::run::{run, Order};
-use crate::step::{step, Record, State};
+use crate::step::{step, Record, Row, State, PLACES, ROWS};
+use crate::steps::{step_case, StepCase};
 use crate::verdict::{fault_cause, verdict, witness_check};
 use std::fs;
 use std::io;
@@ -31,7 +36,12 @@ const WORD_PLACES: usize = 16_000;
 /// The longest list that `replay` lends for a plan's text.
 const LONGEST_TEXT: usize = 2_800;
 
-/// So many calls of a kind may have a body longer than this.
+/// The longest body that `replay` reads, and the most digits that it prints in a line, with some
+/// to spare.
+pub const LONGEST_BODY: usize = 32_768;
+pub const LONGEST_LINE: usize = 65_000;
+
+/// So many calls of a kind may have more bytes than this in body and line together.
 const MAY_BE_LONG: u64 = 120;
 const LONG: usize = 1_500;
 
@@ -61,10 +71,11 @@ pub fn write(calls_file: &Path, lines_file: &Path) -> io::Result<()> {
 type Maker = fn(u64, u64) -> Call;
 
 /// Every kind of call, and how many of it.
-const KINDS: [(Maker, u64); 13] = [
+const KINDS: [(Maker, u64); 16] = [
     (verdict_call, 600),
     (run_call, 600),
     (edge_call, 150),
+    (turning_call, 150),
     (read_call, 300),
     (write_call, 200),
     (step_call, 1500),
@@ -72,19 +83,31 @@ const KINDS: [(Maker, u64); 13] = [
     (fault_set_call, 400),
     (site_call, 300),
     (small_site_call, 500),
+    (turning_site_call, 100),
+    (flood_site_call, 12),
     (lent_call, 300),
     (verdict_character_call, characters::FILES),
     (run_character_call, characters::FILES),
 ];
 
-/// The calls of each kind. Of the long files a few are enough.
+/// The calls of each kind. Of the long ones a few are enough.
 pub fn calls(seed: u64) -> Vec<Call> {
     let of_kind = |&(make, count): &(Maker, u64)| {
         let made = (0..count).map(move |index| (index, make(seed, index)));
-        made.filter(|(index, call)| *index < MAY_BE_LONG || call.body.len() <= LONG)
+        made.filter(|(index, call)| {
+            *index < MAY_BE_LONG || call.body.len() + call.line.len() <= LONG
+        })
     };
-    let calls = KINDS.iter().flat_map(of_kind);
-    calls.map(|(_, call)| call).collect()
+    let calls: Vec<Call> = KINDS
+        .iter()
+        .flat_map(of_kind)
+        .map(|(_, call)| call)
+        .collect();
+    for call in &calls {
+        assert!(call.body.len() <= LONGEST_BODY, "a body is too long");
+        assert!(2 * call.line.len() <= LONGEST_LINE, "a line is too long");
+    }
+    calls
 }
 
 fn pair(value: u16) -> [u8; 2] {
@@ -183,6 +206,15 @@ fn edge_call(seed: u64, index: u64) -> Call {
     let mut rng = rng_for(seed, b'e', index);
     let n = rng.between(2, 8);
     let file = join(&edge_run(&mut rng, n).lines);
+    text_call(Kind::Run, file, |_, text| text)
+}
+
+/// Liars that change what they say, with room for the whole answer.
+fn turning_call(seed: u64, index: u64) -> Call {
+    let mut rng = rng_for(seed, b't', index);
+    let n = rng.between(4, 9);
+    let rounds = rng.pick(&[None, Some(6), Some(9)]);
+    let file = join(&turning_run(&mut rng, n, rounds).lines);
     text_call(Kind::Run, file, |_, text| text)
 }
 
@@ -415,8 +447,9 @@ fn record_bytes(record: &Record) -> Vec<u8> {
     let mut bytes = vec![state, round];
     bytes.extend(pair(value));
     bytes.push(record.round as u8);
-    for neighbour in 0..20 {
-        bytes.extend(pair(record.notes.get(&neighbour).copied().unwrap_or(0)));
+    for row in &record.notes {
+        bytes.extend([row.count as u8, row.used() as u8]);
+        bytes.extend((0..row.used()).flat_map(|place| pair(row.at(place))));
     }
     bytes
 }
@@ -460,6 +493,16 @@ struct Site {
 }
 
 impl Site {
+    fn of(file: RunFile) -> Site {
+        Site {
+            words: words_of(&file),
+            plan: file.plan,
+            bad: file.bad,
+            value: file.value,
+            rounds: file.rounds,
+        }
+    }
+
     fn order(&self) -> Order<'_> {
         Order {
             plan: &self.plan,
@@ -506,13 +549,7 @@ fn noisy_site(rng: &mut Rng, seed: u64, sizes: RangeInclusive<u32>) -> Site {
             _ => continue,
         }
     };
-    let mut of = Site {
-        words: words_of(&file),
-        plan: file.plan,
-        bad: file.bad,
-        value: file.value,
-        rounds: file.rounds,
-    };
+    let mut of = Site::of(file);
     let n = of.plan.n as usize;
     for (place, word) in of.words.iter_mut().enumerate() {
         let link = ((place / n % n) as u32, (place % n) as u32);
@@ -537,7 +574,11 @@ fn break_site(rng: &mut Rng, of: &mut Site) {
         0 => break_plan(rng, &mut of.plan),
         1 => drop(of.bad.insert(of.plan.source)),
         2 => drop(of.bad.insert(rng.between(of.plan.n, 31))),
-        3 => of.bad = some_set(rng, of.plan.n),
+        3 => {
+            of.bad = some_set(rng, of.plan.n);
+            of.bad.remove(&of.plan.source);
+            of.plan.f = 0;
+        }
         4 => of.value = 0,
         5 => of.rounds = rng.pick(&[41, 255]),
         _ => {
@@ -569,10 +610,40 @@ fn small_site_call(seed: u64, index: u64) -> Call {
     })
 }
 
+/// The run of a drafted file that is accepted and has a liar.
+fn drafted_site(mut draft: impl FnMut() -> Draft) -> Call {
+    loop {
+        match read_run(&join(&draft().lines), Fault::None) {
+            Ok(file) if !file.words.is_empty() => return site(Site::of(file)),
+            _ => continue,
+        }
+    }
+}
+
+/// Liars that change what they say: the rows of whoever hears them have several values.
+fn turning_site_call(seed: u64, index: u64) -> Call {
+    let mut rng = rng_for(seed, b'u', index);
+    drafted_site(|| {
+        let n = rng.between(4, 7);
+        turning_run(&mut rng, n, Some(6))
+    })
+}
+
+/// A new lie in each of 39 or 40 rounds, until rows are full.
+fn flood_site_call(seed: u64, index: u64) -> Call {
+    let mut rng = rng_for(seed, b'o', index);
+    drafted_site(|| {
+        let n = rng.between(4, 6);
+        let plan = thin_plan(&mut rng, n);
+        let rounds = rng.pick(&[39, 40]);
+        run_draft(&mut rng, plan, Some(rounds), Manner::Flood)
+    })
+}
+
 // ---- the run over lent records
 
-/// Places that `replay` lends: one too many for four terminals, one too few for six.
-const PLACES: usize = 5;
+/// Records that `replay` lends: one too many for four terminals, one too few for six.
+const LENT_RECORDS: usize = 5;
 
 /// A record that no run has left.
 fn noise(rng: &mut Rng) -> Record {
@@ -580,18 +651,28 @@ fn noise(rng: &mut Rng) -> Record {
         0 => State::Waiting,
         _ => State::Taken(u32::from(rng.byte()), rng.pick(&[0, 7, 65_535])),
     };
-    let round = u32::from(rng.byte());
-    let mut heard = |neighbour| {
-        rng.chance(50)
-            .then(|| (neighbour, 1 + u16::from(rng.byte())))
-    };
-    let notes = (0..20).filter_map(&mut heard).collect();
     Record {
         state,
-        round,
-        notes,
+        round: u32::from(rng.byte()),
+        notes: (0..ROWS).map(|_| noise_row(rng)).collect(),
         ..Record::waiting()
     }
+}
+
+fn noise_row(rng: &mut Rng) -> Row {
+    let mut row = Row::default();
+    if rng.chance(50) {
+        return row;
+    }
+    let any = u32::from(rng.byte());
+    row.count = rng.pick(&[0, 1, 2, 40, any]);
+    let last = rng.between(0, PLACES - 1);
+    for place in [0, 1, last] {
+        if rng.chance(if place < 2 { 40 } else { 4 }) {
+            row.put(place, 1 + u16::from(rng.byte()));
+        }
+    }
+    row
 }
 
 /// Five places that hold noise, lent to the run of four to six terminals: what the rules leave
@@ -600,7 +681,7 @@ fn lent_call(seed: u64, index: u64) -> Call {
     let mut rng = rng_for(seed, b'l', index);
     let sizes = if rng.chance(60) { 5..=5 } else { 4..=6 };
     let of = noisy_site(&mut rng, seed, sizes);
-    let mut records: Vec<Record> = (0..PLACES).map(|_| noise(&mut rng)).collect();
+    let mut records: Vec<Record> = (0..LENT_RECORDS).map(|_| noise(&mut rng)).collect();
     let before: Vec<u8> = records.iter().flat_map(record_bytes).collect();
     let mut line = vec![number(run(&of.order(), &mut records, Fault::None))];
     line.extend(records.iter().flat_map(record_bytes));

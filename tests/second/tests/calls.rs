@@ -1,4 +1,4 @@
-//! Library calls: the step, the run, the witness check, the writer, and their refusals.
+//! Library calls: the run, the witness check, the writer, and their refusals.
 
 use second::drawings::DRAWINGS;
 use second::faults::Fault;
@@ -6,175 +6,11 @@ use second::output::plan_text;
 use second::plan::{number_of, set_of, write_plan, Cause, Plan, Set};
 use second::reader::read_plan;
 use second::run::{run, Order};
-use second::step::{step, Place, Record, State};
+use second::step::{Record, Row, State};
 use second::verdict::{verdict, witness_check};
 
 fn set(members: &[u32]) -> Set {
     members.iter().copied().collect()
-}
-
-/// Terminal 3 of 5 with f = 1; it hears 0, the source, and 1, 2 and 4.
-fn place() -> Place {
-    Place {
-        n: 5,
-        source: 0,
-        f: 1,
-        number: 3,
-        heard: set(&[0, 1, 2, 4]),
-    }
-}
-
-fn played(place: &Place, rounds: &[[u16; 5]]) -> Record {
-    let mut record = Record::waiting();
-    for said in rounds {
-        record = step(place, record, said, Fault::None).expect("a right call");
-    }
-    record
-}
-
-#[test]
-fn step_takes_from_the_source_first() {
-    let record = played(&place(), &[[7, 5, 5, 0, 5]]);
-    assert_eq!((record.round, record.state), (1, State::Taken(1, 7)));
-}
-
-#[test]
-fn step_takes_the_smallest_with_enough_votes() {
-    let mut wide = place();
-    wide.n = 6;
-    wide.heard = set(&[1, 2, 4, 5]);
-    let record = step(&wide, Record::waiting(), &[0, 9, 9, 0, 8, 8], Fault::None);
-    assert_eq!(record.map(|record| record.state), Ok(State::Taken(1, 8)));
-}
-
-#[test]
-fn step_keeps_first_words_and_counts_neighbours() {
-    let repeated = played(
-        &place(),
-        &[[0, 9, 0, 0, 0], [0, 9, 0, 0, 0], [0, 9, 0, 0, 0]],
-    );
-    assert_eq!((repeated.round, repeated.state), (3, State::Waiting));
-    let changed = played(&place(), &[[0, 9, 0, 0, 0], [0, 8, 8, 0, 0]]);
-    assert_eq!(changed.state, State::Waiting);
-    let later = played(
-        &place(),
-        &[[0, 9, 0, 0, 0], [0, 0, 8, 0, 0], [0, 0, 0, 0, 9]],
-    );
-    assert_eq!(later.state, State::Taken(3, 9));
-}
-
-#[test]
-fn step_leaves_unheard_notes_alone() {
-    let mut deaf = place();
-    deaf.heard = set(&[1, 4]);
-    let mut record = Record::waiting();
-    record.notes.insert(0, 7);
-    record.notes.insert(2, 9);
-    let after = step(&deaf, record, &[5, 9, 5, 5, 0], Fault::None).expect("a right call");
-    assert_eq!(after.state, State::Waiting);
-    assert_eq!(after.notes, [(0, 7), (1, 9), (2, 9)].into_iter().collect());
-}
-
-#[test]
-fn step_counts_heard_notes_that_were_there() {
-    let mut record = Record::waiting();
-    record.notes.insert(1, 9);
-    record.notes.insert(2, 9);
-    let after = step(&place(), record, &[0; 5], Fault::None).expect("a right call");
-    assert_eq!(after.state, State::Taken(1, 9));
-}
-
-#[test]
-fn step_changes_only_the_round_of_a_taken_record() {
-    let mut record = Record::waiting();
-    record.state = State::Taken(0, 9);
-    let after = step(&place(), record.clone(), &[7; 5], Fault::None).expect("a right call");
-    record.round = 1;
-    assert_eq!(after, record);
-    // A source that took later than round 0 is accepted as well.
-    let source = Place {
-        number: 0,
-        heard: set(&[1]),
-        ..place()
-    };
-    let late = Record {
-        round: 4,
-        state: State::Taken(3, 9),
-        ..Record::waiting()
-    };
-    assert!(step(&source, late, &[7; 5], Fault::None).is_ok());
-}
-
-fn step_refused(place: &Place, record: Record, length: usize) -> u8 {
-    let before = record.clone();
-    let (cause, after) = step(place, record, &vec![7; length], Fault::None).expect_err("wrong");
-    assert_eq!(after, before);
-    cause.number()
-}
-
-#[test]
-fn step_refuses_wrong_places() {
-    let waiting = Record::waiting;
-    for head in [(1, 0, 0), (21, 0, 1), (5, 5, 1), (5, 0, 5)] {
-        let (n, source, f) = head;
-        let wrong = Place {
-            n,
-            source,
-            f,
-            ..place()
-        };
-        assert_eq!(step_refused(&wrong, waiting(), 5), 4);
-    }
-    for member in [3, 5, 31] {
-        let mut wrong = place();
-        wrong.heard.insert(member);
-        assert_eq!(step_refused(&wrong, waiting(), 5), 5);
-    }
-    for length in [0, 4, 6] {
-        assert_eq!(step_refused(&place(), waiting(), length), 12);
-    }
-}
-
-#[test]
-fn step_refuses_wrong_records() {
-    let record = |round, state| Record {
-        round,
-        state,
-        ..Record::waiting()
-    };
-    let wrong = [
-        record(40, State::Waiting),
-        record(255, State::Taken(1, 7)),
-        record(2, State::Taken(3, 7)),
-        record(2, State::Taken(1, 0)),
-    ];
-    for record in wrong {
-        assert_eq!(step_refused(&place(), record, 5), 13);
-    }
-    // Its own number at or above n; the source waiting.
-    for number in [5, 31, 0] {
-        let wrong = Place {
-            number,
-            heard: set(&[1]),
-            ..place()
-        };
-        assert_eq!(step_refused(&wrong, Record::waiting(), 5), 13);
-    }
-    assert!(step(&place(), record(39, State::Waiting), &[0; 5], Fault::None).is_ok());
-}
-
-#[test]
-fn step_refusals_in_order() {
-    let late = Record {
-        round: 40,
-        ..Record::waiting()
-    };
-    let mut wrong = place();
-    assert_eq!(step_refused(&wrong, late.clone(), 4), 13);
-    wrong.heard.insert(3);
-    assert_eq!(step_refused(&wrong, late.clone(), 4), 5);
-    wrong.f = 5;
-    assert_eq!(step_refused(&wrong, late, 4), 4);
 }
 
 /// Site E, bad set {1}.
@@ -283,48 +119,78 @@ fn run_refusals_in_order() {
     assert_eq!(run_answer(&wrong), Err(9));
 }
 
-#[test]
-fn run_leaves_records() {
-    let plan = DRAWINGS[4].plan();
-    let mut words = vec![9; 48];
-    words[3 * 4 - 1] = 1; // from a good sender: not looked at
-    let mut records = vec![
-        Record {
-            round: 9,
-            ..Record::source(3)
-        };
-        4
-    ];
-    let bad = set(&[1]);
+/// Plays a site whose bad set is {1} over records that hold something else; the words are given
+/// as (round, hearer, word), said by 1.
+fn played(plan: &Plan, rounds: u32, said: &[(u32, u32, u16)]) -> Vec<Record> {
+    let n = plan.n;
+    let mut words = vec![0; (rounds * n * n) as usize];
+    for &(round, hearer, word) in said {
+        words[(((round - 1) * n + 1) * n + hearer) as usize] = word;
+    }
+    for sender in (0..n).filter(|&sender| sender != 1) {
+        words[(sender * n + n - 1) as usize] = 1; // from a good sender: not looked at
+    }
+    let mut held = Record::source(3);
+    held.round = 9;
+    held.notes = vec![Row::of(&[1, 2, 3]); 20];
+    let mut records = vec![held; n as usize];
     let order = Order {
-        plan: &plan,
-        bad: &bad,
+        plan,
+        bad: &set(&[1]),
         value: 7,
-        rounds: 3,
+        rounds,
         words: &words,
     };
     assert_eq!(run(&order, &mut records, Fault::None), Ok(()));
-    assert_eq!(
-        records[0],
-        Record {
-            round: 3,
-            ..Record::source(7)
-        }
-    );
+    records
+}
+
+/// A record after so many rounds, with these rows.
+fn left(round: u32, state: State, rows: &[(u32, &[u16])]) -> Record {
+    let mut record = Record::waiting();
+    record.round = round;
+    record.state = state;
+    for &(terminal, values) in rows {
+        *record.row_mut(terminal) = Row::of(values);
+    }
+    record
+}
+
+#[test]
+fn run_leaves_records() {
+    let said = [(1, 3, 9), (2, 3, 9), (3, 3, 8), (3, 0, 9), (1, 2, 9)];
+    let records = played(&DRAWINGS[4].plan(), 3, &said);
+    assert_eq!(records[0], left(3, State::Taken(0, 7), &[]));
     assert_eq!(records[1], Record::waiting());
-    let mut two = Record {
-        round: 3,
-        state: State::Taken(1, 7),
-        ..Record::waiting()
-    };
-    two.notes.insert(0, 7);
-    assert_eq!(records[2], two);
-    let mut three = Record {
-        round: 3,
-        ..Record::waiting()
-    };
-    three.notes.extend([(1, 9), (2, 7)]);
-    assert_eq!(records[3], three);
+    assert_eq!(records[2], left(3, State::Taken(1, 7), &[(0, &[7])]));
+    let rows: [(u32, &[u16]); 2] = [(1, &[9, 8]), (2, &[7])];
+    assert_eq!(records[3], left(3, State::Waiting, &rows));
+}
+
+/// Nothing is noted after the round that takes, and the value that made it up is the last noted.
+#[test]
+fn run_takes_what_is_said_second() {
+    let said = [(1, 3, 9), (3, 3, 7), (4, 3, 5)];
+    let records = played(&DRAWINGS[4].plan(), 4, &said);
+    let rows: [(u32, &[u16]); 2] = [(1, &[9, 7]), (2, &[7])];
+    assert_eq!(records[3], left(4, State::Taken(3, 7), &rows));
+}
+
+/// A liar with another value in each of 40 rounds fills its row, and no step is refused.
+#[test]
+fn run_fills_a_row() {
+    let values: Vec<u16> = (100..140).collect();
+    let said: Vec<(u32, u32, u16)> = (1..)
+        .zip(&values)
+        .map(|(r, &value)| (r, 3, value))
+        .collect();
+    let records = played(&DRAWINGS[4].plan(), 40, &said);
+    let rows: [(u32, &[u16]); 2] = [(1, &values), (2, &[7])];
+    assert_eq!(records[3], left(40, State::Waiting, &rows));
+    assert_eq!(
+        (records[3].row(1).count, records[3].row(1).at(39)),
+        (40, 139)
+    );
 }
 
 #[test]

@@ -1,13 +1,17 @@
 //! The generator, the planted faults and the whole space of small sites.
 
 use second::compare::{ask, Answer, TIME_LIMIT};
+use second::draft::join;
 use second::exhaust::exhaust;
 use second::faults::{Fault, Sound, PLANTED};
-use second::generate::{case, step_case, Kind};
+use second::generate::{case, turning_run, Kind};
 use second::output::run_text;
-use second::reader::read_run;
+use second::reader::{read_run, RunFile};
 use second::record;
-use second::step::step;
+use second::rng::Rng;
+use second::run::run_file;
+use second::step::{step, State};
+use second::steps::step_case;
 use second::verdict::verdict;
 use std::collections::BTreeSet;
 
@@ -74,6 +78,35 @@ fn planted_faults_are_found() {
     }
 }
 
+/// Where the rule on values shows in what a run prints, and where only a step shows it.
+#[test]
+fn planted_faults_are_found_in_runs_and_steps() {
+    let sound = Sound::new(2, 1600);
+    let in_runs = [
+        Fault::FirstWordOnly,
+        Fault::FirstValueCounted,
+        Fault::LastWordKept,
+        Fault::WordsCounted,
+        Fault::VotesWithoutOne,
+    ];
+    for fault in in_runs {
+        let found = sound.found(fault);
+        assert!(found.runs > 5 && found.steps > 5, "{fault:?}: {found:?}");
+    }
+    let in_steps = [
+        Fault::PlacesCounted,
+        Fault::LastWordOfSource,
+        Fault::CountNotChecked,
+        Fault::UnheardNoted,
+        Fault::TakenNotes,
+        Fault::LargestValue,
+    ];
+    for fault in in_steps {
+        let found = sound.found(fault);
+        assert!(found.runs == 0 && found.steps > 5, "{fault:?}: {found:?}");
+    }
+}
+
 #[test]
 fn small_sites_hold() {
     let totals = exhaust(Fault::None).expect("no violation");
@@ -86,6 +119,7 @@ fn small_sites_show_broken_rules() {
         Fault::VotesWithoutOne,
         Fault::ClosureWithoutOne,
         Fault::WordsCounted,
+        Fault::CountAtRoundRefused,
     ];
     for fault in broken {
         assert!(exhaust(fault).is_err(), "{fault:?}");
@@ -209,6 +243,72 @@ fn passed_plans_end_with_nobody_waiting() {
     assert!(ended > 50, "{ended} runs");
 }
 
+/// Liars that change what they say plant no layout, and keep nobody of a passed plan waiting.
+#[test]
+fn liars_that_change_their_words_plant_nothing() {
+    let mut rng = Rng::new(17);
+    let (mut lied, mut passed) = (0, 0);
+    for turn in 0..4000 {
+        let text = join(&turning_run(&mut rng, 3 + turn % 6, None).lines);
+        let file = read_run(&text, Fault::None).expect("a right file");
+        let records = run_file(&file, Fault::None).expect("a right run");
+        let passes = verdict(&file.plan, Fault::None).is_ok_and(|answer| !answer.fails);
+        for (number, record) in (0..).zip(&records) {
+            match record.state {
+                State::Taken(_, value) => assert_eq!(value, file.value),
+                State::Waiting => assert!(!passes || file.bad.contains(&number)),
+            }
+        }
+        lied += u32::from(file.words.values().any(|&word| word != file.value));
+        passed += u32::from(passes && !file.words.is_empty());
+    }
+    assert!(lied > 1000 && passed > 300, "{lied}, {passed}");
+}
+
+/// Whether two liars say one lie to a good hearer, the second a round after the first.
+fn agree_one_round_apart(file: &RunFile) -> bool {
+    let said = |round: u32, from: u32, to: u32| file.words.get(&(round, from, to));
+    file.words.iter().any(|(&(round, from, to), &lie)| {
+        let mut others = file.bad.iter().filter(|&&other| other != from);
+        let later = others.any(|&other| {
+            let before = (1..=round).any(|early| said(early, other, to) == Some(&lie));
+            said(round + 1, other, to) == Some(&lie) && !before
+        });
+        later && lie != file.value && !file.bad.contains(&to)
+    })
+}
+
+/// Among the cases and among the recorded calls.
+#[test]
+fn liars_agree_one_round_apart() {
+    let fresh: Vec<Vec<u8>> = (0..1600).map(|index| case(Kind::Run, 1, index)).collect();
+    let calls = record::calls(record::SEED).into_iter();
+    let recorded: Vec<Vec<u8>> = calls
+        .filter(|call| call.kind == b'r')
+        .map(|call| call.body)
+        .collect();
+    for files in [fresh, recorded] {
+        let files = files
+            .iter()
+            .filter_map(|text| read_run(text, Fault::None).ok());
+        assert!(files.filter(agree_one_round_apart).count() > 10);
+    }
+}
+
+/// The rule on values shows in recorded calls of a run's text and of the run itself.
+#[test]
+fn second_values_show_in_recorded_runs() {
+    let calls = record::calls(record::SEED);
+    let texts = calls.iter().filter(|call| call.kind == b'r');
+    for fault in [Fault::FirstWordOnly, Fault::LastWordKept] {
+        let shown = texts.clone().filter(|call| {
+            let printed = run_text(&call.body, Fault::None);
+            printed.starts_with(b"82") && printed != run_text(&call.body, fault)
+        });
+        assert!(shown.count() > 10, "{fault:?}");
+    }
+}
+
 /// A recorded call that no case reaches would compare nothing.
 #[test]
 fn recorded_calls_reach_every_answer() {
@@ -217,7 +317,7 @@ fn recorded_calls_reach_every_answer() {
         let of_kind = calls.iter().filter(|call| call.kind == kind);
         of_kind.map(|call| call.line[0]).collect()
     };
-    let expected: [(u8, &[u8]); 8] = [
+    let expected: [(u8, &[u8]); 9] = [
         (b'v', &[0, 1, 2, 3, 4, 5, 6, 12]),
         (b'r', &[0, 1, 2, 3, 4, 5, 6, 7, 8, 9, 10, 11, 12]),
         (b'f', &[0, 1, 2, 3, 4, 5, 6, 7, 8, 9, 10, 11, 12]),
@@ -226,6 +326,7 @@ fn recorded_calls_reach_every_answer() {
         (b'w', &[0, 1, 4, 5]),
         (b'c', &[0, 4, 5, 7, 8]),
         (b'n', &[0, 4, 5, 7, 8, 9, 12]),
+        (b'l', &[0, 4, 5, 7, 8, 9, 12]),
     ];
     for (kind, answers) in expected {
         let answers: BTreeSet<u8> = answers.iter().copied().collect();

@@ -25,6 +25,38 @@ fn worked_run() {
     );
 }
 
+/// Site E: 3 hears 1, which is bad, and 2, which says 7 in round 2. Two votes are needed.
+#[test]
+fn every_value_of_a_neighbour_counts() {
+    let three = |words: &str| {
+        let printed = run(&format!("{SITE} 03000002 04000704 {words}"));
+        printed.lines().last().expect("a line").to_string()
+    };
+    // A spoiled word in round 1, the good one in round 3.
+    assert_eq!(three("050101030009 050301030007"), "820301030007");
+    // The good one first, then another.
+    assert_eq!(three("050101030007 050201030009"), "820301020007");
+    // The good one between two others, beside 2's.
+    let between = "050101030009 050201030007 050301030008";
+    assert_eq!(three(between), "820301020007");
+    // No good one at all, in whatever order.
+    let never = "050101030009 050201030008 050301030009 050401030006";
+    assert_eq!(three(never), "820300000000");
+}
+
+/// Drawing G, three votes needed: 1 and 2 are bad and agree on 5 one round apart.
+#[test]
+fn liars_that_agree_one_round_apart() {
+    let site = "01050002 020001 020002 020003 020104 020204 020304 03000006 04000706";
+    let four = |words: &str| {
+        let printed = run(&format!("{site} 050101040005 050202040005 {words}"));
+        printed.lines().last().expect("a line").to_string()
+    };
+    assert_eq!(four(""), "820400000000");
+    assert_eq!(four("050301040007"), "820400000000");
+    assert_eq!(four("050301040007 050402040007"), "820401040007");
+}
+
 fn set(members: &[u32]) -> Set {
     members.iter().copied().collect()
 }

@@ -1,4 +1,3 @@
-use Rattle.faults.proofs.Rows.{next-bit, byte-bit}
 use mir.Val.{Fits}
 use mir.Syntax.{w32}
 use borrow.Author.Needs.{needs}
@@ -12,7 +11,7 @@ use lib.Dec.{ltb}
 use lib.ListN.{getD}
 use Rattle.sets.specs.Tests.{_and_}
 use Rattle.sets.specs.Sets.{bit, mem, mask, count}
-use Rattle.sets.proofs.Masks.{ones-and}
+use Rattle.sets.proofs.Masks.{ones-and, next-bit, byte-bit}
 use Rattle.faults.specs.Rows.{over}
 use native.Mathlib.Omega.{arith}
 use Rattle.faults.proofs.over.Statement.{statement}

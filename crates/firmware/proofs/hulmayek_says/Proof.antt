@@ -1,6 +1,6 @@
 -- What the terminal's record says, of the record that the board's stands for. Assumes nothing.
 use mathlib.Core.Path.{ap, _∙_}
-use Rattle.terminal.specs.Rule.{says}
+use Rattle.terminal.specs.Shown.{says}
 use Rattle.firmware.specs.Board.{boardSays}
 use borrow.Author.Needs.{needs}
 use Rattle.firmware.proofs.hulmayek_says.Statement.{statement}

@@ -1,12 +1,14 @@
 -- The invariant: the lines of the terminals so far. Assumes nothing.
 use Prim.Native.Nat.{ℕ, _-_, _≤_, _<_}
-use mathlib.Core.Path.{_≡_, refl, ap, _∙_}
+use mathlib.Core.Path.{_≡_, ap, _∙_, sym}
 use mathlib.Core.List.{[]}
 use native.Mathlib.Omega.{arith}
-use lib.ListN.{getD}
 use borrow.Author.Needs.{needs}
 use Rattle.terminal.specs.declared.State.the-variants.{Waiting}
+use Rattle.terminal.specs.Shown.{nothingHeard}
 use Rattle.terminal.specs.Rule.{start}
+use Rattle.terminal.proofs.Shown.{shown-state}
+use Rattle.simulation.specs.Answer.{stateOf}
 use Rattle.text.specs.Texts.{held}
 use Rattle.run_output.specs.Site.{siteLines}
 use Rattle.run_output.proofs.SiteLaws.{next-line, same-state}
@@ -14,7 +16,7 @@ use Rattle.run_output.proofs.of_site.Statement.{statement}
 use Rattle.run_output.proofs.of_site.Tie as tie
 
 abbrev Inv-loop : tie.InvT-loop
-Inv-loop n faulty records t₀ b₀ t b = (b ≤ n) × (held t ≡ siteLines b faulty (λ b. getD records b start .state))
+Inv-loop n faulty records t₀ b₀ t b = (b ≤ n) × (held t ≡ siteLines b faulty (stateOf records))
 
 abbrev μ-loop : tie.MeasureT-loop
 μ-loop n faulty records t₀ b₀ t b = n - b
@@ -50,14 +52,14 @@ loop-less c = omega arith
 loop-again : tie.Need-loop-again Inv-loop μ-loop
 loop-again c = let l = c .before .before .before .before .loop in
     let a = c .before .before .before .before .before .before .args in
-    let e = same-state (a .t3) (l .b) (record { state = Waiting; round = 0; notes = [] }) start refl in
-    (omega arith, next-line (l .b) (a .faulty) (λ b. getD (a .t3) b start .state) _ _ _ _ (omega arith) (c .before .member .ensures) e (l .inv .1) (c .with-terminal .ensures))
+    let e = same-state (a .t3) (l .b) (record { state = Waiting; round = 0; notes = [] }) nothingHeard (sym (shown-state start)) in
+    (omega arith, next-line (l .b) (a .faulty) (stateOf (a .t3)) _ _ _ _ (omega arith) (c .before .member .ensures) e (l .inv .1) (c .with-terminal .ensures))
 
 returns : tie.Need-returns Inv-loop μ-loop
 returns c = let l = c .before .loop in
     let a = c .before .before .before .args in
     let e : l .b ≡ a .n = omega arith in
-    l .inv .1 ∙ ap (λ (k : ℕ). siteLines k (a .faulty) (λ b. getD (a .t3) b start .state)) e
+    l .inv .1 ∙ ap (λ (k : ℕ). siteLines k (a .faulty) (stateOf (a .t3))) e
 
 pub of-site-spec : {M : Type 1} → statement M
 of-site-spec =

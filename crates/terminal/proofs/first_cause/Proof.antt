@@ -1,4 +1,5 @@
 -- `first_cause` meets its contract: it asks the causes in the order in which `causeOf` picks the first. Assumes nothing.
+use native.Mathlib.Omega.{arith}
 use mathlib.Core.Path.{sym, _∙_}
 use borrow.Author.Tests.{eq-eqb, ne-eqb}
 use borrow.Author.Needs.{needs}
@@ -19,44 +20,52 @@ record-sound-requires c κs = search needs
 
 returns : tie.Need-returns
 unfolding causeOf firstCause pick
-returns c =
-    simp (
-      sym (c .before .before .before .before .before .before .in-range .ensures) ∙ c .before .before .before .before .before .if1 .taken,
-      sym (c .before .before .before .before .hears-soundly .ensures) ∙ c .before .before .before .if2 .taken,
-      sym (c .before .before .record-sound .ensures) ∙ c .before .if3 .taken,
-      eq-eqb _ _ (c .if4 .taken),
-    )
+returns c = (
+  simp (
+    sym (c .before .before .before .before .before .before .in-range .ensures) ∙ c .before .before .before .before .before .if1 .taken,
+    sym (c .before .before .before .before .hears-soundly .ensures) ∙ c .before .before .before .if2 .taken,
+    sym (c .before .before .record-sound .ensures .0) ∙ c .before .if3 .taken,
+    eq-eqb _ _ (c .if4 .taken),
+  ),
+  λ z. c .before .before .record-sound .ensures .1 (c .before .if3 .taken),
+)
 
 returns-2 : tie.Need-returns-2
 unfolding causeOf firstCause pick
-returns-2 c =
-    simp (
-      sym (c .before .before .before .before .before .before .in-range .ensures) ∙ c .before .before .before .before .before .if1 .taken,
-      sym (c .before .before .before .before .hears-soundly .ensures) ∙ c .before .before .before .if2 .taken,
-      sym (c .before .before .record-sound .ensures) ∙ c .before .if3 .taken,
-      ne-eqb _ _ (c .if4 .left),
-    )
+returns-2 c = (
+  simp (
+    sym (c .before .before .before .before .before .before .in-range .ensures) ∙ c .before .before .before .before .before .if1 .taken,
+    sym (c .before .before .before .before .hears-soundly .ensures) ∙ c .before .before .before .if2 .taken,
+    sym (c .before .before .record-sound .ensures .0) ∙ c .before .if3 .taken,
+    ne-eqb _ _ (c .if4 .left),
+  ),
+  λ z. absurd (omega (arith, z)),
+)
 
 returns-3 : tie.Need-returns-3
 unfolding causeOf firstCause pick
-returns-3 c =
-    simp (
-      sym (c .before .before .before .before .before .in-range .ensures) ∙ c .before .before .before .before .if1 .taken,
-      sym (c .before .before .before .hears-soundly .ensures) ∙ c .before .before .if2 .taken,
-      sym (c .before .record-sound .ensures) ∙ c .if3 .left,
-    )
+returns-3 c = (
+  simp (
+    sym (c .before .before .before .before .before .in-range .ensures) ∙ c .before .before .before .before .if1 .taken,
+    sym (c .before .before .before .hears-soundly .ensures) ∙ c .before .before .if2 .taken,
+    sym (c .before .record-sound .ensures .0) ∙ c .if3 .left,
+  ),
+  λ z. absurd (omega (arith, z)),
+)
 
 returns-4 : tie.Need-returns-4
 unfolding causeOf firstCause pick
-returns-4 c =
-    simp (
-      sym (c .before .before .before .in-range .ensures) ∙ c .before .before .if1 .taken,
-      sym (c .before .hears-soundly .ensures) ∙ c .if2 .left,
-    )
+returns-4 c = (
+  simp (
+    sym (c .before .before .before .in-range .ensures) ∙ c .before .before .if1 .taken,
+    sym (c .before .hears-soundly .ensures) ∙ c .if2 .left,
+  ),
+  λ z. absurd (omega (arith, z)),
+)
 
 returns-5 : tie.Need-returns-5
 unfolding causeOf firstCause pick
-returns-5 c = simp (sym (c .before .in-range .ensures) ∙ c .if1 .left)
+returns-5 c = (simp (sym (c .before .in-range .ensures) ∙ c .if1 .left), λ z. absurd (omega (arith, z)))
 
 pub first-cause-spec : {M : Type 1} → statement M
 first-cause-spec =

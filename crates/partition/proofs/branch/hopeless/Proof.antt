@@ -3,7 +3,7 @@ use lib.Bits.{bitAnd}
 use lib.Dec.{ltb}
 use native.Mathlib.Omega.{arith}
 use Rattle.plan.proofs.Laws.{sound}
-use Rattle.faults.proofs.Rows.{byte-le}
+use Rattle.sets.proofs.Masks.{byte-le}
 use Rattle.partition.proofs.Bounds.{hopeless-own, hopeless-heard}
 use borrow.Author.Needs.{needs}
 use Rattle.partition.proofs.branch.hopeless.Statement.{statement}

@@ -1,9 +1,12 @@
--- The part that is lent has as many places as it was lent for. Assumes nothing.
+-- The place after the record is in reach. Assumes nothing.
 use mathlib.Core.Path.{sym}
 use lib.Seq.{length-take-le}
 use borrow.Author.Needs.{needs}
 use Rattle.replay.proofs.calls.step.Statement.{statement}
 use Rattle.replay.proofs.calls.step.Tie as tie
+
+record-requires : tie.Need-record-requires
+record-requires c κs = search needs
 
 slice-aggregate-pairs : tie.Need-slice-aggregate-pairs
 slice-aggregate-pairs c = search needs
@@ -33,6 +36,7 @@ pub step-spec : {M : Type 1} → statement M
 step-spec =
     tie.close
     (tie.spec
+    record-requires
     slice-aggregate-pairs
     pairs-requires
     array-share-prefix-words

@@ -1,9 +1,12 @@
--- The part that is lent has as many places as it was lent for. Assumes nothing.
+-- The places after the five records are in reach. Assumes nothing.
 use mathlib.Core.Path.{sym}
 use lib.Seq.{length-take-le}
 use borrow.Author.Needs.{needs}
 use Rattle.replay.proofs.lent.run.Statement.{statement}
 use Rattle.replay.proofs.lent.run.Tie as tie
+
+places-requires : tie.Need-places-requires
+places-requires c κs = search needs
 
 slice-aggregate-pairs : tie.Need-slice-aggregate-pairs
 slice-aggregate-pairs c = search needs
@@ -33,6 +36,7 @@ pub run-spec : {M : Type 1} → statement M
 run-spec =
     tie.close
     (tie.spec
+    places-requires
     slice-aggregate-pairs
     pairs-requires
     array-share-prefix-words

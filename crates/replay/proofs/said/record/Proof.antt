@@ -1,5 +1,5 @@
--- Fills the notes place by place. Assumes nothing.
-use Prim.Native.Nat.{_-_, _≤_}
+-- Fills the notes place by place; each takes at most 82 bytes of the call. Assumes nothing.
+use Prim.Native.Nat.{_+_, _*_, _-_, _≤_}
 use mathlib.Core.Path.{_≡_}
 use lib.ListN.{length}
 use borrow.Author.Needs.{needs}
@@ -7,31 +7,40 @@ use Rattle.replay.proofs.said.record.Statement.{statement}
 use Rattle.replay.proofs.said.record.Tie as tie
 
 abbrev Inv-loop : tie.InvT-loop
-Inv-loop body i notes₀ j₀ notes j = (j ≤ 20) × (length notes ≡ 20)
+Inv-loop body i notes₀ at₀ j₀ notes at j = (j ≤ 20) × (length notes ≡ 20) × (at ≤ i + 5 + 82 * j)
 
 abbrev μ-loop : tie.MeasureT-loop
-μ-loop body i notes₀ j₀ notes j = 20 - j
+μ-loop body i notes₀ at₀ j₀ notes at j = 20 - j
+
+add-at : tie.Need-add-at Inv-loop μ-loop
+add-at c = search needs
 
 loop-holds : tie.Need-loop-holds Inv-loop μ-loop
 loop-holds c = search needs
 
-add-pair : tie.Need-add-pair Inv-loop μ-loop
-add-pair c = search needs
-
-mul-pair : tie.Need-mul-pair Inv-loop μ-loop
-mul-pair c = search needs
-
-add-pair-2 : tie.Need-add-pair-2 Inv-loop μ-loop
-add-pair-2 c = search needs
-
-pair-requires : tie.Need-pair-requires Inv-loop μ-loop
-pair-requires c κs = search needs
+note-requires : tie.Need-note-requires Inv-loop μ-loop
+note-requires c κs = search needs
 
 mul-notes : tie.Need-mul-notes Inv-loop μ-loop
 mul-notes c = search needs
 
-array-write-notes : tie.Need-array-write-notes Inv-loop μ-loop
-array-write-notes c = search needs
+array-set-from-notes : tie.Need-array-set-from-notes Inv-loop μ-loop
+array-set-from-notes c = search needs
+
+add-at-2 : tie.Need-add-at-2 Inv-loop μ-loop
+add-at-2 c = search needs
+
+add-listed : tie.Need-add-listed Inv-loop μ-loop
+add-listed c = search needs
+
+listed-requires : tie.Need-listed-requires Inv-loop μ-loop
+listed-requires c κs = search needs
+
+mul-at : tie.Need-mul-at Inv-loop μ-loop
+mul-at c = search needs
+
+add-at-3 : tie.Need-add-at-3 Inv-loop μ-loop
+add-at-3 c = search needs
 
 add-j : tie.Need-add-j Inv-loop μ-loop
 add-j c = search needs
@@ -60,13 +69,16 @@ record-spec =
     (tie.spec
     Inv-loop
     μ-loop
+    add-at
     loop-holds
-    add-pair
-    mul-pair
-    add-pair-2
-    pair-requires
+    note-requires
     mul-notes
-    array-write-notes
+    array-set-from-notes
+    add-at-2
+    add-listed
+    listed-requires
+    mul-at
+    add-at-3
     add-j
     loop-less
     loop-again

@@ -15,14 +15,14 @@ abbrev μ-loop : tie.MeasureT-loop
 loop-holds : tie.Need-loop-holds Inv-loop μ-loop
 loop-holds c = search needs
 
-mul-pair : tie.Need-mul-pair Inv-loop μ-loop
-mul-pair c = search needs
+mul-note : tie.Need-mul-note Inv-loop μ-loop
+mul-note c = search needs
 
-array-read-pair : tie.Need-array-read-pair Inv-loop μ-loop
-array-read-pair c = search needs
+array-copy-out-note : tie.Need-array-copy-out-note Inv-loop μ-loop
+array-copy-out-note c = search needs
 
-pair-requires : tie.Need-pair-requires Inv-loop μ-loop
-pair-requires c κs = search needs
+note-requires : tie.Need-note-requires Inv-loop μ-loop
+note-requires c κs = search needs
 
 add-j : tie.Need-add-j Inv-loop μ-loop
 add-j c = search needs
@@ -46,9 +46,9 @@ notes-spec =
     Inv-loop
     μ-loop
     loop-holds
-    mul-pair
-    array-read-pair
-    pair-requires
+    mul-note
+    array-copy-out-note
+    note-requires
     add-j
     loop-less
     loop-again

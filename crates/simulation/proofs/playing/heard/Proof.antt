@@ -3,7 +3,7 @@ use Prim.Native.Nat.{ℕ, _≤_, _<_, _-_}
 use mathlib.Core.Path.{_≡_, refl, _∙_}
 use lib.ListN.{length, getD, length-set}
 use Rattle.simulation.specs.Turns.{heardIn}
-use Rattle.simulation.proofs.Lists.{filled-more}
+use Rattle.sets.proofs.Tables.{filled-more}
 use Rattle.sets.proofs.Tables.{table-is}
 use native.Mathlib.Omega.{arith}
 use Rattle.simulation.proofs.playing.heard.Statement.{statement}

@@ -1,4 +1,5 @@
 -- `decide` meets its contract: it waits where the choice is 0, and takes the choice where it is not. Assumes nothing.
+
 use mathlib.Core.Path.{sym}
 use borrow.Author.Needs.{needs}
 use Rattle.terminal.specs.Rule.{taking}

@@ -1,49 +1,65 @@
--- `note` meets its contract. The invariant: the record has the notes of the terminals below `j`, and nothing else of it has changed. Assumes nothing.
-use Prim.Native.Nat.{_≤_, _-_}
-use mathlib.Core.Path.{_≡_, refl}
+-- `note` meets its contract. The invariant: the notes of the terminals below `j` have what is new, those of the others and the rest of the record are as they
+-- were. Assumes nothing.
+use native.Mathlib.Nat.{le-refl}
+use Rattle.terminal.proofs.Values.{new-heard}
+use Prim.Native.Nat.{_≤_, _<_, _-_}
+use mathlib.Core.Path.{_≡_, sym, ap, _∙_}
+use mathlib.Core.Bool.{Bool}
 use native.Mathlib.Omega.{arith}
 use lib.ListN.{getD}
+use Rattle.terminal.specs.declared.Note.{Note}
+use Rattle.terminal.specs.Rule.{isNew}
+use Rattle.terminal.specs.Shown.{noteOf, valuesIn}
+use Rattle.terminal.proofs.Noting.{NotedBelow, noting-starts, noting-new, noting-old, noting-ends}
 use borrow.Author.Needs.{needs}
-use Rattle.sets.specs.Sets.{mem}
-use Rattle.terminal.specs.Rule.{noted}
-use Rattle.terminal.proofs.Walks.{noted-turn}
 use Rattle.terminal.proofs.Record.note.Statement.{statement}
 use Rattle.terminal.proofs.Record.note.Tie as tie
 
 abbrev Inv-loop : tie.InvT-loop
-Inv-loop n heard said self₀ j₀ self j =
-    (j ≤ n) × (self ≡ record { state = self₀ .state; round = self₀ .round; notes = noted j (λ i. mem i heard) (λ i. getD said i 0) (self₀ .notes) })
+Inv-loop n heard said self₀ j₀ self j = (j ≤ n) × NotedBelow heard (λ i. getD said i 0) self₀ j self
 
 abbrev μ-loop : tie.MeasureT-loop
 μ-loop n heard said self₀ j₀ self j = n - j
 
 loop-holds : tie.Need-loop-holds Inv-loop μ-loop
-unfolding noted
-loop-holds c = (omega arith, refl)
+loop-holds c = (omega arith, noting-starts _ _ _ (c .before .pre .2 .twenty))
+
+mul-word : tie.Need-mul-word Inv-loop μ-loop
+mul-word c = search needs
+
+shared-slice-read-word : tie.Need-shared-slice-read-word Inv-loop μ-loop
+shared-slice-read-word c = search needs
+
+mul-note : tie.Need-mul-note Inv-loop μ-loop
+mul-note c = search needs
+
+element-copy-out-note : tie.Need-element-copy-out-note Inv-loop μ-loop
+element-copy-out-note c = search needs
 
 member-requires : tie.Need-member-requires Inv-loop μ-loop
 member-requires c κs = search needs
 
-mul-first-word : tie.Need-mul-first-word Inv-loop μ-loop
-mul-first-word c = search needs
+is-new-requires : tie.Need-is-new-requires Inv-loop μ-loop
+is-new-requires c κs =
+    λ e.
+    let q : noteOf (c .before .before .before .before .loop .self .notes) (c .before .before .before .before .loop .j) .count ≡ noteOf (c .before .before .before .before .before .before .args .t1 .notes) (c .before .before .before .before .loop .j) .count =
+    ap (λ (m : Note). m .count) (c .before .before .before .before .loop .inv .1 .rest (c .before .before .before .before .loop .j) (le-refl (c .before .before .before .before .loop .j))) in
+    let l : noteOf (c .before .before .before .before .before .before .args .t1 .notes) (c .before .before .before .before .loop .j) .count < 40 = c .before .before .before .before .before .before .pre .3 (c .before .before .before .before .loop .j) (sym (c .member .ensures) ∙ e) in
+    omega arith
 
-element-copy-out-first-word : tie.Need-element-copy-out-first-word Inv-loop μ-loop
-element-copy-out-first-word c = search needs
+with-requires : tie.Need-with-requires Inv-loop μ-loop
+with-requires c κs =
+    let h = new-heard (c .before .before .member .result) (valuesIn (noteOf (c .before .before .before .before .before .before .loop .self .notes) (c .before .before .before .before .before .before .loop .j))) _ (sym (c .before .is-new .ensures) ∙ c .if1 .taken) in
+    let q : noteOf (c .before .before .before .before .before .before .loop .self .notes) (c .before .before .before .before .before .before .loop .j) .count ≡ noteOf (c .before .before .before .before .before .before .before .before .args .t1 .notes) (c .before .before .before .before .before .before .loop .j) .count =
+    ap (λ (m : Note). m .count) (c .before .before .before .before .before .before .loop .inv .1 .rest (c .before .before .before .before .before .before .loop .j) (le-refl (c .before .before .before .before .before .before .loop .j))) in
+    let l : noteOf (c .before .before .before .before .before .before .before .before .args .t1 .notes) (c .before .before .before .before .before .before .loop .j) .count < 40 = c .before .before .before .before .before .before .before .before .pre .3 (c .before .before .before .before .before .before .loop .j) (sym (c .before .before .member .ensures) ∙ h) in
+    omega arith
 
-mul-first-word-2 : tie.Need-mul-first-word-2 Inv-loop μ-loop
-mul-first-word-2 c = search needs
+mul-t18 : tie.Need-mul-t18 Inv-loop μ-loop
+mul-t18 c = search needs
 
-shared-slice-read-first-word : tie.Need-shared-slice-read-first-word Inv-loop μ-loop
-shared-slice-read-first-word c = search needs
-
-first-word-requires : tie.Need-first-word-requires Inv-loop μ-loop
-first-word-requires c κs = search needs
-
-mul-self : tie.Need-mul-self Inv-loop μ-loop
-mul-self c = search needs
-
-element-write-self : tie.Need-element-write-self Inv-loop μ-loop
-element-write-self c = search needs
+element-set-from-self : tie.Need-element-set-from-self Inv-loop μ-loop
+element-set-from-self c = search needs
 
 add-j : tie.Need-add-j Inv-loop μ-loop
 add-j c = search needs
@@ -52,14 +68,32 @@ loop-less : tie.Need-loop-less Inv-loop μ-loop
 loop-less c = search needs
 
 loop-again : tie.Need-loop-again Inv-loop μ-loop
-loop-again c =
-    let l = c .before .before .before .before .before .loop in (
-      omega arith,
-      noted-turn (l .j) (c .first-word .result) _ _ _ _ _ _ (l .inv .1) (rw (← c .before .before .before .member .ensures) (c .first-word .ensures)),
-    )
+loop-again c = (
+  omega arith,
+  noting-new _ _ _ (c .before .before .before .before .before .before .before .loop .j) (c .before .before .before .before .before .before .before .loop .self) (c .before .before .before .before .before .before .before .loop .inv .1) (omega arith) (c .with .result)
+      (ap (λ (b : Bool). isNew b (valuesIn (noteOf (c .before .before .before .before .before .before .before .loop .self .notes) (c .before .before .before .before .before .before .before .loop .j))) (getD (c .before .before .before .before .before .before .before .before .before .args .said .now) (c .before .before .before .before .before .before .before .loop .j) 0)) (sym (c .before .before .before .member .ensures))
+      ∙ sym (c .before .before .is-new .ensures) ∙ c .before .if1 .taken)
+      (c .with .ensures),
+)
+
+add-j-2 : tie.Need-add-j-2 Inv-loop μ-loop
+add-j-2 c = search needs
+
+loop-less-2 : tie.Need-loop-less-2 Inv-loop μ-loop
+loop-less-2 c = search needs
+
+loop-again-2 : tie.Need-loop-again-2 Inv-loop μ-loop
+loop-again-2 c = (
+  omega arith,
+  noting-old _ _ _ (c .before .before .before .before .before .before .loop .j) (c .before .before .before .before .before .before .loop .self) (c .before .before .before .before .before .before .loop .inv .1) (omega arith)
+      (ap (λ (b : Bool). isNew b (valuesIn (noteOf (c .before .before .before .before .before .before .loop .self .notes) (c .before .before .before .before .before .before .loop .j))) (getD (c .before .before .before .before .before .before .before .before .args .said .now) (c .before .before .before .before .before .before .loop .j) 0)) (sym (c .before .before .member .ensures))
+      ∙ sym (c .before .is-new .ensures) ∙ c .if1 .left),
+)
 
 returns : tie.Need-returns Inv-loop μ-loop
-returns c = let e : c .before .before .before .args .n ≡ c .before .loop .j = omega arith in rw e (c .before .loop .inv .1)
+returns c =
+    let e : c .before .before .before .args .n ≡ c .before .loop .j = omega arith in
+    rw e (noting-ends _ _ (c .before .before .before .args .t1) (c .before .loop .j) (c .before .loop .self) (c .before .loop .inv .1) (c .before .before .before .pre .2) (c .before .before .before .pre .3))
 
 pub note-spec : {M : Type 1} → statement M
 note-spec =
@@ -68,15 +102,19 @@ note-spec =
     Inv-loop
     μ-loop
     loop-holds
+    mul-word
+    shared-slice-read-word
+    mul-note
+    element-copy-out-note
     member-requires
-    mul-first-word
-    element-copy-out-first-word
-    mul-first-word-2
-    shared-slice-read-first-word
-    first-word-requires
-    mul-self
-    element-write-self
+    is-new-requires
+    with-requires
+    mul-t18
+    element-set-from-self
     add-j
     loop-less
     loop-again
+    add-j-2
+    loop-less-2
+    loop-again-2
     returns)

@@ -1,12 +1,16 @@
--- `choice` meets its contract: the code asks for the source's word first, as the rule does; both ways past it end at the least that is certified. Assumes nothing.
+-- `choice` meets its contract: the code asks for the source's first value first, as the rule does; both ways past it end at the least that is certified.
+-- Assumes nothing.
 use mathlib.Core.Path.{sym, _∙_}
-use mathlib.Core.Logic.{⊎-elim}
-use borrow.Author.Tests.{eq-eqb, ne-eqb}
+use mathlib.Core.Logic.{inl, inr, ⊎-elim}
+use lib.Bits.{bitOr}
+use Rattle.sets.specs.Sets.{mem}
+use Rattle.terminal.proofs.Search.{direct-yes, direct-no}
 use borrow.Author.Needs.{needs}
-use Rattle.sets.specs.Tests.{_and_, pick}
-use Rattle.terminal.specs.Rule.{choice}
 use Rattle.terminal.proofs.choice.choice.Statement.{statement}
 use Rattle.terminal.proofs.choice.choice.Tie as tie
+
+first-values-requires : tie.Need-first-values-requires
+first-values-requires c κs = search needs
 
 mul-word : tie.Need-mul-word
 mul-word c = search needs
@@ -18,21 +22,30 @@ member-requires : tie.Need-member-requires
 member-requires c κs = search needs
 
 returns : tie.Need-returns
-unfolding choice _and_ pick
-returns c = simp (sym (c .before .before .member .ensures) ∙ c .before .if1 .taken, ne-eqb _ _ (c .if2 .taken))
+returns c =
+    let e = c .before .before .before .before .before .first-values .ensures in
+    direct-yes (c .before .before .before .before .before .before .args .n) (c .before .before .before .before .before .before .args .f) (c .before .before .before .before .before .before .args .heard) (c .before .before .before .before .before .before .args .notes) (c .before .before .before .before .before .before .pre .0) (c .before .before .before .before .before .before .pre .2) (c .before .before .before .before .before .first-values .result .values) (e .2) (c .before .before .before .before .before .before .args .source) (c .before .before .before .before .before .before .pre .1)
+    (sym (λ i. mem (c .before .before .before .before .before .before .args .source) (bitOr (e .0 i) (e .1 i))) ∙ sym (c .before .before .member .ensures) ∙ c .before .if1 .taken) (c .if2 .taken)
 
 least-certified-requires : tie.Need-least-certified-requires
 least-certified-requires c κs = search needs
 
 returns-2 : tie.Need-returns-2
-unfolding choice _and_ pick
 returns-2 c =
-    ⊎-elim
-    (λ w. simp (sym (c .before .before .member .ensures) ∙ w .0 .taken, eq-eqb _ _ (w .1 .left), c .least-certified .ensures))
-    (λ w. simp (sym (c .before .before .member .ensures) ∙ w .left, c .least-certified .ensures))
-    (c .before .if1 .came)
+    let e = c .before .before .before .before .before .first-values .ensures in
+    let same = sym (λ i. mem (c .before .before .before .before .before .before .args .source) (bitOr (e .0 i) (e .1 i))) in
+    c .least-certified .ensures
+    ∙ direct-no (c .before .before .before .before .before .before .args .n) (c .before .before .before .before .before .before .args .f) (c .before .before .before .before .before .before .args .heard) (c .before .before .before .before .before .before .args .notes) (c .before .before .before .before .before .before .pre .0) (c .before .before .before .before .before .before .pre .2) (c .before .before .before .before .before .first-values .result .values) (e .2) (c .before .before .before .before .before .before .args .source) (c .before .before .before .before .before .before .pre .1)
+    (⊎-elim (λ w. inl (same ∙ sym (c .before .before .member .ensures) ∙ w .0 .taken, w .1 .left)) (λ w. inr (same ∙ sym (c .before .before .member .ensures) ∙ w .left)) (c .before .if1 .came))
 
 pub choice-spec : {M : Type 1} → statement M
 choice-spec =
     tie.close
-    (tie.spec mul-word array-read-word member-requires returns least-certified-requires returns-2)
+    (tie.spec
+    first-values-requires
+    mul-word
+    array-read-word
+    member-requires
+    returns
+    least-certified-requires
+    returns-2)

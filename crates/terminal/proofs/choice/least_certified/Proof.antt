@@ -1,51 +1,30 @@
--- `least_certified` meets its contract. The invariant: `best` is the least candidate of the terminals below `j`. Assumes nothing.
-use Prim.Native.Nat.{_≤_, _-_}
-use mathlib.Core.Path.{_≡_, refl, _∙_}
+-- `least_certified` meets its contract: where at most f have said more than one value, the first values are enough. Assumes nothing.
+use mathlib.Core.Path.{sym, ap, _∙_}
 use native.Mathlib.Omega.{arith}
+use Rattle.sets.specs.Sets.{mem}
+use Rattle.terminal.proofs.Search.{ones-size, size-le, fickle-heard, firsts-found}
 use borrow.Author.Needs.{needs}
-use Rattle.terminal.specs.Rule.{least, candidate}
-use Rattle.terminal.proofs.Walks.{least-turn}
 use Rattle.terminal.proofs.choice.least_certified.Statement.{statement}
 use Rattle.terminal.proofs.choice.least_certified.Tie as tie
 
-abbrev Inv-loop : tie.InvT-loop
-Inv-loop notes n f heard best₀ j₀ best j = (j ≤ n) × (best ≡ least j (candidate n f heard notes))
+cast-if1 : tie.Need-cast-if1
+cast-if1 c = let l = size-le (c .before .args .first .fickle) in omega (arith, ones-size (c .before .args .first .fickle) (search needs))
 
-abbrev μ-loop : tie.MeasureT-loop
-μ-loop notes n f heard best₀ j₀ best j = n - j
+least-of-firsts-requires : tie.Need-least-of-firsts-requires
+least-of-firsts-requires c κs = (c .before .before .pre .0, λ j m. c .before .before .pre .2 j (fickle-heard (c .before .before .args .n) (c .before .before .args .f) (c .before .before .args .heard) (c .before .before .args .notes) (c .before .before .pre .0) (c .before .before .pre .1) (c .before .before .args .first .values) (c .before .before .pre .5) j (ap (mem j) (sym (c .before .before .pre .4)) ∙ m)))
 
-loop-holds : tie.Need-loop-holds Inv-loop μ-loop
-unfolding least
-loop-holds c = (omega arith, refl)
+returns : tie.Need-returns
+returns c =
+    c .least-of-firsts .ensures
+    ∙ firsts-found (c .before .before .before .args .n) (c .before .before .before .args .f) (c .before .before .before .args .heard) (c .before .before .before .args .notes) (c .before .before .before .pre .0) (c .before .before .before .pre .1) (c .before .before .before .args .first .values) (c .before .before .before .pre .5) (c .before .before .before .args .first .single) (c .before .before .before .args .first .fickle) (c .before .before .before .pre .3) (c .before .before .before .pre .4)
+    (let e = ones-size (c .before .before .before .args .first .fickle) (search needs) in let t = c .before .if1 .taken in omega arith)
 
-candidate-requires : tie.Need-candidate-requires Inv-loop μ-loop
-candidate-requires c κs = search needs
+least-of-all-requires : tie.Need-least-of-all-requires
+least-of-all-requires c κs = search needs
 
-lesser-requires : tie.Need-lesser-requires Inv-loop μ-loop
-lesser-requires c κs = search needs
-
-add-j : tie.Need-add-j Inv-loop μ-loop
-add-j c = search needs
-
-loop-less : tie.Need-loop-less Inv-loop μ-loop
-loop-less c = search needs
-
-loop-again : tie.Need-loop-again Inv-loop μ-loop
-loop-again c = (omega arith, c .lesser .ensures ∙ least-turn _ _ _ _ (c .before .before .before .loop .inv .1) (c .before .candidate .ensures))
-
-returns : tie.Need-returns Inv-loop μ-loop
-returns c = let e : c .before .loop .j ≡ c .before .before .args .n = omega arith in rw e at (c .before .loop .inv .1)
+returns-2 : tie.Need-returns-2
+returns-2 c = search needs
 
 pub least-certified-spec : {M : Type 1} → statement M
 least-certified-spec =
-    tie.close
-    (tie.spec
-    Inv-loop
-    μ-loop
-    loop-holds
-    candidate-requires
-    lesser-requires
-    add-j
-    loop-less
-    loop-again
-    returns)
+    tie.close (tie.spec cast-if1 least-of-firsts-requires returns least-of-all-requires returns-2)

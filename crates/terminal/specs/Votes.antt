@@ -1,0 +1,53 @@
+-- What the functions that look for a certified value promise each other: the code's notes by rows, and sets of neighbours in the place of counts. No caller
+-- of the step sees this: proofs/Search.antt shows that what they find is the rule's choice. Assumes nothing.
+use Prim.Native.Nat.{ℕ, _≤_, _<_}
+use mathlib.Core.Path.{_≡_}
+use mathlib.Core.Bool.{true}
+use mathlib.Core.List.{List}
+use lib.Bits.{bitOr}
+use lib.Dec.{eqb, ltb}
+use lib.ListN.{getD}
+use Rattle.sets.specs.Tests.{_and_, pick}
+use Rattle.sets.specs.Sets.{Terminal, Set, mem, mask, size}
+use Rattle.quorum.specs.Words.{mostRounds}
+use Rattle.terminal.specs.declared.Note.{Note}
+use Rattle.terminal.specs.Rule.{Layout, among}
+use Rattle.terminal.specs.Shown.{noteOf, valuesIn}
+
+-- the notes of a set of neighbours have no more values than there are places
+abbrev pub Fits : Set → List Note → Type 0
+Fits rows notes = (j : Terminal) → mem j rows ≡ true → noteOf notes j .count ≤ mostRounds
+
+-- and there is a place for one more
+abbrev pub Room : Set → List Note → Type 0
+Room rows notes = (j : Terminal) → mem j rows ≡ true → noteOf notes j .count < mostRounds
+
+-- those of a set who have said v
+unfoldable pub votersIn : (n : ℕ) (notes : List Note) (rows : Set) (v : Layout) → Set
+votersIn n notes rows v = mask n (λ j. mem j rows and among v (valuesIn (noteOf notes j)))
+
+-- those of a set who have said one value, and those who have said more
+unfoldable pub singleIn : (n : ℕ) (notes : List Note) (rows : Set) → Set
+singleIn n notes rows = mask n (λ j. eqb (noteOf notes j .count) 1 and mem j rows)
+
+unfoldable pub fickleIn : (n : ℕ) (notes : List Note) (rows : Set) → Set
+fickleIn n notes rows = mask n (λ j. ltb 1 (noteOf notes j .count) and mem j rows)
+
+-- the value at the first place of terminal j's note
+unfoldable pub firstPlace : List Note → Terminal → Layout
+firstPlace notes j = getD (noteOf notes j .values) 0 0
+
+-- those of a set whose first place has v
+unfoldable pub sameIn : (n : ℕ) (firsts : List Layout) (rows : Set) (v : Layout) → Set
+sameIn n firsts rows v = mask n (λ j. eqb (getD firsts j 0) v and mem j rows)
+
+-- a value, if more than f have said it
+unfoldable pub ifMany : (f : ℕ) (who : Set) (v : Layout) → Layout
+ifMany f who v = pick (ltb f (size 32 who)) v 0
+
+-- what terminal j's first place leads to, where it is of those who have said one value: that value, if more than f have said it
+unfoldable pub fromFirst : (n f : ℕ) (notes : List Note) (firsts : List Layout) (single fickle : Set) (j : Terminal) → Layout
+fromFirst n f notes firsts single fickle j =
+    pick (mem j single)
+    (ifMany f (bitOr (sameIn n firsts single (getD firsts j 0)) (votersIn n notes fickle (getD firsts j 0))) (getD firsts j 0))
+    0

@@ -1,0 +1,39 @@
+/* Steps of one terminal of a site of twenty, for counting their instructions: terminal 19 hears 1 to 18 and not the
+ * source. As in a run with nine liars: 1 to 9 say a new value each round, 10 to 18 say 7 once, which with f = 9 is not
+ * enough, so it waits through all rounds.
+ *   step ROUNDS           so many steps from the start
+ *   step ROUNDS full      so many steps, 0 or 1, of a record that no run makes: each of the 18 has said 39 values, f = 1 */
+#include "terminal.h"
+
+#include <stdlib.h>
+
+enum { N = 20, OWN = 19, HEARD = 0x7fffe };
+
+static uint16_t word(size_t from, size_t round) {
+    if (from >= 1 && from <= 9) return (uint16_t)(1000 + 50 * from + round);
+    return from >= 10 && from < OWN && round == 5 ? 7 : 0;
+}
+
+static hulmayek_record full(void) {
+    hulmayek_record r = hulmayek_start();
+    r.round = 39;
+    for (size_t j = 1; j < OWN; j++) {
+        r.notes[j].count = 39;
+        for (size_t i = 0; i < 39; i++) r.notes[j].values[i] = (uint16_t)(1000 * j + i);
+    }
+    return r;
+}
+
+int main(int count, char **arguments) {
+    if (count < 2) return 2;
+    size_t rounds = (size_t)atoi(arguments[1]), f = count > 2 ? 1 : 9;
+    hulmayek_record r = count > 2 ? full() : hulmayek_start();
+    uint16_t said[N];
+    for (size_t round = 1; round <= rounds; round++) {
+        for (size_t j = 0; j < N; j++) said[j] = word(j, round);
+        hulmayek_answer answer = hulmayek_step(N, 0, f, OWN, HEARD, r, said, N);
+        if (answer.number != HULMAYEK_PLAYED || answer.after.taken) return 1;
+        r = answer.after;
+    }
+    return 0;
+}

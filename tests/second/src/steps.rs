@@ -1,0 +1,250 @@
+//! Seeded calls of the step, right or wrong. They reach what no run shows: several values with
+//! enough votes, rows that no run leaves, wrong arguments.
+
+use crate::plan::Set;
+use crate::rng::Rng;
+use crate::step::{Place, Record, Row, State, PLACES, ROWS};
+
+/// One call of the step.
+#[derive(Clone, Debug)]
+pub struct StepCase {
+    pub place: Place,
+    pub record: Record,
+    pub said: Vec<u16>,
+}
+
+/// Values that many rows have, so that neighbours agree by chance.
+const FAMILIAR: [u16; 3] = [5, 7, 9];
+/// Long rows are filled up with values from here on.
+const FILLING: u16 = 1_000;
+/// A value that no row has.
+const NEW: u16 = 4_660;
+/// Values to be voted on. Which of two is the smaller shows in the high byte or in the low one.
+const BALLOT: [u16; 6] = [1, 2, 255, 256, 300, 65_535];
+
+pub fn step_case(seed: u64, index: u64) -> StepCase {
+    let mut rng = Rng::for_case(seed, 3, index);
+    let place = some_place(&mut rng);
+    let mut record = Record::waiting();
+    let any = rng.between(0, 39);
+    record.round = rng.pick(&[0, 1, 1, 2, 3, 39, 39, any, any]);
+    if place.number == place.source || rng.chance(10) {
+        record.state = State::Taken(rng.between(0, record.round), 7);
+    }
+    let said = (0..place.n).map(|_| some_word(&mut rng)).collect();
+    let mut case = StepCase {
+        place,
+        record,
+        said,
+    };
+    fill_rows(&mut rng, &mut case);
+    if rng.chance(45) {
+        put_to_the_vote(&mut rng, &mut case);
+    }
+    if rng.chance(35) {
+        break_step(&mut rng, &mut case);
+    }
+    case
+}
+
+fn some_place(rng: &mut Rng) -> Place {
+    let n = rng.between(2, 20);
+    let f = if rng.chance(80) {
+        rng.between(0, (n - 1).min(2))
+    } else {
+        rng.between(0, n - 1)
+    };
+    let (source, number) = (rng.between(0, n - 1), rng.between(0, n - 1));
+    let share = rng.pick(&[20, 50, 90]);
+    let heard: Set = (0..n)
+        .filter(|&j| j != number && rng.chance(share))
+        .collect();
+    Place {
+        n,
+        source,
+        f,
+        number,
+        heard,
+    }
+}
+
+fn some_word(rng: &mut Rng) -> u16 {
+    let filling = FILLING + rng.below(PLACES as usize) as u16;
+    rng.pick(&[0, 0, 0, 5, 7, 9, filling, NEW])
+}
+
+// ---- rows
+
+fn fill_rows(rng: &mut Rng, case: &mut StepCase) {
+    let round = case.record.round;
+    // Full rows are long after many rounds: many of them stand in few cases only.
+    let full = match round {
+        0..=3 => 30,
+        39 => rng.pick(&[5, 5, 5, 5, 20, 20, 100]),
+        _ if rng.chance(4) => 100,
+        _ => 4,
+    };
+    let share = rng.pick(&[30, 50, 80]);
+    for terminal in 0..ROWS {
+        let heard = case.place.heard.contains(&terminal);
+        if rng.chance(if heard { share } else { 35 }) {
+            let mut row = some_row(rng, round, full);
+            if !heard && rng.chance(40) {
+                row.count = over_full(rng, round);
+            }
+            *case.record.row_mut(terminal) = row;
+        }
+    }
+}
+
+/// A row that is accepted after so many rounds; so many in a hundred are full.
+fn some_row(rng: &mut Rng, round: u32, full: u32) -> Row {
+    let count = if rng.chance(full) {
+        round
+    } else {
+        rng.between(0, round.min(3))
+    };
+    let mut row = Row::of(&match rng.below(4) {
+        0 => (0..count).map(|_| rng.pick(&FAMILIAR)).collect(),
+        1 => (0..count).map(|_| rng.pick(&[0, 0, 5, 7, 9])).collect(),
+        _ => different(rng, count),
+    });
+    if rng.chance(25) {
+        leave_noise(rng, &mut row);
+    }
+    row
+}
+
+/// So many different values, the familiar ones anywhere among them.
+fn different(rng: &mut Rng, count: u32) -> Vec<u16> {
+    let mut familiar = FAMILIAR;
+    rng.shuffle(&mut familiar);
+    let mut values: Vec<u16> = familiar
+        .into_iter()
+        .chain(FILLING..)
+        .take(count as usize)
+        .collect();
+    rng.shuffle(&mut values);
+    values
+}
+
+/// Something in places at or after the count.
+fn leave_noise(rng: &mut Rng, row: &mut Row) {
+    for place in [row.count, row.count + 1, PLACES - 1] {
+        if (row.count..PLACES).contains(&place) && rng.chance(60) {
+            let filling = FILLING + rng.below(PLACES as usize) as u16;
+            row.put(place, rng.pick(&[5, 7, 9, filling]));
+        }
+    }
+}
+
+/// More values than so many rounds allow.
+fn over_full(rng: &mut Rng, round: u32) -> u32 {
+    let next = (round + 1).min(255);
+    let any = rng.between(41, 255);
+    rng.pick(&[next, next, 40, 41, any, 255])
+}
+
+// ---- votes
+
+/// Lets f or f+1 heard neighbours have a value that the others lack, in their rows or by what
+/// they say; mostly for two values, and without a direct word.
+fn put_to_the_vote(rng: &mut Rng, case: &mut StepCase) {
+    if rng.chance(60) {
+        for neighbour in case.place.heard.clone() {
+            case.said[neighbour as usize] = 0;
+            *case.record.row_mut(neighbour) = Row::default();
+        }
+    }
+    hush_source(rng, case);
+    let mut values = BALLOT;
+    rng.shuffle(&mut values);
+    for &value in values.iter().take(rng.pick(&[1, 2, 2, 3])) {
+        let mut voters: Vec<u32> = case.place.heard.iter().copied().collect();
+        voters.retain(|&voter| voter != case.place.source || zero_first(case, voter));
+        rng.shuffle(&mut voters);
+        let enough = case.place.f as usize + rng.below(2);
+        for &voter in voters.iter().take(enough) {
+            vote(rng, case, voter, value);
+        }
+    }
+}
+
+/// Whether the row has 0 for its first value, so that the source's own is no direct word.
+fn zero_first(case: &StepCase, terminal: u32) -> bool {
+    let row = case.record.row(terminal);
+    row.count > 0 && row.at(0) == 0
+}
+
+/// The voter has the value in its row, once or twice, says it now, or both.
+fn vote(rng: &mut Rng, case: &mut StepCase, voter: u32, value: u16) {
+    let round = case.record.round;
+    let row = case.record.row_mut(voter);
+    let wanted = rng.pick(&[0, 1, 1, 2]);
+    let times = wanted.min(round.saturating_sub(row.count));
+    (0..times).for_each(|_| row.add(value));
+    if times == 0 || rng.chance(20) {
+        case.said[voter as usize] = value;
+    }
+}
+
+/// The source is not heard, has said nothing, or has 0 in its first place; seldom none of these.
+fn hush_source(rng: &mut Rng, case: &mut StepCase) {
+    let source = case.place.source;
+    let round = case.record.round;
+    match rng.below(6) {
+        0 => {}
+        1 => drop(case.place.heard.remove(&source)),
+        2 | 3 => {
+            let values = [0, rng.pick(&BALLOT), rng.pick(&FAMILIAR)];
+            let count = rng.between(0, round.min(3)) as usize;
+            *case.record.row_mut(source) = Row::of(&values[..count]);
+            if count == 0 {
+                case.said[source as usize] = 0;
+            }
+        }
+        _ => {
+            case.said[source as usize] = 0;
+            let mut row = Row::default();
+            leave_noise(rng, &mut row);
+            *case.record.row_mut(source) = row;
+        }
+    }
+}
+
+// ---- wrong arguments
+
+/// One or two wrong arguments, often more values of a heard neighbour than rounds.
+fn break_step(rng: &mut Rng, case: &mut StepCase) {
+    let n = case.place.n;
+    for _ in 0..rng.between(1, 2) {
+        match rng.below(15) {
+            0 => case.place.n = rng.pick(&[0, 1, 21]),
+            1 => case.place.source = rng.pick(&[n, 255]),
+            2 => case.place.f = rng.pick(&[n, n + 1]),
+            3 => drop(
+                case.place
+                    .heard
+                    .insert(rng.pick(&[n, 31, case.place.number])),
+            ),
+            4 => case.place.number = rng.pick(&[n, 31]),
+            5 => case.record.round = rng.pick(&[40, 41, 255]),
+            6 => case.record.state = State::Taken((case.record.round + 1).min(255), 7),
+            7 => case.record.state = State::Taken(0, 0),
+            8 => case.record.state = State::Waiting,
+            9 | 10 => case
+                .said
+                .resize(rng.pick(&[0, n as usize - 1, n as usize + 1]), 7),
+            _ => overfill(rng, case),
+        }
+    }
+}
+
+fn overfill(rng: &mut Rng, case: &mut StepCase) {
+    let heard = case.place.heard.iter().copied();
+    let rows: Vec<u32> = heard.filter(|&neighbour| neighbour < ROWS).collect();
+    if !rows.is_empty() {
+        let count = over_full(rng, case.record.round);
+        case.record.row_mut(rng.pick(&rows)).count = count;
+    }
+}
