@@ -12,7 +12,7 @@ use borrow.Author.Tests.{eq-eqb, ne-eqb, eqb-true}
 use Rattle.sets.specs.Tests.{_and_, _or_}
 use Rattle.sets.specs.Sets.{mem, all}
 use Rattle.sets.proofs.Bools.{clash, decide, no-by, and-l, and-r, and-i, or-e, not-i, not-e, pick-yes, pick-case}
-use Rattle.sets.proofs.Laws.{all-at, all-not}
+use Rattle.sets.proofs.Laws.{equal-or-not, all-at, all-not}
 use Rattle.quorum.proofs.Laws.{enough-none}
 use Rattle.terminal.specs.Rule.{among, withWord, noted, valuesOf, hasNoted, certified, firstOf, lesser, least, leastOf, candidate, leastFrom, choice}
 use Rattle.terminal.proofs.Values.{first-among, unheard-word}
@@ -155,14 +155,10 @@ pub least-same : (n : ℕ) (g h : ℕ → ℕ)
     → least n g ≡ least n h
 least-same n g h there back =
     ⊎-elim
-    (λ z. ⊎-elim (λ y. z ∙ sym y) (λ y. absurd (below g h back y (least-none n g z))) (zero-or (least n h)))
-    (λ z. ⊎-elim (λ y. absurd (below h g there z (least-none n h y))) (λ y. antisym (bound g h back z y) (bound h g there y z)) (zero-or (least n h)))
-    (zero-or (least n g))
+    (λ z. ⊎-elim (λ y. z ∙ sym y) (λ y. absurd (below g h back y (least-none n g z))) (equal-or-not (least n h) 0))
+    (λ z. ⊎-elim (λ y. absurd (below h g there z (least-none n h y))) (λ y. antisym (bound g h back z y) (bound h g there y z)) (equal-or-not (least n h) 0))
+    (equal-or-not (least n g) 0)
   where
-    zero-or : (v : ℕ) → (v ≡ 0) ⊎ (v ≡ 0 → ⊥)
-    zero-or zero = inl refl
-    zero-or (suc v) = inr (λ z. omega arith)
-
     antisym : {a b : ℕ} → a ≤ b → b ≤ a → a ≡ b
     antisym p q = omega arith
 

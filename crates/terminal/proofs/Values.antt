@@ -15,13 +15,14 @@ use Rattle.terminal.specs.Rule.{among, isNew, withWord, firstOf}
 
 -- ---- among
 
+or-none : (b : Bool) → (b or false) ≡ b
+unfolding _or_
+or-none true = refl
+or-none false = refl
+
 pub among-last : (v w : ℕ) (values : List ℕ) → among v (values ++ (w ∷ [])) ≡ among v values or eqb w v
 unfolding among _or_
-among-last v w [] = or-false (eqb w v)
-  where
-    or-false : (b : Bool) → (b or false) ≡ b
-    or-false true = refl
-    or-false false = refl
+among-last v w [] = or-none (eqb w v)
 among-last v w (x ∷ values) = ap (λ (b : Bool). eqb x v or b) (among-last v w values) ∙ regroup (eqb x v) (among v values) (eqb w v)
   where
     regroup : (a b d : Bool) → (a or (b or d)) ≡ ((a or b) or d)
@@ -36,12 +37,8 @@ among-at (x ∷ values) zero k = or-l _ _ (eq-eqb x x refl)
 among-at (x ∷ values) (suc i) k = or-r _ _ (among-at values i (le-of-suc-le-suc k))
 
 pub among-one : (v x : ℕ) → among v (x ∷ []) ≡ eqb x v
-unfolding among _or_
-among-one v x = or-false (eqb x v)
-  where
-    or-false : (b : Bool) → (b or false) ≡ b
-    or-false true = refl
-    or-false false = refl
+unfolding among
+among-one v x = or-none (eqb x v)
 
 pub first-among : (values : List ℕ) → (firstOf values ≡ 0 → ⊥) → among (firstOf values) values ≡ true
 unfolding firstOf among

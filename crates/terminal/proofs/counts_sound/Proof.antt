@@ -46,28 +46,34 @@ loop-less : tie.Need-loop-less Inv-loop μ-loop
 loop-less c = search needs
 
 loop-again : tie.Need-loop-again Inv-loop μ-loop
-loop-again c = (
-  omega arith,
-  all-next (c .before .before .before .before .before .loop .j) (λ i. mem i (c .before .before .before .before .before .before .args .heard) implies leb (noteOf (c .before .before .before .before .before .before .args .t2) i .count) (c .before .before .before .before .before .before .args .round)) (c .before .before .before .before .before .loop .inv .1)
-      (ap (λ (b : Bool). b implies leb (noteOf (c .before .before .before .before .before .before .args .t2) (c .before .before .before .before .before .loop .j) .count) (c .before .before .before .before .before .before .args .round)) (sym (c .before .before .before .member .ensures)) ∙ sym (c .before .count-sound .ensures .0) ∙ c .if1 .taken),
-  below-more (λ (i : ℕ). length (noteOf (c .before .before .before .before .before .before .args .t2) i .values) ≡ 40) (c .before .before .before .before .before .loop .j) (c .before .before .before .before .before .loop .inv .2) (c .before .count-sound .ensures .1),
-)
+loop-again c =
+    let a = c .before .before .before .before .before .before .args in
+    let l = c .before .before .before .before .before .loop in (
+      omega arith,
+      all-next (l .j) (λ i. mem i (a .heard) implies leb (noteOf (a .t2) i .count) (a .round)) (l .inv .1)
+          (ap (λ (b : Bool). b implies leb (noteOf (a .t2) (l .j) .count) (a .round)) (sym (c .before .before .before .member .ensures)) ∙ sym (c .before .count-sound .ensures .0) ∙ c .if1 .taken),
+      below-more (λ (i : ℕ). length (noteOf (a .t2) i .values) ≡ 40) (l .j) (l .inv .2) (c .before .count-sound .ensures .1),
+    )
 
 returns : tie.Need-returns Inv-loop μ-loop
 unfolding countsSound
-returns c = (
-  sym
-      (all-no 20 (λ i. mem i (c .before .before .before .before .before .before .args .heard) implies leb (noteOf (c .before .before .before .before .before .before .args .t2) i .count) (c .before .before .before .before .before .before .args .round)) (c .before .before .before .before .before .loop .j) (omega arith)
-      (ap (λ (b : Bool). b implies leb (noteOf (c .before .before .before .before .before .before .args .t2) (c .before .before .before .before .before .loop .j) .count) (c .before .before .before .before .before .before .args .round)) (sym (c .before .before .before .member .ensures)) ∙ sym (c .before .count-sound .ensures .0) ∙ c .if1 .left)),
-  λ t. clash t refl,
-)
+returns c =
+    let a = c .before .before .before .before .before .before .args in
+    let l = c .before .before .before .before .before .loop in (
+      sym
+          (all-no 20 (λ i. mem i (a .heard) implies leb (noteOf (a .t2) i .count) (a .round)) (l .j) (omega arith)
+          (ap (λ (b : Bool). b implies leb (noteOf (a .t2) (l .j) .count) (a .round)) (sym (c .before .before .before .member .ensures)) ∙ sym (c .before .count-sound .ensures .0) ∙ c .if1 .left)),
+      λ t. clash t refl,
+    )
 
 returns-2 : tie.Need-returns-2 Inv-loop μ-loop
 unfolding countsSound
 returns-2 c =
-    let e : c .before .loop .j ≡ 20 = omega arith in (
-      sym (ap (λ (k : ℕ). all k (λ i. mem i (c .before .before .args .heard) implies leb (noteOf (c .before .before .args .t2) i .count) (c .before .before .args .round))) (sym e) ∙ c .before .loop .inv .1),
-      λ t. record { twenty = search needs; forty = λ i k. c .before .loop .inv .2 i (omega arith) },
+    let a = c .before .before .args in
+    let l = c .before .loop in
+    let e : l .j ≡ 20 = omega arith in (
+      sym (ap (λ (k : ℕ). all k (λ i. mem i (a .heard) implies leb (noteOf (a .t2) i .count) (a .round))) (sym e) ∙ l .inv .1),
+      λ t. record { twenty = search needs; forty = λ i k. l .inv .2 i (omega arith) },
     )
 
 pub counts-sound-spec : {M : Type 1} → statement M

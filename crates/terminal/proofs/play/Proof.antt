@@ -21,22 +21,26 @@ enum-told c = search needs
 
 note-requires : tie.Need-note-requires
 note-requires c κs =
-    let e : c .before .before .advance .result .notes ≡ c .before .before .before .before .args .before .notes = ap (λ (r : Record). r .notes) (c .before .before .advance .ensures) in (
-      c .before .before .before .before .pre .0,
-      c .before .before .before .before .pre .2,
-      subst Whole (sym e) (c .before .before .before .before .pre .4),
-      subst (Room (c .before .before .before .before .args .heard)) (sym e) (c .before .before .before .before .pre .5),
+    let a = c .before .before .before .before .args in
+    let p = c .before .before .before .before .pre in
+    let e : c .before .before .advance .result .notes ≡ a .before .notes = ap (λ (r : Record). r .notes) (c .before .before .advance .ensures) in (
+      p .0,
+      p .2,
+      subst Whole (sym e) (p .4),
+      subst (Room (a .heard)) (sym e) (p .5),
     )
 
 decide-requires : tie.Need-decide-requires
 decide-requires c κs =
-    let e : c .before .before .before .advance .result .notes ≡ c .before .before .before .before .before .args .before .notes = ap (λ (r : Record). r .notes) (c .before .before .before .advance .ensures) in
+    let a = c .before .before .before .before .before .args in
+    let p = c .before .before .before .before .before .pre in
+    let e : c .before .before .before .advance .result .notes ≡ a .before .notes = ap (λ (r : Record). r .notes) (c .before .before .before .advance .ensures) in
     let q = ap (λ (r : Record). r .notes) (c .note .ensures) in (
-      c .before .before .before .before .before .pre .0,
-      c .before .before .before .before .before .pre .1,
-      subst Whole (sym q) (over-whole _ _ _ (subst Whole (sym e) (c .before .before .before .before .before .pre .4))),
-      subst (Fits (c .before .before .before .before .before .args .heard)) (sym q)
-          (noted-fits (c .before .before .before .before .before .args .heard) (c .before .before .before .advance .result .notes) (subst Whole (sym e) (c .before .before .before .before .before .pre .4)) (subst (Room (c .before .before .before .before .before .args .heard)) (sym e) (c .before .before .before .before .before .pre .5)) (c .before .before .before .before .before .args .n) _),
+      p .0,
+      p .1,
+      subst Whole (sym q) (over-whole _ _ _ (subst Whole (sym e) (p .4))),
+      subst (Fits (a .heard)) (sym q)
+          (noted-fits (a .heard) (c .before .before .before .advance .result .notes) (subst Whole (sym e) (p .4)) (subst (Room (a .heard)) (sym e) (p .5)) (a .n) _),
     )
 
 enum-told-2 : tie.Need-enum-told-2
@@ -44,23 +48,28 @@ enum-told-2 c = search needs
 
 returns : tie.Need-returns
 returns c =
-    waiting-shown (c .before .before .before .before .before .before .args .n) (c .before .before .before .before .before .before .args .source) (c .before .before .before .before .before .before .args .f) (c .before .before .before .before .before .before .args .heard) (λ j. getD (c .before .before .before .before .before .before .args .said .now) j 0) (c .before .before .before .before .before .before .args .before) (c .before .before .before .before .before .before .pre .4) (c .before .before .before .before .before .before .pre .5) (c .before .before .enum-told .given .1) (c .decide .result)
+    let a = c .before .before .before .before .before .before .args in
+    let p = c .before .before .before .before .before .before .pre in
+    waiting-shown (a .n) (a .source) (a .f) (a .heard) (λ j. getD (a .said .now) j 0) (a .before) (p .4) (p .5) (c .before .before .enum-told .given .1) (c .decide .result)
     (c .decide .ensures
     ∙ ap
     (λ (x : Record).
-    record { state = taking (x .round) (choice (c .before .before .before .before .before .before .args .n) (c .before .before .before .before .before .before .args .source) (c .before .before .before .before .before .before .args .f) (c .before .before .before .before .before .before .args .heard) (map valuesIn (x .notes))); round = x .round; notes = x .notes })
+    record { state = taking (x .round) (choice (a .n) (a .source) (a .f) (a .heard) (map valuesIn (x .notes))); round = x .round; notes = x .notes })
     (c .before .note .ensures
     ∙ ap
     (λ (y : Record).
     record {
       state = y .state;
       round = y .round;
-      notes = notesOver (λ j. mem j (c .before .before .before .before .before .before .args .heard)) (y .notes) (noted (c .before .before .before .before .before .before .args .n) (λ j. mem j (c .before .before .before .before .before .before .args .heard)) (λ j. getD (c .before .before .before .before .before .before .args .said .now) j 0) (map valuesIn (y .notes)));
+      notes = notesOver (λ j. mem j (a .heard)) (y .notes) (noted (a .n) (λ j. mem j (a .heard)) (λ j. getD (a .said .now) j 0) (map valuesIn (y .notes)));
     })
     (c .before .before .before .before .advance .ensures)))
 
 returns-2 : tie.Need-returns-2
-returns-2 c = taken-shown (c .before .before .before .before .args .n) (c .before .before .before .before .args .source) (c .before .before .before .before .args .f) (c .before .before .before .before .args .heard) (λ j. getD (c .before .before .before .before .args .said .now) j 0) (c .before .before .before .before .args .before) (c .before .before .before .before .pre .4) (c .before .before .before .before .pre .5) _ _ (c .enum-told2 .given .1) (c .before .before .advance .result) (c .before .before .advance .ensures)
+returns-2 c =
+    let a = c .before .before .before .before .args in
+    let p = c .before .before .before .before .pre in
+    taken-shown (a .n) (a .source) (a .f) (a .heard) (λ j. getD (a .said .now) j 0) (a .before) (p .4) (p .5) _ _ (c .enum-told2 .given .1) (c .before .before .advance .result) (c .before .before .advance .ensures)
 
 pub play-spec : {M : Type 1} → statement M
 play-spec =

@@ -46,16 +46,18 @@ loop-less c = search needs
 -- src/lib.rt:106:9
 loop-again : tie.Need-loop-again Inv-loop μ-loop
 loop-again c =
+    let turn = c .before .loop in
     let a = c .before .before .before .before .args in
     let l : length (a .self .values) ≡ 40 = search needs in
-    (omega arith, among-turn (a .value) (c .before .loop .i) (c .before .loop .found) (a .self .values) (omega arith) (c .before .loop .inv .1))
+    (omega arith, among-turn (a .value) (turn .i) (turn .found) (a .self .values) (omega arith) (turn .inv .1))
 
 -- src/lib.rt:98:5
 returns : tie.Need-returns Inv-loop μ-loop
 unfolding valuesIn
 returns c =
-    let e : c .before .loop .i ≡ c .before .before .before .before .args .self .count = omega arith in
-    rw e at (c .before .loop .inv .1)
+    let l = c .before .loop in
+    let e : l .i ≡ c .before .before .before .before .args .self .count = omega arith in
+    rw e at (l .inv .1)
 
 pub has-spec : {M : Type 1} → statement M
 has-spec =

@@ -41,18 +41,22 @@ member-requires c κs = search needs
 
 is-new-requires : tie.Need-is-new-requires Inv-loop μ-loop
 is-new-requires c κs =
+    let a = c .before .before .before .before .before .before .args in
+    let turn = c .before .before .before .before .loop in
     λ e.
-    let q : noteOf (c .before .before .before .before .loop .self .notes) (c .before .before .before .before .loop .j) .count ≡ noteOf (c .before .before .before .before .before .before .args .t1 .notes) (c .before .before .before .before .loop .j) .count =
-    ap (λ (m : Note). m .count) (c .before .before .before .before .loop .inv .1 .rest (c .before .before .before .before .loop .j) (le-refl (c .before .before .before .before .loop .j))) in
-    let l : noteOf (c .before .before .before .before .before .before .args .t1 .notes) (c .before .before .before .before .loop .j) .count < 40 = c .before .before .before .before .before .before .pre .3 (c .before .before .before .before .loop .j) (sym (c .member .ensures) ∙ e) in
+    let q : noteOf (turn .self .notes) (turn .j) .count ≡ noteOf (a .t1 .notes) (turn .j) .count =
+    ap (λ (m : Note). m .count) (turn .inv .1 .rest (turn .j) (le-refl (turn .j))) in
+    let l : noteOf (a .t1 .notes) (turn .j) .count < 40 = c .before .before .before .before .before .before .pre .3 (turn .j) (sym (c .member .ensures) ∙ e) in
     omega arith
 
 with-requires : tie.Need-with-requires Inv-loop μ-loop
 with-requires c κs =
-    let h = new-heard (c .before .before .member .result) (valuesIn (noteOf (c .before .before .before .before .before .before .loop .self .notes) (c .before .before .before .before .before .before .loop .j))) _ (sym (c .before .is-new .ensures) ∙ c .if1 .taken) in
-    let q : noteOf (c .before .before .before .before .before .before .loop .self .notes) (c .before .before .before .before .before .before .loop .j) .count ≡ noteOf (c .before .before .before .before .before .before .before .before .args .t1 .notes) (c .before .before .before .before .before .before .loop .j) .count =
-    ap (λ (m : Note). m .count) (c .before .before .before .before .before .before .loop .inv .1 .rest (c .before .before .before .before .before .before .loop .j) (le-refl (c .before .before .before .before .before .before .loop .j))) in
-    let l : noteOf (c .before .before .before .before .before .before .before .before .args .t1 .notes) (c .before .before .before .before .before .before .loop .j) .count < 40 = c .before .before .before .before .before .before .before .before .pre .3 (c .before .before .before .before .before .before .loop .j) (sym (c .before .before .member .ensures) ∙ h) in
+    let a = c .before .before .before .before .before .before .before .before .args in
+    let turn = c .before .before .before .before .before .before .loop in
+    let h = new-heard (c .before .before .member .result) (valuesIn (noteOf (turn .self .notes) (turn .j))) _ (sym (c .before .is-new .ensures) ∙ c .if1 .taken) in
+    let q : noteOf (turn .self .notes) (turn .j) .count ≡ noteOf (a .t1 .notes) (turn .j) .count =
+    ap (λ (m : Note). m .count) (turn .inv .1 .rest (turn .j) (le-refl (turn .j))) in
+    let l : noteOf (a .t1 .notes) (turn .j) .count < 40 = c .before .before .before .before .before .before .before .before .pre .3 (turn .j) (sym (c .before .before .member .ensures) ∙ h) in
     omega arith
 
 mul-t18 : tie.Need-mul-t18 Inv-loop μ-loop
@@ -68,13 +72,14 @@ loop-less : tie.Need-loop-less Inv-loop μ-loop
 loop-less c = search needs
 
 loop-again : tie.Need-loop-again Inv-loop μ-loop
-loop-again c = (
-  omega arith,
-  noting-new _ _ _ (c .before .before .before .before .before .before .before .loop .j) (c .before .before .before .before .before .before .before .loop .self) (c .before .before .before .before .before .before .before .loop .inv .1) (omega arith) (c .with .result)
-      (ap (λ (b : Bool). isNew b (valuesIn (noteOf (c .before .before .before .before .before .before .before .loop .self .notes) (c .before .before .before .before .before .before .before .loop .j))) (getD (c .before .before .before .before .before .before .before .before .before .args .said .now) (c .before .before .before .before .before .before .before .loop .j) 0)) (sym (c .before .before .before .member .ensures))
-      ∙ sym (c .before .before .is-new .ensures) ∙ c .before .if1 .taken)
-      (c .with .ensures),
-)
+loop-again c =
+    let l = c .before .before .before .before .before .before .before .loop in (
+      omega arith,
+      noting-new _ _ _ (l .j) (l .self) (l .inv .1) (omega arith) (c .with .result)
+          (ap (λ (b : Bool). isNew b (valuesIn (noteOf (l .self .notes) (l .j))) (getD (c .before .before .before .before .before .before .before .before .before .args .said .now) (l .j) 0)) (sym (c .before .before .before .member .ensures))
+          ∙ sym (c .before .before .is-new .ensures) ∙ c .before .if1 .taken)
+          (c .with .ensures),
+    )
 
 add-j-2 : tie.Need-add-j-2 Inv-loop μ-loop
 add-j-2 c = search needs
@@ -83,17 +88,21 @@ loop-less-2 : tie.Need-loop-less-2 Inv-loop μ-loop
 loop-less-2 c = search needs
 
 loop-again-2 : tie.Need-loop-again-2 Inv-loop μ-loop
-loop-again-2 c = (
-  omega arith,
-  noting-old _ _ _ (c .before .before .before .before .before .before .loop .j) (c .before .before .before .before .before .before .loop .self) (c .before .before .before .before .before .before .loop .inv .1) (omega arith)
-      (ap (λ (b : Bool). isNew b (valuesIn (noteOf (c .before .before .before .before .before .before .loop .self .notes) (c .before .before .before .before .before .before .loop .j))) (getD (c .before .before .before .before .before .before .before .before .args .said .now) (c .before .before .before .before .before .before .loop .j) 0)) (sym (c .before .before .member .ensures))
-      ∙ sym (c .before .is-new .ensures) ∙ c .if1 .left),
-)
+loop-again-2 c =
+    let l = c .before .before .before .before .before .before .loop in (
+      omega arith,
+      noting-old _ _ _ (l .j) (l .self) (l .inv .1) (omega arith)
+          (ap (λ (b : Bool). isNew b (valuesIn (noteOf (l .self .notes) (l .j))) (getD (c .before .before .before .before .before .before .before .before .args .said .now) (l .j) 0)) (sym (c .before .before .member .ensures))
+          ∙ sym (c .before .is-new .ensures) ∙ c .if1 .left),
+    )
 
 returns : tie.Need-returns Inv-loop μ-loop
 returns c =
-    let e : c .before .before .before .args .n ≡ c .before .loop .j = omega arith in
-    rw e (noting-ends _ _ (c .before .before .before .args .t1) (c .before .loop .j) (c .before .loop .self) (c .before .loop .inv .1) (c .before .before .before .pre .2) (c .before .before .before .pre .3))
+    let a = c .before .before .before .args in
+    let l = c .before .loop in
+    let p = c .before .before .before .pre in
+    let e : a .n ≡ l .j = omega arith in
+    rw e (noting-ends _ _ (a .t1) (l .j) (l .self) (l .inv .1) (p .2) (p .3))
 
 pub note-spec : {M : Type 1} → statement M
 note-spec =

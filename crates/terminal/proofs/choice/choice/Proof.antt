@@ -23,19 +23,23 @@ member-requires c κs = search needs
 
 returns : tie.Need-returns
 returns c =
+    let a = c .before .before .before .before .before .before .args in
+    let p = c .before .before .before .before .before .before .pre in
     let e = c .before .before .before .before .before .first-values .ensures in
-    direct-yes (c .before .before .before .before .before .before .args .n) (c .before .before .before .before .before .before .args .f) (c .before .before .before .before .before .before .args .heard) (c .before .before .before .before .before .before .args .notes) (c .before .before .before .before .before .before .pre .0) (c .before .before .before .before .before .before .pre .2) (c .before .before .before .before .before .first-values .result .values) (e .2) (c .before .before .before .before .before .before .args .source) (c .before .before .before .before .before .before .pre .1)
-    (sym (λ i. mem (c .before .before .before .before .before .before .args .source) (bitOr (e .0 i) (e .1 i))) ∙ sym (c .before .before .member .ensures) ∙ c .before .if1 .taken) (c .if2 .taken)
+    direct-yes (a .n) (a .f) (a .heard) (a .notes) (p .0) (p .2) (c .before .before .before .before .before .first-values .result .values) (e .2) (a .source) (p .1)
+    (sym (λ i. mem (a .source) (bitOr (e .0 i) (e .1 i))) ∙ sym (c .before .before .member .ensures) ∙ c .before .if1 .taken) (c .if2 .taken)
 
 least-certified-requires : tie.Need-least-certified-requires
 least-certified-requires c κs = search needs
 
 returns-2 : tie.Need-returns-2
 returns-2 c =
+    let a = c .before .before .before .before .before .before .args in
+    let p = c .before .before .before .before .before .before .pre in
     let e = c .before .before .before .before .before .first-values .ensures in
-    let same = sym (λ i. mem (c .before .before .before .before .before .before .args .source) (bitOr (e .0 i) (e .1 i))) in
+    let same = sym (λ i. mem (a .source) (bitOr (e .0 i) (e .1 i))) in
     c .least-certified .ensures
-    ∙ direct-no (c .before .before .before .before .before .before .args .n) (c .before .before .before .before .before .before .args .f) (c .before .before .before .before .before .before .args .heard) (c .before .before .before .before .before .before .args .notes) (c .before .before .before .before .before .before .pre .0) (c .before .before .before .before .before .before .pre .2) (c .before .before .before .before .before .first-values .result .values) (e .2) (c .before .before .before .before .before .before .args .source) (c .before .before .before .before .before .before .pre .1)
+    ∙ direct-no (a .n) (a .f) (a .heard) (a .notes) (p .0) (p .2) (c .before .before .before .before .before .first-values .result .values) (e .2) (a .source) (p .1)
     (⊎-elim (λ w. inl (same ∙ sym (c .before .before .member .ensures) ∙ w .0 .taken, w .1 .left)) (λ w. inr (same ∙ sym (c .before .before .member .ensures) ∙ w .left)) (c .before .if1 .came))
 
 pub choice-spec : {M : Type 1} → statement M

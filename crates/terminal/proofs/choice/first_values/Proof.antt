@@ -72,25 +72,29 @@ loop-less c = search needs
 
 loop-again : tie.Need-loop-again Inv-loop μ-loop
 unfolding firstPlace
-loop-again c = (
-  omega arith,
-  next-bit _ _ _ _ (omega arith) (c .before .before .before .loop .inv .1) (byte-bit (eqb (noteOf (c .before .before .before .before .args .t1) (c .before .before .before .loop .j) .count) 1)),
-  next-bit _ _ _ _ (omega arith) (c .before .before .before .loop .inv .2) (byte-bit (ltb 1 (noteOf (c .before .before .before .before .args .t1) (c .before .before .before .loop .j) .count))),
-  filled-more (firstPlace (c .before .before .before .before .args .t1)) (c .before .before .before .loop .values) (c .before .before .before .loop .j) _ (let l = c .before .before .before .loop .inv .4 in omega arith) refl (c .before .before .before .loop .inv .3),
-  length-set (c .before .before .before .loop .values) (c .before .before .before .loop .j) _ ∙ c .before .before .before .loop .inv .4,
-)
+loop-again c =
+    let a = c .before .before .before .before .args in
+    let turn = c .before .before .before .loop in (
+      omega arith,
+      next-bit _ _ _ _ (omega arith) (turn .inv .1) (byte-bit (eqb (noteOf (a .t1) (turn .j) .count) 1)),
+      next-bit _ _ _ _ (omega arith) (turn .inv .2) (byte-bit (ltb 1 (noteOf (a .t1) (turn .j) .count))),
+      filled-more (firstPlace (a .t1)) (turn .values) (turn .j) _ (let l = turn .inv .4 in omega arith) refl (turn .inv .3),
+      length-set (turn .values) (turn .j) _ ∙ turn .inv .4,
+    )
 
 returns : tie.Need-returns Inv-loop μ-loop
 unfolding singleIn fickleIn
 returns c =
-    let e : c .before .loop .j ≡ c .before .before .args .n = omega arith in (
-      ap (λ (x : ℕ). bitAnd x (c .before .before .args .heard)) (c .before .loop .inv .1)
-          ∙ mask-and (c .before .loop .j) (λ i. eqb (noteOf (c .before .before .args .t1) i .count) 1) (c .before .before .args .heard)
-          ∙ ap (λ (k : ℕ). mask k (λ i. eqb (noteOf (c .before .before .args .t1) i .count) 1 and mem i (c .before .before .args .heard))) e,
-      ap (λ (x : ℕ). bitAnd x (c .before .before .args .heard)) (c .before .loop .inv .2)
-          ∙ mask-and (c .before .loop .j) (λ i. ltb 1 (noteOf (c .before .before .args .t1) i .count)) (c .before .before .args .heard)
-          ∙ ap (λ (k : ℕ). mask k (λ i. ltb 1 (noteOf (c .before .before .args .t1) i .count) and mem i (c .before .before .args .heard))) e,
-      λ i k. c .before .loop .inv .3 i (omega arith),
+    let a = c .before .before .args in
+    let l = c .before .loop in
+    let e : l .j ≡ a .n = omega arith in (
+      ap (λ (x : ℕ). bitAnd x (a .heard)) (l .inv .1)
+          ∙ mask-and (l .j) (λ i. eqb (noteOf (a .t1) i .count) 1) (a .heard)
+          ∙ ap (λ (k : ℕ). mask k (λ i. eqb (noteOf (a .t1) i .count) 1 and mem i (a .heard))) e,
+      ap (λ (x : ℕ). bitAnd x (a .heard)) (l .inv .2)
+          ∙ mask-and (l .j) (λ i. ltb 1 (noteOf (a .t1) i .count)) (a .heard)
+          ∙ ap (λ (k : ℕ). mask k (λ i. ltb 1 (noteOf (a .t1) i .count) and mem i (a .heard))) e,
+      λ i k. l .inv .3 i (omega arith),
     )
 
 pub first-values-spec : {M : Type 1} → statement M

@@ -15,11 +15,15 @@ cast-if1 c = let l = size-le (c .args .who) in omega (arith, ones-size (c .args 
 
 returns : tie.Need-returns
 unfolding ifMany
-returns c = sym (pick-yes _ _ _ (lt-ltb (c .before .args .f) (size 32 (c .before .args .who)) (let e = ones-size (c .before .args .who) (search needs) in let t = c .if1 .taken in omega arith)))
+returns c =
+    let a = c .before .args in
+    sym (pick-yes _ _ _ (lt-ltb (a .f) (size 32 (a .who)) (let e = ones-size (a .who) (search needs) in let t = c .if1 .taken in omega arith)))
 
 returns-2 : tie.Need-returns-2
 unfolding ifMany
-returns-2 c = sym (pick-no _ _ _ (le-ltb (c .before .args .f) (size 32 (c .before .args .who)) (let e = ones-size (c .before .args .who) (search needs) in let t = c .if1 .left in omega arith)))
+returns-2 c =
+    let a = c .before .args in
+    sym (pick-no _ _ _ (le-ltb (a .f) (size 32 (a .who)) (let e = ones-size (a .who) (search needs) in let t = c .if1 .left in omega arith)))
 
 pub if-many-spec : {M : Type 1} → statement M
 if-many-spec = tie.close (tie.spec cast-if1 returns returns-2)

@@ -8,16 +8,23 @@ use Rattle.terminal.proofs.choice.least_certified.Statement.{statement}
 use Rattle.terminal.proofs.choice.least_certified.Tie as tie
 
 cast-if1 : tie.Need-cast-if1
-cast-if1 c = let l = size-le (c .before .args .first .fickle) in omega (arith, ones-size (c .before .args .first .fickle) (search needs))
+cast-if1 c =
+    let a = c .before .args in
+    let l = size-le (a .first .fickle) in omega (arith, ones-size (a .first .fickle) (search needs))
 
 least-of-firsts-requires : tie.Need-least-of-firsts-requires
-least-of-firsts-requires c κs = (c .before .before .pre .0, λ j m. c .before .before .pre .2 j (fickle-heard (c .before .before .args .n) (c .before .before .args .f) (c .before .before .args .heard) (c .before .before .args .notes) (c .before .before .pre .0) (c .before .before .pre .1) (c .before .before .args .first .values) (c .before .before .pre .5) j (ap (mem j) (sym (c .before .before .pre .4)) ∙ m)))
+least-of-firsts-requires c κs =
+    let a = c .before .before .args in
+    let p = c .before .before .pre in
+    (p .0, λ j m. p .2 j (fickle-heard (a .n) (a .f) (a .heard) (a .notes) (p .0) (p .1) (a .first .values) (p .5) j (ap (mem j) (sym (p .4)) ∙ m)))
 
 returns : tie.Need-returns
 returns c =
+    let a = c .before .before .before .args in
+    let p = c .before .before .before .pre in
     c .least-of-firsts .ensures
-    ∙ firsts-found (c .before .before .before .args .n) (c .before .before .before .args .f) (c .before .before .before .args .heard) (c .before .before .before .args .notes) (c .before .before .before .pre .0) (c .before .before .before .pre .1) (c .before .before .before .args .first .values) (c .before .before .before .pre .5) (c .before .before .before .args .first .single) (c .before .before .before .args .first .fickle) (c .before .before .before .pre .3) (c .before .before .before .pre .4)
-    (let e = ones-size (c .before .before .before .args .first .fickle) (search needs) in let t = c .before .if1 .taken in omega arith)
+    ∙ firsts-found (a .n) (a .f) (a .heard) (a .notes) (p .0) (p .1) (a .first .values) (p .5) (a .first .single) (a .first .fickle) (p .3) (p .4)
+    (let e = ones-size (a .first .fickle) (search needs) in let t = c .before .if1 .taken in omega arith)
 
 least-of-all-requires : tie.Need-least-of-all-requires
 least-of-all-requires c κs = search needs

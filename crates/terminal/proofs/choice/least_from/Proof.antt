@@ -19,13 +19,16 @@ array-copy-out-least-of : tie.Need-array-copy-out-least-of
 array-copy-out-least-of c = search needs
 
 least-of-requires : tie.Need-least-of-requires
-least-of-requires c κs = (c .before .before .before .pre .0, c .before .before .before .pre .2, c .before .before .before .pre .2 (c .before .before .before .args .j) (sym (c .before .before .member .ensures) ∙ c .before .if1 .taken))
+least-of-requires c κs =
+    let p = c .before .before .before .pre in
+    (p .0, p .2, p .2 (c .before .before .before .args .j) (sym (c .before .before .member .ensures) ∙ c .before .if1 .taken))
 
 returns : tie.Need-returns
 unfolding leastFrom
 returns c =
+    let a = c .before .before .before .before .args in
     c .least-of .ensures
-    ∙ ap (leastOf (candidate (c .before .before .before .before .args .n) (c .before .before .before .before .args .f) (c .before .before .before .before .args .heard) (map valuesIn (c .before .before .before .before .args .t1)))) (sym (view-values (c .before .before .before .before .args .t1) (c .before .before .before .before .args .j)))
+    ∙ ap (leastOf (candidate (a .n) (a .f) (a .heard) (map valuesIn (a .t1)))) (sym (view-values (a .t1) (a .j)))
     ∙ sym (pick-yes _ _ _ (sym (c .before .before .before .member .ensures) ∙ c .before .before .if1 .taken))
 
 returns-2 : tie.Need-returns-2

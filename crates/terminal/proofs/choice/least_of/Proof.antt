@@ -49,20 +49,24 @@ loop-less c = search needs
 
 loop-again : tie.Need-loop-again Inv-loop μ-loop
 loop-again c =
-    let l : length (c .before .before .before .before .before .before .before .args .note .values) ≡ 40 = search needs in (
+    let a = c .before .before .before .before .before .before .before .args in
+    let turn = c .before .before .before .before .loop in
+    let l : length (a .note .values) ≡ 40 = search needs in (
       omega arith,
       c .lesser .ensures
-          ∙ least-of-turn (c .before .before .before .before .loop .i) (c .before .before .before .before .loop .best) (c .before .if-many .result) (candidate (c .before .before .before .before .before .before .before .args .n) (c .before .before .before .before .before .before .before .args .f) (c .before .before .before .before .before .before .before .args .heard) (map valuesIn (c .before .before .before .before .before .before .before .args .notes))) (c .before .before .before .before .before .before .before .args .note .values) (omega arith)
-          (c .before .before .before .before .loop .inv .1)
-          (c .before .if-many .ensures ∙ ap (λ (s : ℕ). ifMany (c .before .before .before .before .before .before .before .args .f) s (getD (c .before .before .before .before .before .before .before .args .note .values) (c .before .before .before .before .loop .i) 0)) (c .before .before .voters .ensures)
-          ∙ voters-candidate (c .before .before .before .before .before .before .before .args .n) (c .before .before .before .before .before .before .before .args .f) (c .before .before .before .before .before .before .before .args .heard) (c .before .before .before .before .before .before .before .args .notes) (c .before .before .before .before .before .before .before .pre .0) (getD (c .before .before .before .before .before .before .before .args .note .values) (c .before .before .before .before .loop .i) 0)),
+          ∙ least-of-turn (turn .i) (turn .best) (c .before .if-many .result) (candidate (a .n) (a .f) (a .heard) (map valuesIn (a .notes))) (a .note .values) (omega arith)
+          (turn .inv .1)
+          (c .before .if-many .ensures ∙ ap (λ (s : ℕ). ifMany (a .f) s (getD (a .note .values) (turn .i) 0)) (c .before .before .voters .ensures)
+          ∙ voters-candidate (a .n) (a .f) (a .heard) (a .notes) (c .before .before .before .before .before .before .before .pre .0) (getD (a .note .values) (turn .i) 0)),
     )
 
 returns : tie.Need-returns Inv-loop μ-loop
 unfolding valuesIn
 returns c =
-    let e : c .before .loop .i ≡ c .before .before .before .before .args .note .count = omega arith in
-    c .before .loop .inv .1 ∙ ap (λ (k : ℕ). leastOf (candidate (c .before .before .before .before .args .n) (c .before .before .before .before .args .f) (c .before .before .before .before .args .heard) (map valuesIn (c .before .before .before .before .args .notes))) (take k (c .before .before .before .before .args .note .values))) e
+    let a = c .before .before .before .before .args in
+    let l = c .before .loop in
+    let e : l .i ≡ a .note .count = omega arith in
+    l .inv .1 ∙ ap (λ (k : ℕ). leastOf (candidate (a .n) (a .f) (a .heard) (map valuesIn (a .notes))) (take k (a .note .values))) e
 
 pub least-of-spec : {M : Type 1} → statement M
 least-of-spec =

@@ -37,8 +37,10 @@ loop-again c = (omega arith, c .lesser .ensures ∙ least-turn _ _ _ _ (c .befor
 
 returns : tie.Need-returns Inv-loop μ-loop
 returns c =
-    let e : c .before .loop .j ≡ c .before .before .args .n = omega arith in
-    c .before .loop .inv .1 ∙ ap (λ (k : ℕ). least k (leastFrom (c .before .before .args .n) (c .before .before .args .f) (c .before .before .args .heard) (map valuesIn (c .before .before .args .notes)))) e
+    let a = c .before .before .args in
+    let l = c .before .loop in
+    let e : l .j ≡ a .n = omega arith in
+    l .inv .1 ∙ ap (λ (k : ℕ). least k (leastFrom (a .n) (a .f) (a .heard) (map valuesIn (a .notes)))) e
 
 pub least-of-all-spec : {M : Type 1} → statement M
 least-of-all-spec =

@@ -47,10 +47,12 @@ loop-less c = search needs
 
 loop-again : tie.Need-loop-again Inv-loop μ-loop
 loop-again c =
+    let a = c .before .before .before .before .before .before .before .before .args in
+    let l = c .before .before .before .before .before .before .loop in
     let low : Fits w32 (c .before .before .same .result) = search needs in (
       omega arith,
       (let e = c .lesser .ensures in
-          rw e (looked-at (c .before .before .before .before .before .before .before .before .args .n) (c .before .before .before .before .before .before .before .before .args .f) (c .before .before .before .before .before .before .before .before .args .notes) (c .before .before .before .before .before .before .before .before .args .first .values) (c .before .before .before .before .before .before .before .before .args .first .single) (c .before .before .before .before .before .before .before .before .args .first .fickle) (c .before .before .before .before .before .before .loop .j) (c .before .before .before .before .before .before .loop .best) (c .before .before .before .before .before .before .loop .rest) (c .before .before .before .before .before .before .loop .inv .1) (omega arith) (c .before .before .before .before .before .before .before .before .pre .0)
+          rw e (looked-at (a .n) (a .f) (a .notes) (a .first .values) (a .first .single) (a .first .fickle) (l .j) (l .best) (l .rest) (l .inv .1) (omega arith) (c .before .before .before .before .before .before .before .before .pre .0)
           (c .before .before .same .result) (c .before .judged .result) (sym (c .before .before .before .before .member .ensures) ∙ c .before .before .before .if1 .taken) low (c .before .before .same .ensures) (c .before .judged .ensures))),
     )
 
@@ -61,16 +63,20 @@ loop-less-2 : tie.Need-loop-less-2 Inv-loop μ-loop
 loop-less-2 c = search needs
 
 loop-again-2 : tie.Need-loop-again-2 Inv-loop μ-loop
-loop-again-2 c = (
-  omega arith,
-  looked-past (c .before .before .before .before .before .args .n) (c .before .before .before .before .before .args .f) (c .before .before .before .before .before .args .notes) (c .before .before .before .before .before .args .first .values) (c .before .before .before .before .before .args .first .single) (c .before .before .before .before .before .args .first .fickle) (c .before .before .before .loop .j) (c .before .before .before .loop .best) (c .before .before .before .loop .rest) (c .before .before .before .loop .inv .1) (omega arith)
-      (sym (c .before .member .ensures) ∙ c .if1 .left),
-)
+loop-again-2 c =
+    let a = c .before .before .before .before .before .args in
+    let l = c .before .before .before .loop in (
+      omega arith,
+      looked-past (a .n) (a .f) (a .notes) (a .first .values) (a .first .single) (a .first .fickle) (l .j) (l .best) (l .rest) (l .inv .1) (omega arith)
+          (sym (c .before .member .ensures) ∙ c .if1 .left),
+    )
 
 returns : tie.Need-returns Inv-loop μ-loop
 returns c =
-    let e : c .before .loop .j ≡ c .before .before .before .args .n = omega arith in
-    c .before .loop .inv .1 .least-is ∙ ap (λ (k : ℕ). least k (fromFirst (c .before .before .before .args .n) (c .before .before .before .args .f) (c .before .before .before .args .notes) (c .before .before .before .args .first .values) (c .before .before .before .args .first .single) (c .before .before .before .args .first .fickle))) e
+    let a = c .before .before .before .args in
+    let l = c .before .loop in
+    let e : l .j ≡ a .n = omega arith in
+    l .inv .1 .least-is ∙ ap (λ (k : ℕ). least k (fromFirst (a .n) (a .f) (a .notes) (a .first .values) (a .first .single) (a .first .fickle))) e
 
 pub least-of-firsts-spec : {M : Type 1} → statement M
 least-of-firsts-spec =

@@ -13,10 +13,14 @@ returns-2 : tie.Need-returns-2
 returns-2 c = simp (c .if2 .taken, lesser-none)
 
 returns-3 : tie.Need-returns-3
-returns-3 c = omega (arith, lesser-some (c .before .before .before .args .a) (c .before .before .before .args .b) (omega arith) (omega arith))
+returns-3 c =
+    let a = c .before .before .before .args in
+    omega (arith, lesser-some (a .a) (a .b) (omega arith) (omega arith))
 
 returns-4 : tie.Need-returns-4
-returns-4 c = omega (arith, lesser-some (c .before .before .before .args .a) (c .before .before .before .args .b) (omega arith) (omega arith))
+returns-4 c =
+    let a = c .before .before .before .args in
+    omega (arith, lesser-some (a .a) (a .b) (omega arith) (omega arith))
 
 pub lesser-spec : {M : Type 1} → statement M
 lesser-spec = tie.close (tie.spec returns returns-2 returns-3 returns-4)

@@ -45,15 +45,20 @@ loop-less : tie.Need-loop-less Inv-loop μ-loop
 loop-less c = search needs
 
 loop-again : tie.Need-loop-again Inv-loop μ-loop
-loop-again c = (omega arith, next-bit _ _ _ _ (omega arith) (c .before .loop .inv .1) (byte-bit (eqb (getD (c .before .before .args .t1) (c .before .loop .j) 0) (c .before .before .args .value))))
+loop-again c =
+    let a = c .before .before .args in
+    let l = c .before .loop in
+    (omega arith, next-bit _ _ _ _ (omega arith) (l .inv .1) (byte-bit (eqb (getD (a .t1) (l .j) 0) (a .value))))
 
 returns : tie.Need-returns Inv-loop μ-loop
 unfolding sameIn
 returns c =
-    let e : c .before .loop .j ≡ c .before .before .args .n = omega arith in
-    ap (λ (x : ℕ). bitAnd x (c .before .before .args .rows)) (c .before .loop .inv .1)
-    ∙ mask-and (c .before .loop .j) (λ i. eqb (getD (c .before .before .args .t1) i 0) (c .before .before .args .value)) (c .before .before .args .rows)
-    ∙ ap (λ (k : ℕ). mask k (λ i. eqb (getD (c .before .before .args .t1) i 0) (c .before .before .args .value) and mem i (c .before .before .args .rows))) e
+    let a = c .before .before .args in
+    let l = c .before .loop in
+    let e : l .j ≡ a .n = omega arith in
+    ap (λ (x : ℕ). bitAnd x (a .rows)) (l .inv .1)
+    ∙ mask-and (l .j) (λ i. eqb (getD (a .t1) i 0) (a .value)) (a .rows)
+    ∙ ap (λ (k : ℕ). mask k (λ i. eqb (getD (a .t1) i 0) (a .value) and mem i (a .rows))) e
 
 pub same-spec : {M : Type 1} → statement M
 same-spec =

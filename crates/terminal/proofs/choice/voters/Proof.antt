@@ -51,18 +51,22 @@ loop-less : tie.Need-loop-less Inv-loop μ-loop
 loop-less c = search needs
 
 loop-again : tie.Need-loop-again Inv-loop μ-loop
-loop-again c = (
-  omega arith,
-  next-bit _ _ _ _ (omega arith) (c .before .before .before .before .loop .inv .1)
-      (byte-bit (c .voted .result)
-      ∙ ap bit (c .voted .ensures ∙ ap (λ (b : Bool). b and among (c .before .before .before .before .before .args .value) (valuesIn (noteOf (c .before .before .before .before .before .args .t1) (c .before .before .before .before .loop .j)))) (c .before .before .member .ensures))),
-)
+loop-again c =
+    let a = c .before .before .before .before .before .args in
+    let l = c .before .before .before .before .loop in (
+      omega arith,
+      next-bit _ _ _ _ (omega arith) (l .inv .1)
+          (byte-bit (c .voted .result)
+          ∙ ap bit (c .voted .ensures ∙ ap (λ (b : Bool). b and among (a .value) (valuesIn (noteOf (a .t1) (l .j)))) (c .before .before .member .ensures))),
+    )
 
 returns : tie.Need-returns Inv-loop μ-loop
 unfolding votersIn
 returns c =
-    let e : c .before .loop .j ≡ c .before .before .args .n = omega arith in
-    c .before .loop .inv .1 ∙ ap (λ (k : ℕ). mask k (λ i. mem i (c .before .before .args .rows) and among (c .before .before .args .value) (valuesIn (noteOf (c .before .before .args .t1) i)))) e
+    let a = c .before .before .args in
+    let l = c .before .loop in
+    let e : l .j ≡ a .n = omega arith in
+    l .inv .1 ∙ ap (λ (k : ℕ). mask k (λ i. mem i (a .rows) and among (a .value) (valuesIn (noteOf (a .t1) i)))) e
 
 pub voters-spec : {M : Type 1} → statement M
 voters-spec =
