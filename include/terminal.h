@@ -52,7 +52,7 @@ extern "C" {
 #define HULMAYEK_WRONG_LENGTH 12
 #define HULMAYEK_WRONG_RECORD 13
 
-/* A row: what a terminal has noted of one other.
+/* A note: what a terminal has noted of one other.
  *   count   how many values it has noted, at most one a round
  *   values  these values, in the order that they were first said: values[0] to values[count - 1]. No step
  *           looks at values[count] and those after it; in a record that only the functions below have
@@ -66,7 +66,7 @@ typedef struct {
  *   taken   HULMAYEK_WAITING: at and value are 0; HULMAYEK_TAKEN: it took the layout `value` in round `at`.
  *           Any other bytes here are a record that no step takes: refused, HULMAYEK_WRONG_RECORD.
  *   round   how many rounds it has played
- *   notes   notes[j]: the row of terminal j, every different value that j said to it while it waited */
+ *   notes   notes[j]: the note of terminal j, every different value that j said to it while it waited */
 typedef struct {
     uint8_t taken;
     uint8_t at;
@@ -91,9 +91,9 @@ typedef struct {
  * ever stepped by hulmayek_step reaches that round and no later one, and keeps its layout. With any other
  * round the record is broken, or own is not below n.
  *
- * A value that stands twice in a row, or 0 among a row's values, is not refused: the row counts once for the
- * value, and 0 counts for nothing. Rows of terminals that it does not hear are not looked at, whatever their
- * count, and come back as they were. */
+ * A value that stands twice in a note, or 0 among a note's values, is not refused: the terminal counts once for
+ * the value, and 0 counts for nothing. Notes of terminals that it does not hear are not looked at, whatever
+ * their count, and come back as they were. */
 typedef struct {
     uint8_t number;
     hulmayek_record after;
@@ -110,11 +110,11 @@ hulmayek_record hulmayek_source_start(uint16_t value);
 /* One round of terminal `own` on a site of n terminals, of which at most f that it hears may lie.
  * Bit j of `heard` says that it hears terminal j; said[j] is what terminal j said to it in this round, 0 for
  * nothing.
- * A waiting terminal adds said[j], for each j that it hears, to the end of row j, unless it is 0 or among the
- * row's values already. Then it takes
- *   1. the first value of the source, if it hears the source and has one: count of that row is not 0, and
+ * A waiting terminal adds said[j], for each j that it hears, to the end of note j, unless it is 0 or among the
+ * note's values already. Then it takes
+ *   1. the first value of the source, if it hears the source and has one: count of that note is not 0, and
  *      values[0] is not 0;
- *   2. or else the smallest value that stands in the rows of more than f terminals that it hears. Each
+ *   2. or else the smallest value that stands in the notes of more than f terminals that it hears. Each
  *      counts once for every different value it has said so far, and so a bad first word does no harm
  *      where the good one follows;
  *   3. or else it waits.

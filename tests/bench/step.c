@@ -1,17 +1,17 @@
 /* Steps of one terminal of a site of twenty, for counting their instructions: terminal 19 hears 1 to 18 and not the
- * source. As in a run with nine liars: 1 to 9 say a new value each round, 10 to 18 say 7 once, which with f = 9 is not
- * enough, so it waits through all rounds.
- *   step ROUNDS           so many steps from the start
- *   step ROUNDS full      so many steps, 0 or 1, of a record that no run makes: each of the 18 has said 39 values, f = 1 */
+ * source. As in a run with F liars: 1 to F say a new value each round, the others of the 18 say 7 once, which is not
+ * enough while they are at most F, so it waits through all rounds.
+ *   step ROUNDS F         so many steps from the start, with the bound F
+ *   step ROUNDS F full    so many steps, 0 or 1, of a record in which each of the 18 has said 39 values */
 #include "terminal.h"
 
 #include <stdlib.h>
 
 enum { N = 20, OWN = 19, HEARD = 0x7fffe };
 
-static uint16_t word(size_t from, size_t round) {
-    if (from >= 1 && from <= 9) return (uint16_t)(1000 + 50 * from + round);
-    return from >= 10 && from < OWN && round == 5 ? 7 : 0;
+static uint16_t word(size_t from, size_t round, size_t f) {
+    if (from >= 1 && from <= f) return (uint16_t)(1000 + 50 * from + round);
+    return from > f && from < OWN && round == 5 ? 7 : 0;
 }
 
 static hulmayek_record full(void) {
@@ -25,12 +25,12 @@ static hulmayek_record full(void) {
 }
 
 int main(int count, char **arguments) {
-    if (count < 2) return 2;
-    size_t rounds = (size_t)atoi(arguments[1]), f = count > 2 ? 1 : 9;
-    hulmayek_record r = count > 2 ? full() : hulmayek_start();
+    if (count < 3) return 2;
+    size_t rounds = (size_t)atoi(arguments[1]), f = (size_t)atoi(arguments[2]);
+    hulmayek_record r = count > 3 ? full() : hulmayek_start();
     uint16_t said[N];
     for (size_t round = 1; round <= rounds; round++) {
-        for (size_t j = 0; j < N; j++) said[j] = word(j, round);
+        for (size_t j = 0; j < N; j++) said[j] = word(j, round, f);
         hulmayek_answer answer = hulmayek_step(N, 0, f, OWN, HEARD, r, said, N);
         if (answer.number != HULMAYEK_PLAYED || answer.after.taken) return 1;
         r = answer.after;

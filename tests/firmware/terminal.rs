@@ -131,7 +131,7 @@ fn main() {
     );
     assert_eq!(step(second, one, &[0; 2]), Err(12));
     every_value_counts();
-    println!("drawing C from Rust: as document 01 has it");
+    println!("drawing C and a spoiled first word in drawing E from Rust: as the documents have it");
 }
 
 /// Terminal 3 of drawing E hears a spoiled word of 1 first, and the good one a round later.

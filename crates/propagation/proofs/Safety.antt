@@ -11,7 +11,8 @@ use Rattle.sets.proofs.Laws.{equal-or-not}
 use Rattle.terminal.specs.declared.State.{State}
 use Rattle.terminal.specs.declared.State.the-variants.{Waiting, Taken}
 use Rattle.terminal.specs.Rule.{View, start, sourceStart, holds}
-use Rattle.terminal.proofs.Laws.{Regular, start-regular, source-start-regular, start-empty, source-start-empty, holds-layout}
+use Rattle.terminal.specs.Regular.{Regular}
+use Rattle.terminal.proofs.Laws.{start-regular, source-start-regular, start-empty, source-start-empty, holds-layout}
 use Rattle.plan.specs.declared.Plan.{Plan}
 use Rattle.plan.specs.Plan.{hears}
 use Rattle.plan.proofs.Laws.{Sound}

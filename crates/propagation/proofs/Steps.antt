@@ -7,6 +7,7 @@ use lib.ListN.{length}
 use Rattle.sets.specs.Tests.{_and_}
 use Rattle.terminal.specs.declared.State.the-variants.{Waiting, Taken}
 use Rattle.terminal.specs.Rule.{View, holds}
+use Rattle.terminal.specs.Regular.{Regular}
 use Rattle.terminal.proofs.Laws as laws
 use Rattle.plan.specs.declared.Plan.{Plan}
 use Rattle.closure.specs.FaultSet.{enoughIn}
@@ -25,7 +26,7 @@ module _ (p : Plan) (b : ℕ) (said : ℕ → ℕ) (r : View) where
   pub step-round : after .round ≡ r .round + 1
   step-round = laws.step-round (p .n) (p .source) (p .f) (heardBy p b) said r
 
-  pub step-regular : laws.Regular r → laws.Regular after
+  pub step-regular : Regular r → Regular after
   step-regular = laws.step-regular (p .n) (p .source) (p .f) (heardBy p b) said r
 
   pub taken-stays : (at value : ℕ) → r .state ≡ Taken at value → after .state ≡ Taken at value
@@ -35,7 +36,7 @@ module _ (p : Plan) (b : ℕ) (said : ℕ → ℕ) (r : View) where
   unfolding laws.Reason hears
   takes = laws.takes (p .n) (p .source) (p .f) (heardBy p b) said r
 
-  pub waits-source : laws.Regular r → r .state ≡ Waiting → after .state ≡ Waiting → hears p b (p .source) ≡ true → (v : ℕ) → holds after v (p .source) ≡ false
+  pub waits-source : Regular r → r .state ≡ Waiting → after .state ≡ Waiting → hears p b (p .source) ≡ true → (v : ℕ) → holds after v (p .source) ≡ false
   unfolding hears
   waits-source = laws.waits-source (p .n) (p .source) (p .f) (heardBy p b) said r
 

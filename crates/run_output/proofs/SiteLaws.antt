@@ -111,7 +111,7 @@ module _ (p : Progress) (play : Playable p) (words : List ℕ) (room : length wo
       (cause-played (p .plan) (p .faulty) (p .value) (p .rounds) _ _ (play .bad-set) (play .in-range)
       (fits (p .plan) (p .rounds) _ _ (length-take-le end words end-within) refl))
 
-  -- the records are those of the rules, and so are the lines
+  -- the records show those of the rules, and the lines are theirs
   pub ran-lines : (records : List Record) → records ≡ arrayAfter (p .plan) (p .faulty) (p .value) (p .rounds) (take end words)
       → siteLines (p .plan .n) (p .faulty) (stateOf records) ≡ ranText p words
   unfolding ranText scriptRead

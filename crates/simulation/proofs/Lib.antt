@@ -1,4 +1,4 @@
--- Bounds of places in the list of words (Places), the turns' own lists (Lists), the traversal of turns (Walk), and that its records are those of the rules (Meaning). For callers: which calls are
+-- Bounds of places in the list of words (Places), the turns' own lists (Lists), the traversal of turns (Walk), and that its records show those of the rules (Meaning). For callers: which calls are
 -- accepted (Causes), and what an accepted one leaves (Promise).
 mod Places
 mod Lists

@@ -34,7 +34,7 @@ use Rattle.quorum.specs.Words.{startSound}
 use Rattle.simulation.proofs.Causes.{fits, cause-played, accepted-run, turns-played, turns-refused}
 use Rattle.simulation.proofs.Meaning.{walk-is, walk-array, turn-placed}
 
--- records that are, terminal by terminal, those of the rules have demand 3
+-- records that show, terminal by terminal, those of the rules have demand 3
 pub promised : (p : Plan) → causeOf p ≡ 0 → (faulty value rounds : ℕ) → isFaultSet p faulty ≡ true → 1 ≤ value → (words : List ℕ) (records : List Record)
     → ((b : ℕ) → b < p .n → getD records b nothingHeard ≡ shown (site p faulty value (scriptOf (p .n) words) rounds b))
     → Demand3Holds p faulty value rounds words records
@@ -109,7 +109,7 @@ module _ (p : Plan) (faulty value rounds : ℕ) (words : List ℕ) where
       let a = accepted-run p faulty value rounds (length words) (p .n) h in
       walk-array p (a .0) faulty value (λ z. let v = a .2 in omega arith) words (a .1) rounds (a .3))
 
-  -- of an accepted run they are, terminal by terminal, those of the rules
+  -- of an accepted run they show, terminal by terminal, those of the rules
   pub array-at : runCause p faulty value rounds (length words) (p .n) ≡ 0 → (records : List Record) → records ≡ arrayAfter p faulty value rounds words
       → (b : ℕ) → b < p .n → getD records b nothingHeard ≡ shown (site p faulty value (scriptOf (p .n) words) rounds b)
   unfolding arrayAfter

@@ -1,5 +1,5 @@
 -- The run as the code plays it: one record a turn, terminal by terminal, round by round; round 0 writes the start records. No caller sees this:
--- proofs/Meaning.antt shows that the records are those of the run by the rules. Assumes nothing.
+-- proofs/Meaning.antt shows that the records show those of the run by the rules. Assumes nothing.
 use Prim.Native.Nat.{ℕ, zero, suc, _+_, _≤_, _<_}
 use mathlib.Core.List.{List}
 use lib.Dec.{eqb, ltb}

@@ -18,19 +18,13 @@ use Rattle.sets.proofs.Causes.{cause-here, cause-later, cause-last}
 use Rattle.terminal.specs.declared.State.{State}
 use Rattle.terminal.specs.declared.State.the-variants.{Waiting, Taken}
 use Rattle.terminal.specs.declared.Record.{Record}
-use Rattle.terminal.specs.Rule.{View, start, sourceStart, among, withWord, noted, valuesOf, hasNoted, holds, certified, choice, taking, stepFrom, step, saysIn}
+use Rattle.terminal.specs.Rule.{View, start, sourceStart, among, withWord, noted, valuesOf, hasNoted, holds, certified, firstOf, choice, taking, stepFrom, step, saysIn}
+use Rattle.terminal.specs.Regular.{Regular}
 use Rattle.terminal.specs.Shown.{noteOf, shownOver, shown, says}
 use Rattle.terminal.specs.Answer.{stateSound, countsSound, recordSound, causeOf, recordAfter}
-use Rattle.terminal.proofs.Values.{word-length, word-longer, word-said, word-stays, word-noted, word-clean, first-some}
+use Rattle.terminal.proofs.Values.{unheard-word, word-length, word-longer, word-said, word-stays, word-noted, word-clean, first-some}
 use Rattle.terminal.proofs.Notes.{noted-length, noted-at, noted-by, nothing-noted, has-i, has-layout, has-among, choice-why, choice-none-source, choice-none-certified, choice-least}
 use Rattle.terminal.proofs.Shown.{shown-state, shown-round, shown-count, view-shown, shown-over}
-
--- what holds of a record that was made by steps from a start: it has a place for each terminal; what is noted is a layout; and no neighbour has more values
--- than there were rounds
-pub record Regular (r : View) : Type 0 where
-  pub room : length (r .notes) ≡ 20
-  pub layouts : (j : ℕ) → among 0 (valuesOf (r .notes) j) ≡ false
-  pub few : (j : ℕ) → length (valuesOf (r .notes) j) ≤ r .round
 
 -- why a waiting terminal took v: it has it from the source, or from more than f neighbours
 unfoldable pub Reason : ℕ → ℕ → ℕ → ℕ → View → ℕ → Type 0
@@ -92,6 +86,16 @@ source-start-zero n source f own heard words r h =
 -- ---- the step: `notes` stands for the notes before it
 
 module _ (n source f heard : ℕ) (said : ℕ → ℕ) where
+  -- a taken state stays
+  pub taken-stays : (r : View) (at value : ℕ) → r .state ≡ Taken at value → step n source f heard said r .state ≡ Taken at value
+  unfolding step stepFrom
+  taken-stays r at value e = ap (λ (s : State). stepFrom s n source f heard said (r .round) (r .notes) .state) e
+
+  -- one that has taken notes nothing
+  pub taken-notes : (r : View) (at value : ℕ) → r .state ≡ Taken at value → step n source f heard said r .notes ≡ r .notes
+  unfolding step stepFrom
+  taken-notes r at value e = ap (λ (s : State). stepFrom s n source f heard said (r .round) (r .notes) .notes) e
+
   from-round : (s : State) (round : ℕ) (notes : List (List ℕ)) → stepFrom s n source f heard said round notes .round ≡ round + 1
   unfolding stepFrom
   from-round Waiting round notes = refl
@@ -137,21 +141,11 @@ module _ (n source f heard : ℕ) (said : ℕ → ℕ) where
   pub step-unheard : (r : View) (j : ℕ) → mem j heard ≡ false → valuesOf (step n source f heard said r .notes) j ≡ valuesOf (r .notes) j
   step-unheard r j h =
       step-by (λ (values : List ℕ). values ≡ valuesOf (r .notes) j) r j refl
-      (ap (λ (b : Bool). withWord b (valuesOf (r .notes) j) (said j)) h ∙ Rattle.terminal.proofs.Values.unheard-word (valuesOf (r .notes) j) (said j))
+      (ap (λ (b : Bool). withWord b (valuesOf (r .notes) j) (said j)) h ∙ unheard-word (valuesOf (r .notes) j) (said j))
 
   pub step-longer : (r : View) (j : ℕ) → length (valuesOf (r .notes) j) ≤ length (valuesOf (step n source f heard said r .notes) j)
   step-longer r j =
       step-by (λ (values : List ℕ). length (valuesOf (r .notes) j) ≤ length values) r j (omega arith) (word-longer (mem j heard) (valuesOf (r .notes) j) (said j))
-
-  -- a taken state stays
-  pub taken-stays : (r : View) (at value : ℕ) → r .state ≡ Taken at value → step n source f heard said r .state ≡ Taken at value
-  unfolding step stepFrom
-  taken-stays r at value e = ap (λ (s : State). stepFrom s n source f heard said (r .round) (r .notes) .state) e
-
-  -- one that has taken notes nothing
-  pub taken-notes : (r : View) (at value : ℕ) → r .state ≡ Taken at value → step n source f heard said r .notes ≡ r .notes
-  unfolding step stepFrom
-  taken-notes r at value e = ap (λ (s : State). stepFrom s n source f heard said (r .round) (r .notes) .notes) e
 
   -- the step of a waiting terminal: its notes, and the state that its choice gives
   waiting-notes : (r : View) → r .state ≡ Waiting → step n source f heard said r .notes ≡ noted n (λ j. mem j heard) said (r .notes)
@@ -195,16 +189,14 @@ module _ (n source f heard : ℕ) (said : ℕ → ℕ) where
       choice-none-certified n source f heard (step n source f heard said r .notes)
       (taking-waits (r .round + 1) (choice n source f heard (step n source f heard said r .notes)) (sym (waiting-state r w) ∙ t)) v
 
-  -- a waiting terminal that has enough votes takes, and the smallest value that has them, unless the source has spoken to it
+  -- a waiting terminal that takes without a first value of the source takes the smallest that has enough votes
   pub takes-least : (r : View) (at value : ℕ) → r .state ≡ Waiting → step n source f heard said r .state ≡ Taken at value
-      → (mem source heard and holds (step n source f heard said r) value source ≡ false)
+      → (mem source heard and not (eqb (firstOf (valuesOf (step n source f heard said r .notes) source)) 0) ≡ false)
       → (v : ℕ) → enough n f (λ j. mem j heard and holds (step n source f heard said r) v j) ≡ true → value ≤ v
   unfolding certified holds
   takes-least r at value w t s v h =
       let p = taking-taken (r .round + 1) (choice n source f heard (step n source f heard said r .notes)) at value (sym (waiting-state r w) ∙ t) in
-      subst (λ (x : ℕ). x ≤ v) (sym (p .1))
-      (choice-least n source f heard (step n source f heard said r .notes) (p .2)
-      (subst (λ (x : ℕ). mem source heard and holds (step n source f heard said r) x source ≡ false) (p .1) s) v h)
+      subst (λ (x : ℕ). x ≤ v) (sym (p .1)) (choice-least n source f heard (step n source f heard said r .notes) s v h)
 
   -- what is noted of a neighbour was noted before, or it said it now
   pub note-said : (r : View) (v j : ℕ) → holds (step n source f heard said r) v j ≡ true

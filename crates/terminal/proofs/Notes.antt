@@ -11,8 +11,9 @@ use lib.ListN.{length, replicate}
 use borrow.Author.Tests.{eq-eqb, ne-eqb, eqb-true}
 use Rattle.sets.specs.Tests.{_and_, _or_}
 use Rattle.sets.specs.Sets.{mem, all}
-use Rattle.sets.proofs.Bools.{clash, decide, no-by, and-l, and-r, and-i, or-e, not-i, not-e, pick-yes, pick-case}
+use Rattle.sets.proofs.Bools.{clash, decide, no-by, and-l, and-r, and-i, or-l, or-r, or-e, not-i, not-e, pick-yes, pick-no, pick-case}
 use Rattle.sets.proofs.Laws.{equal-or-not, all-at, all-not}
+use Rattle.quorum.specs.Quorum.{enough}
 use Rattle.quorum.proofs.Laws.{enough-none}
 use Rattle.terminal.specs.Rule.{among, withWord, noted, valuesOf, hasNoted, certified, firstOf, lesser, least, leastOf, candidate, leastFrom, choice}
 use Rattle.terminal.proofs.Values.{first-among, unheard-word}
@@ -76,10 +77,14 @@ pub has-among : (notes : List (List ℕ)) (v j : ℕ) → hasNoted notes v j ≡
 unfolding hasNoted
 has-among notes v j h = and-r _ _ h
 
+-- a value is certified by different neighbours, however often it stands in their notes
+certified-is : (n f heard : ℕ) (notes : List (List ℕ)) (v : ℕ) → certified n f heard notes v ≡ enough n f (λ j. mem j heard and hasNoted notes v j)
+unfolding certified
+certified-is n f heard notes v = refl
+
 -- a value that is certified is noted from some neighbour
 pub certified-by : (n f heard : ℕ) (notes : List (List ℕ)) (v : ℕ) → certified n f heard notes v ≡ true
     → (j : ℕ) × (j < n) × (mem j heard ≡ true) × (hasNoted notes v j ≡ true)
-unfolding certified
 certified-by n f heard notes v h = go (decide (all n (λ j. not (voter j))))
   where
     voter : ℕ → Bool
@@ -87,7 +92,7 @@ certified-by n f heard notes v h = go (decide (all n (λ j. not (voter j))))
 
     go : (all n (λ j. not (voter j)) ≡ true) ⊎ (all n (λ j. not (voter j)) ≡ false)
         → (j : ℕ) × (j < n) × (mem j heard ≡ true) × (hasNoted notes v j ≡ true)
-    go (inl e) = clash h (enough-none n f voter (λ j k. not-e (voter j) (all-at n (λ j. not (voter j)) e j k)))
+    go (inl e) = clash (sym (certified-is n f heard notes v) ∙ h) (enough-none n f voter (λ j k. not-e (voter j) (all-at n (λ j. not (voter j)) e j k)))
     go (inr e) =
         let w = all-not n (λ j. not (voter j)) e in
         let y : voter (w .0) ≡ true = ⊎-elim (λ t. t) (λ t. clash (not-i t) (w .2)) (decide (voter (w .0))) in
@@ -200,8 +205,8 @@ pub least-of-from : (value : ℕ → ℕ) (values : List ℕ) → (leastOf value
 unfolding leastOf among
 least-of-from value [] z = absurd (z refl)
 least-of-from value (x ∷ values) z =
-    ⊎-elim (λ e. (x, Rattle.sets.proofs.Bools.or-l _ _ (eq-eqb x x refl), sym e))
-    (λ e. let r = least-of-from value values (λ y. z (e ∙ y)) in (r .0, Rattle.sets.proofs.Bools.or-r _ _ (r .1), r .2 ∙ sym e))
+    ⊎-elim (λ e. (x, or-l _ _ (eq-eqb x x refl), sym e))
+    (λ e. let r = least-of-from value values (λ y. z (e ∙ y)) in (r .0, or-r _ _ (r .1), r .2 ∙ sym e))
     (lesser-one (value x) (leastOf value values))
 
 -- ---- the choice
@@ -293,15 +298,7 @@ module _ (n source f heard : ℕ) (notes : List (List ℕ)) where
       (λ e z v. clash (eq-eqb (firstOf (valuesOf notes source)) 0 z) (not-e (eqb (firstOf (valuesOf notes source)) 0) (and-r _ _ e)))
       (λ e z v. no-by (λ h. least-below n f heard notes v h .0 z))
 
-  -- where the chosen value is not the source's, no certified value is smaller
-  pub choice-least : (choice n source f heard notes ≡ 0 → ⊥)
-      → (mem source heard and hasNoted notes (choice n source f heard notes) source ≡ false)
-      → (v : ℕ) → certified n f heard notes v ≡ true → choice n source f heard notes ≤ v
+  -- where the source has no first value, no certified value is smaller than the chosen one
+  pub choice-least : direct ≡ false → (v : ℕ) → certified n f heard notes v ≡ true → choice n source f heard notes ≤ v
   unfolding choice
-  choice-least =
-      pick-case
-      (λ (x : ℕ).
-      (x ≡ 0 → ⊥) → (mem source heard and hasNoted notes x source ≡ false) → (v : ℕ) → certified n f heard notes v ≡ true → x ≤ v)
-      direct (firstOf (valuesOf notes source)) (least n (leastFrom n f heard notes))
-      (λ e z s v h. clash (and-i _ _ (and-l _ _ e) (has-i notes (firstOf (valuesOf notes source)) source z (first-among (valuesOf notes source) z))) s)
-      (λ e z s v h. least-below n f heard notes v h .1)
+  choice-least s v h = subst (λ (x : ℕ). x ≤ v) (sym (pick-no _ _ _ s)) (least-below n f heard notes v h .1)

@@ -20,7 +20,7 @@ use Rattle.terminal.specs.declared.State.{State}
 use Rattle.terminal.specs.declared.State.the-variants.{Waiting, Taken}
 use Rattle.terminal.specs.Rule.{isNew, withWord, noted, valuesOf, choice, taking, stepFrom, step}
 use Rattle.terminal.specs.Shown.{noteOf, valuesIn, Whole, viewOf, writtenOver, notesOver, shownOver}
-use Rattle.terminal.specs.Votes.{Fits, Room}
+use Rattle.terminal.specs.Votes.{HavePlaces, HaveRoom}
 use Rattle.terminal.proofs.Values.{word-change, word-length}
 use Rattle.terminal.proofs.Notes.{noted-length, noted-at, noted-above, noted-by, noted-unheard}
 use Rattle.terminal.proofs.Shown.{values-length, written-says, written-self, written-word, view-values, over-heard, over-unheard, over-length, over-by}
@@ -90,7 +90,7 @@ module _ (heard : ℕ) (said : ℕ → ℕ) (before : Record) where
           rest = λ i h. below .rest i (omega arith);
         }
 
-  module _ (n : ℕ) (r : Record) (below : NotedBelow heard said before n r) (whole : Whole (before .notes)) (room : Room heard (before .notes)) where
+  module _ (n : ℕ) (r : Record) (below : NotedBelow heard said before n r) (whole : Whole (before .notes)) (room : HaveRoom heard (before .notes)) where
     abbrev after : List (List ℕ)
     after = noted n (λ j. mem j heard) said (map valuesIn (before .notes))
 
@@ -122,7 +122,7 @@ module _ (heard : ℕ) (said : ℕ → ℕ) (before : Record) where
 
 -- ---- what the notes then say
 
-module _ (heard : ℕ) (notes : List Note) (whole : Whole notes) (room : Room heard notes) where
+module _ (heard : ℕ) (notes : List Note) (whole : Whole notes) (room : HaveRoom heard notes) where
   values-few : (j : ℕ) → j < 20 → mem j heard ≡ true → length (valuesIn (noteOf notes j)) < 40
   values-few j k h =
       let l : noteOf notes j .count < 40 = room j h in
@@ -172,7 +172,7 @@ module _ (heard : ℕ) (notes : List Note) (whole : Whole notes) (room : Room he
             (decide (mem j heard))
 
     -- and there is a place for each value
-    pub noted-fits : Fits heard (notesOver (λ j. mem j heard) notes next)
+    pub noted-fits : HavePlaces heard (notesOver (λ j. mem j heard) notes next)
     unfolding writtenOver
     noted-fits j h =
         ⊎-elim
@@ -189,7 +189,7 @@ module _ (heard : ℕ) (notes : List Note) (whole : Whole notes) (room : Room he
 
 -- ---- the round of a record: it is raised, and one that waits notes and decides
 
-module _ (n source f heard : ℕ) (said : ℕ → ℕ) (before : Record) (whole : Whole (before .notes)) (room : Room heard (before .notes)) where
+module _ (n source f heard : ℕ) (said : ℕ → ℕ) (before : Record) (whole : Whole (before .notes)) (room : HaveRoom heard (before .notes)) where
   pub waiting-shown : before .state ≡ Waiting → (r : Record)
       → r ≡ record {
         state = taking (before .round + 1) (choice n source f heard (map valuesIn (notesOver (λ j. mem j heard) (before .notes) (noted n (λ j. mem j heard) said (map valuesIn (before .notes))))));

@@ -2,9 +2,8 @@
 use Prim.Native.Nat.{ℕ, _<_}
 use mathlib.Core.Path.{_≡_, refl, sym, ap, _∙_, subst}
 use mathlib.Core.Logic.{⊎-elim}
-use mathlib.Core.Bool.{Bool, true}
+use mathlib.Core.Bool.{true}
 use mathlib.Core.List.{List, [], _∷_, map}
-use native.Mathlib.Nat.{not-suc-le-zero}
 use native.Mathlib.Omega.{arith}
 use lib.Dec.{eqb}
 use lib.ListN.{length, getD, length-map, List·getD-eq-default}
@@ -14,23 +13,16 @@ use Rattle.sets.proofs.Bools.{clash, pick-case}
 use Rattle.sets.proofs.Laws.{below-or-not}
 use Rattle.terminal.specs.declared.State.the-variants.{Waiting}
 use Rattle.terminal.specs.declared.Record.{Record}
-use Rattle.terminal.specs.Rule.{among, withWord, valuesOf, hasNoted, holds, firstOf, step}
+use Rattle.terminal.specs.Rule.{among, valuesOf, hasNoted, holds, firstOf, step}
 use Rattle.terminal.specs.Shown.{valuesIn, Whole, viewOf, shownOver}
 use Rattle.terminal.specs.Answer.{causeOf, recordAfter}
 use Rattle.terminal.specs.SaidCounts.{SaidCounts}
-use Rattle.terminal.proofs.Values.{word-change}
+use Rattle.terminal.proofs.Values.{first-stays}
 use Rattle.terminal.proofs.Notes.{has-i, has-layout, has-among}
 use Rattle.terminal.proofs.Shown.{view-values}
 use Rattle.terminal.proofs.Laws.{step-by, note-stays, spoken-noted}
 use Rattle.terminal.proofs.Walks.{accepted-plays, accepted-hears, after-accepted}
 use Rattle.terminal.proofs.Unheard.{after-values}
-
--- values that begin with something begin with the same after a word
-first-stays : (hears : Bool) (values : List ℕ) (said : ℕ) → 0 < length values → firstOf (withWord hears values said) ≡ firstOf values
-unfolding firstOf
-first-stays hears [] said k = absurd (not-suc-le-zero k)
-first-stays hears (x ∷ values) said k =
-    ⊎-elim (λ p. ap (λ (l : List ℕ). getD l 0 0) (p .1)) (λ p. ap (λ (l : List ℕ). getD l 0 0) (p .1)) (word-change hears (x ∷ values) said)
 
 module _ (n source f own heard : ℕ) (r : Record) (whole : Whole (r .notes)) (said : List ℕ) where
   -- what holds of a heard neighbour's values where nothing is played, and after the rule's step, holds of the record that comes back

@@ -19,7 +19,7 @@ use Rattle.terminal.specs.declared.State.{State}
 use Rattle.terminal.specs.declared.State.the-variants.{Waiting, Taken}
 use Rattle.terminal.specs.declared.Note.{Note}
 use Rattle.terminal.specs.declared.Record.{Record}
-use Rattle.terminal.specs.Rule.{View, withWord, noted, valuesOf, hasNoted, certified, firstOf, least, leastOf, candidate, leastFrom, choice, taking, stepFrom, step}
+use Rattle.terminal.specs.Rule.{View, among, withWord, noted, valuesOf, hasNoted, certified, firstOf, least, leastOf, candidate, leastFrom, choice, taking, stepFrom, step}
 use Rattle.terminal.specs.Shown.{noteOf, valuesIn, Whole, viewOf, writtenOver, shownOver}
 use Rattle.terminal.specs.Answer.{stateSound, countsSound, recordSound, causeOf, recordAfter}
 use Rattle.terminal.specs.Unheard.{SameHeard, SameRecord, UnheardIgnored}
@@ -54,7 +54,7 @@ module _ (n source f heard : ℕ) (a b : List (List ℕ)) (e : (j : ℕ) → mem
   vote-same : (v j : ℕ) → (mem j heard and hasNoted a v j) ≡ (mem j heard and hasNoted b v j)
   unfolding hasNoted
   vote-same v j =
-      ⊎-elim (λ m. ap (λ (values : List ℕ). mem j heard and not (eqb v 0) and Rattle.terminal.specs.Rule.among v values) (e j m))
+      ⊎-elim (λ m. ap (λ (values : List ℕ). mem j heard and not (eqb v 0) and among v values) (e j m))
       (λ m. and-no-l _ _ m ∙ sym (and-no-l _ _ m))
       (decide (mem j heard))
 

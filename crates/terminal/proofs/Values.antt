@@ -10,8 +10,50 @@ use lib.Dec.{eqb}
 use lib.ListN.{length, getD, length-append}
 use borrow.Author.Tests.{eq-eqb, ne-eqb, eqb-true}
 use Rattle.sets.specs.Tests.{_and_, _or_}
-use Rattle.sets.proofs.Bools.{clash, decide, and-l, and-r, and-i, and-no-l, or-l, or-r, or-e, or-no, not-i, not-e, pick-yes, pick-no}
+use Rattle.sets.proofs.Bools.{and-i, and-l, and-no-l, and-no-r, and-r, clash, decide, not-e, not-i, not-yes, or-e, or-l, or-no, or-r, pick-no, pick-yes}
 use Rattle.terminal.specs.Rule.{among, isNew, withWord, firstOf}
+
+-- ---- the values after a round: a new one comes last
+
+-- they stay, or the neighbour is heard and has said a new one
+pub word-change : (hears : Bool) (values : List ℕ) (said : ℕ)
+    → ((isNew hears values said ≡ false) × (withWord hears values said ≡ values))
+    ⊎ ((isNew hears values said ≡ true) × (withWord hears values said ≡ values ++ (said ∷ [])))
+unfolding withWord
+word-change hears values said =
+    ⊎-elim (λ t. inr (t, pick-yes _ _ _ t)) (λ t. inl (t, pick-no _ _ _ t)) (decide (isNew hears values said))
+
+pub new-heard : (hears : Bool) (values : List ℕ) (said : ℕ) → isNew hears values said ≡ true → hears ≡ true
+unfolding isNew
+new-heard hears values said h = and-l _ _ h
+
+pub new-layout : (hears : Bool) (values : List ℕ) (said : ℕ) → isNew hears values said ≡ true → said ≡ 0 → ⊥
+unfolding isNew
+new-layout hears values said h z = clash (eq-eqb said 0 z) (not-e (eqb said 0) (and-l _ _ (and-r _ _ h)))
+
+pub unheard-word : (values : List ℕ) (said : ℕ) → withWord false values said ≡ values
+unfolding withWord isNew
+unheard-word values said = pick-no _ _ _ (and-no-l _ _ refl)
+
+pub word-length : (hears : Bool) (values : List ℕ) (said : ℕ) → length (withWord hears values said) ≤ length values + 1
+word-length hears values said =
+    ⊎-elim (λ p. omega (arith, ap length (p .1))) (λ p. omega (arith, ap length (p .1), length-append values (said ∷ []))) (word-change hears values said)
+
+pub word-longer : (hears : Bool) (values : List ℕ) (said : ℕ) → length values ≤ length (withWord hears values said)
+word-longer hears values said =
+    ⊎-elim (λ p. omega (arith, ap length (p .1))) (λ p. omega (arith, ap length (p .1), length-append values (said ∷ []))) (word-change hears values said)
+
+-- a word that is among them changes nothing
+pub word-again : (hears : Bool) (values : List ℕ) (said : ℕ) → among said values ≡ true → withWord hears values said ≡ values
+unfolding withWord isNew
+word-again hears values said h = pick-no _ _ _ (and-no-r _ _ (and-no-r _ _ (not-yes h)))
+
+-- values that begin with something begin with the same after a word
+pub first-stays : (hears : Bool) (values : List ℕ) (said : ℕ) → 0 < length values → firstOf (withWord hears values said) ≡ firstOf values
+unfolding firstOf
+first-stays hears [] said k = absurd (not-suc-le-zero k)
+first-stays hears (x ∷ values) said k =
+    ⊎-elim (λ p. ap (λ (l : List ℕ). getD l 0 0) (p .1)) (λ p. ap (λ (l : List ℕ). getD l 0 0) (p .1)) (word-change hears (x ∷ values) said)
 
 -- ---- among
 
@@ -51,35 +93,7 @@ unfolding firstOf among
 first-some v [] n h e = clash h refl
 first-some v (x ∷ values) n h e = clash (or-l _ _ (eq-eqb x 0 e)) n
 
--- ---- the values after a round
-
--- they stay, or the neighbour is heard and has said a new one
-pub word-change : (hears : Bool) (values : List ℕ) (said : ℕ)
-    → ((isNew hears values said ≡ false) × (withWord hears values said ≡ values))
-    ⊎ ((isNew hears values said ≡ true) × (withWord hears values said ≡ values ++ (said ∷ [])))
-unfolding withWord
-word-change hears values said =
-    ⊎-elim (λ t. inr (t, pick-yes _ _ _ t)) (λ t. inl (t, pick-no _ _ _ t)) (decide (isNew hears values said))
-
-pub new-heard : (hears : Bool) (values : List ℕ) (said : ℕ) → isNew hears values said ≡ true → hears ≡ true
-unfolding isNew
-new-heard hears values said h = and-l _ _ h
-
-pub new-layout : (hears : Bool) (values : List ℕ) (said : ℕ) → isNew hears values said ≡ true → said ≡ 0 → ⊥
-unfolding isNew
-new-layout hears values said h z = clash (eq-eqb said 0 z) (not-e (eqb said 0) (and-l _ _ (and-r _ _ h)))
-
-pub unheard-word : (values : List ℕ) (said : ℕ) → withWord false values said ≡ values
-unfolding withWord isNew
-unheard-word values said = pick-no _ _ _ (and-no-l _ _ refl)
-
-pub word-length : (hears : Bool) (values : List ℕ) (said : ℕ) → length (withWord hears values said) ≤ length values + 1
-word-length hears values said =
-    ⊎-elim (λ p. omega (arith, ap length (p .1))) (λ p. omega (arith, ap length (p .1), length-append values (said ∷ []))) (word-change hears values said)
-
-pub word-longer : (hears : Bool) (values : List ℕ) (said : ℕ) → length values ≤ length (withWord hears values said)
-word-longer hears values said =
-    ⊎-elim (λ p. omega (arith, ap length (p .1))) (λ p. omega (arith, ap length (p .1), length-append values (said ∷ []))) (word-change hears values said)
+-- ---- what is among the values after a round
 
 -- what is among them was there before, or the neighbour is heard and has said it
 pub word-said : (hears : Bool) (values : List ℕ) (said v : ℕ) → among v (withWord hears values said) ≡ true

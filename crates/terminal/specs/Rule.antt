@@ -19,7 +19,8 @@ Layout = ℕ
 abbrev pub Round : Type 0
 Round = ℕ
 
--- what a neighbour has said so far: its different values, in the order in which they were first said
+-- what a neighbour has said so far: its different values, in the order in which they were first said. A record that is handed in may hold a value twice, or 0:
+-- neither counts for more
 abbrev pub Values : Type 0
 Values = List Layout
 
@@ -102,7 +103,7 @@ candidate n f heard notes v = pick (certified n f heard notes v) v 0
 unfoldable pub leastFrom : (n f : ℕ) (heard : Set) (notes : List Values) (j : Terminal) → Layout
 leastFrom n f heard notes j = pick (mem j heard) (leastOf (candidate n f heard notes) (valuesOf notes j)) 0
 
--- the first value that the source said, if it hears the source and has one; otherwise the smallest that is certified
+-- the first value that the source said, if it hears the source and has one, where 0 is none; otherwise the smallest that is certified
 unfoldable pub choice : (n : ℕ) (source : Terminal) (f : ℕ) (heard : Set) (notes : List Values) → Layout
 choice n source f heard notes =
     pick (mem source heard and not (eqb (firstOf (valuesOf notes source)) 0)) (firstOf (valuesOf notes source)) (least n (leastFrom n f heard notes))

@@ -31,13 +31,14 @@ pub record Whole (notes : List Note) : Type 0 where
   pub twenty : length notes ≡ mostTerminals
   pub forty : (j : ℕ) → j < mostTerminals → length (noteOf notes j .values) ≡ mostRounds
 
--- the code's record as the rule has it
+-- the code's record as the rule has it, whatever stands in its notes
 unfoldable pub viewOf : Record → View
 viewOf r = record { state = r .state; round = r .round; notes = map valuesIn (r .notes) }
 
 -- ---- how the code's record shows the rule's
 
--- some values written over a note: they stand at its first places and are counted; the places after them stay as they were
+-- some values written over a note: they stand at its first places and are counted; the places after them stay as they were. More than forty find no place, which
+-- no accepted step comes to (a record before round 40 has fewer of everybody it hears)
 unfoldable pub writtenOver : Note → Values → Note
 writtenOver note values = record { count = length values; values = sets (note .values) 0 values }
 

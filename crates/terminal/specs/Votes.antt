@@ -1,4 +1,4 @@
--- What the functions that look for a certified value promise each other: the code's notes by rows, and sets of neighbours in the place of counts. No caller
+-- What the functions that look for a certified value promise each other: the code's notes one by one, and sets of neighbours in the place of counts. No caller
 -- of the step sees this: proofs/Search.antt shows that what they find is the rule's choice. Assumes nothing.
 use Prim.Native.Nat.{ℕ, _≤_, _<_}
 use mathlib.Core.Path.{_≡_}
@@ -15,31 +15,31 @@ use Rattle.terminal.specs.Rule.{Layout, among}
 use Rattle.terminal.specs.Shown.{noteOf, valuesIn}
 
 -- the notes of a set of neighbours have no more values than there are places
-abbrev pub Fits : Set → List Note → Type 0
-Fits rows notes = (j : Terminal) → mem j rows ≡ true → noteOf notes j .count ≤ mostRounds
+abbrev pub HavePlaces : Set → List Note → Type 0
+HavePlaces neighbours notes = (j : Terminal) → mem j neighbours ≡ true → noteOf notes j .count ≤ mostRounds
 
 -- and there is a place for one more
-abbrev pub Room : Set → List Note → Type 0
-Room rows notes = (j : Terminal) → mem j rows ≡ true → noteOf notes j .count < mostRounds
+abbrev pub HaveRoom : Set → List Note → Type 0
+HaveRoom neighbours notes = (j : Terminal) → mem j neighbours ≡ true → noteOf notes j .count < mostRounds
 
 -- those of a set who have said v
-unfoldable pub votersIn : (n : ℕ) (notes : List Note) (rows : Set) (v : Layout) → Set
-votersIn n notes rows v = mask n (λ j. mem j rows and among v (valuesIn (noteOf notes j)))
+unfoldable pub votersIn : (n : ℕ) (notes : List Note) (neighbours : Set) (v : Layout) → Set
+votersIn n notes neighbours v = mask n (λ j. mem j neighbours and among v (valuesIn (noteOf notes j)))
 
 -- those of a set who have said one value, and those who have said more
-unfoldable pub singleIn : (n : ℕ) (notes : List Note) (rows : Set) → Set
-singleIn n notes rows = mask n (λ j. eqb (noteOf notes j .count) 1 and mem j rows)
+unfoldable pub singleIn : (n : ℕ) (notes : List Note) (neighbours : Set) → Set
+singleIn n notes neighbours = mask n (λ j. eqb (noteOf notes j .count) 1 and mem j neighbours)
 
-unfoldable pub fickleIn : (n : ℕ) (notes : List Note) (rows : Set) → Set
-fickleIn n notes rows = mask n (λ j. ltb 1 (noteOf notes j .count) and mem j rows)
+unfoldable pub fickleIn : (n : ℕ) (notes : List Note) (neighbours : Set) → Set
+fickleIn n notes neighbours = mask n (λ j. ltb 1 (noteOf notes j .count) and mem j neighbours)
 
 -- the value at the first place of terminal j's note
 unfoldable pub firstPlace : List Note → Terminal → Layout
 firstPlace notes j = getD (noteOf notes j .values) 0 0
 
 -- those of a set whose first place has v
-unfoldable pub sameIn : (n : ℕ) (firsts : List Layout) (rows : Set) (v : Layout) → Set
-sameIn n firsts rows v = mask n (λ j. eqb (getD firsts j 0) v and mem j rows)
+unfoldable pub sameIn : (n : ℕ) (firsts : List Layout) (neighbours : Set) (v : Layout) → Set
+sameIn n firsts neighbours v = mask n (λ j. eqb (getD firsts j 0) v and mem j neighbours)
 
 -- a value, if more than f have said it
 unfoldable pub ifMany : (f : ℕ) (who : Set) (v : Layout) → Layout

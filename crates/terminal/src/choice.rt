@@ -12,7 +12,7 @@ ghost use lib.ListN.{getD};
 ghost use Rattle.sets.specs.Tests.{_and_};
 ghost use Rattle.terminal.specs.Rule.{among, lesser, least, leastOf, leastFrom, candidate, choice};
 ghost use Rattle.terminal.specs.Shown.{valuesIn, Whole};
-ghost use Rattle.terminal.specs.Votes.{Fits, votersIn, singleIn, fickleIn, firstPlace, sameIn, ifMany, fromFirst};
+ghost use Rattle.terminal.specs.Votes.{HavePlaces, votersIn, singleIn, fickleIn, firstPlace, sameIn, ifMany, fromFirst};
 use super::Note;
 
 // Who has said one value, who has said more, and the first place of each note.
@@ -22,6 +22,7 @@ pub(crate) struct FirstValues {
     pub values: [u16; 20],
 }
 
+// A neighbour that is asked for has said the value.
 fn voted(hears: bool, note: Note, value: u16) -> bool
     requires { ⌜ («hears» ≡ true → note .count ≤ 40) ⌝ }
     ensures { λ r. ⌜ r ≡ «hears» and among value (valuesIn note) ⌝ }
@@ -33,14 +34,14 @@ fn voted(hears: bool, note: Note, value: u16) -> bool
 }
 
 // Those of a set who have said the value.
-fn voters(notes: [Note; 20], n: usize, rows: u32, value: u16) -> u32
-    requires { ⌜ (n ≤ 20) × Fits rows notes ⌝ }
-    ensures { λ r. ⌜ r ≡ votersIn n notes rows value ⌝ }
+fn voters(notes: [Note; 20], n: usize, neighbours: u32, value: u16) -> u32
+    requires { ⌜ (n ≤ 20) × HavePlaces neighbours notes ⌝ }
+    ensures { λ r. ⌜ r ≡ votersIn n notes neighbours value ⌝ }
 {
     let mut who: u32 = 0;
     let mut j: usize = 0;
     while j < n {
-        let vote = voted(sets::member(rows, j), notes[j], value) as u32;
+        let vote = voted(sets::member(neighbours, j), notes[j], value) as u32;
         who = who | (vote << j);
         j += 1;
     }
@@ -48,9 +49,9 @@ fn voters(notes: [Note; 20], n: usize, rows: u32, value: u16) -> u32
 }
 
 // Those of a set whose first place has the value.
-fn same(firsts: [u16; 20], n: usize, rows: u32, value: u16) -> u32
+fn same(firsts: [u16; 20], n: usize, neighbours: u32, value: u16) -> u32
     requires { ⌜ n ≤ 20 ⌝ }
-    ensures { λ r. ⌜ r ≡ sameIn n firsts rows value ⌝ }
+    ensures { λ r. ⌜ r ≡ sameIn n firsts neighbours value ⌝ }
 {
     let mut who: u32 = 0;
     let mut j: usize = 0;
@@ -59,7 +60,7 @@ fn same(firsts: [u16; 20], n: usize, rows: u32, value: u16) -> u32
         who = who | (vote << j);
         j += 1;
     }
-    who & rows
+    who & neighbours
 }
 
 // The value, if more than f have said it.
@@ -89,7 +90,7 @@ fn lesser(a: u16, b: u16) -> u16
 
 // The least certified value of one neighbour.
 fn least_of(notes: [Note; 20], n: usize, f: usize, heard: u32, note: Note) -> u16
-    requires { ⌜ (n ≤ 20) × Fits heard notes × (note .count ≤ 40) ⌝ }
+    requires { ⌜ (n ≤ 20) × HavePlaces heard notes × (note .count ≤ 40) ⌝ }
     ensures { λ r. ⌜ r ≡ leastOf (candidate n f heard (map valuesIn notes)) (valuesIn note) ⌝ }
 {
     let count = note.count as usize;
@@ -104,8 +105,9 @@ fn least_of(notes: [Note; 20], n: usize, f: usize, heard: u32, note: Note) -> u1
     best
 }
 
+// The same of neighbour j, if it is heard.
 fn least_from(notes: [Note; 20], n: usize, f: usize, heard: u32, j: usize) -> u16
-    requires { ⌜ (n ≤ 20) × (j < n) × Fits heard notes ⌝ }
+    requires { ⌜ (n ≤ 20) × (j < n) × HavePlaces heard notes ⌝ }
     ensures { λ r. ⌜ r ≡ leastFrom n f heard (map valuesIn notes) j ⌝ }
 {
     if sets::member(heard, j) {
@@ -116,7 +118,7 @@ fn least_from(notes: [Note; 20], n: usize, f: usize, heard: u32, j: usize) -> u1
 
 // The least certified value, by every value of every neighbour.
 fn least_of_all(notes: [Note; 20], n: usize, f: usize, heard: u32) -> u16
-    requires { ⌜ (n ≤ 20) × Fits heard notes ⌝ }
+    requires { ⌜ (n ≤ 20) × HavePlaces heard notes ⌝ }
     ensures { λ r. ⌜ r ≡ least n (leastFrom n f heard (map valuesIn notes)) ⌝ }
 {
     let mut best: u16 = 0;
@@ -130,7 +132,7 @@ fn least_of_all(notes: [Note; 20], n: usize, f: usize, heard: u32) -> u16
 
 // The value, if more than f have said it, where `who` has and of `fickle` each may have.
 fn judged(notes: [Note; 20], n: usize, f: usize, who: u32, fickle: u32, value: u16) -> u16
-    requires { ⌜ (n ≤ 20) × Fits fickle notes ⌝ }
+    requires { ⌜ (n ≤ 20) × HavePlaces fickle notes ⌝ }
     ensures { λ r. ⌜ r ≡ ifMany f (bitOr who (votersIn n notes fickle value)) value ⌝ }
 {
     if u32::count_ones(who | fickle) as usize <= f {
@@ -142,7 +144,7 @@ fn judged(notes: [Note; 20], n: usize, f: usize, who: u32, fickle: u32, value: u
 // The least certified value of those who have said one. Each value is looked at once: whoever
 // said the same has been looked at with it.
 fn least_of_firsts(notes: [Note; 20], n: usize, f: usize, first: FirstValues) -> u16
-    requires { ⌜ (n ≤ 20) × Fits (first .fickle) notes ⌝ }
+    requires { ⌜ (n ≤ 20) × HavePlaces (first .fickle) notes ⌝ }
     ensures { λ r. ⌜ r ≡ least n (fromFirst n f notes (first .values) (first .single) (first .fickle)) ⌝ }
 {
     let values = first.values;
@@ -163,6 +165,7 @@ fn least_of_firsts(notes: [Note; 20], n: usize, f: usize, first: FirstValues) ->
     best
 }
 
+// What is known of each heard neighbour without looking at all its values.
 fn first_values(notes: [Note; 20], n: usize, heard: u32) -> FirstValues
     requires { ⌜ n ≤ 20 ⌝ }
     ensures { λ r. ⌜ (r .single ≡ singleIn n notes heard) × (r .fickle ≡ fickleIn n notes heard) × ((j : ℕ) → j < n → getD (r .values) j 0 ≡ firstPlace notes j) ⌝ }
@@ -187,8 +190,9 @@ fn first_values(notes: [Note; 20], n: usize, heard: u32) -> FirstValues
     }
 }
 
+// The least certified value: by the single values, where those who have said more are at most f.
 fn least_certified(notes: [Note; 20], n: usize, f: usize, heard: u32, first: FirstValues) -> u16
-    requires { ⌜ (n ≤ 20) × Whole notes × Fits heard notes × (first .single ≡ singleIn n notes heard) × (first .fickle ≡ fickleIn n notes heard) × ((j : ℕ) → j < n → getD (first .values) j 0 ≡ firstPlace notes j) ⌝ }
+    requires { ⌜ (n ≤ 20) × Whole notes × HavePlaces heard notes × (first .single ≡ singleIn n notes heard) × (first .fickle ≡ fickleIn n notes heard) × ((j : ℕ) → j < n → getD (first .values) j 0 ≡ firstPlace notes j) ⌝ }
     ensures { λ r. ⌜ r ≡ least n (leastFrom n f heard (map valuesIn notes)) ⌝ }
 {
     if u32::count_ones(first.fickle) as usize <= f {
@@ -199,7 +203,7 @@ fn least_certified(notes: [Note; 20], n: usize, f: usize, heard: u32, first: Fir
 
 // The source's first value is taken before any other.
 pub(crate) fn choice(notes: [Note; 20], n: usize, source: usize, f: usize, heard: u32) -> u16
-    requires { ⌜ (n ≤ 20) × (source < n) × Whole notes × Fits heard notes ⌝ }
+    requires { ⌜ (n ≤ 20) × (source < n) × Whole notes × HavePlaces heard notes ⌝ }
     ensures { λ r. ⌜ r ≡ choice n source f heard (map valuesIn notes) ⌝ }
 {
     let first = first_values(notes, n, heard);

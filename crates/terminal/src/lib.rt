@@ -11,7 +11,7 @@ ghost use Rattle.sets.specs.Tests.{_implies_};
 ghost use Rattle.sets.specs.Sets.{mem};
 ghost use Rattle.terminal.specs.Rule.{start, sourceStart, among, isNew, noted, choice, taking, step};
 ghost use Rattle.terminal.specs.Shown.{valuesIn, Whole, viewOf, noNote, notesOver, shownOver, shown, says};
-ghost use Rattle.terminal.specs.Votes.{Fits, Room};
+ghost use Rattle.terminal.specs.Votes.{HavePlaces, HaveRoom};
 ghost use Rattle.terminal.specs.Answer.{numberOf, stateSound, countsSound, recordSound, causeOf, recordAfter};
 
 // A terminal waits, or it has taken a layout in a round and keeps both.
@@ -95,7 +95,8 @@ pub fn source_start(value: u16) -> Record
 }
 
 impl Note {
-    // The neighbour has said the value. It looks at all of them, without a branch: several at once.
+    // The neighbour has said the value. The loop has no early end, so that the compiler can compare
+    // several places at once.
     pub(crate) fn has(self, value: u16) -> bool
         requires { ⌜ self .count ≤ 40 ⌝ }
         ensures { λ r. ⌜ r ≡ among value (valuesIn self) ⌝ }
@@ -137,9 +138,9 @@ fn is_new(hears: bool, note: Note, said: u16) -> bool
 }
 
 impl Record {
-    // What is new of each neighbour it hears.
+    // What is new of each neighbour it hears. Each arm ends the turn, so that none joins another.
     fn note(mut self, n: usize, heard: u32, said: &[u16]) -> Record
-        requires { ⌜ (n ≤ 20) × (n ≤ length (now said)) × Whole (self .notes) × Room heard (self .notes) ⌝ }
+        requires { ⌜ (n ≤ 20) × (n ≤ length (now said)) × Whole (self .notes) × HaveRoom heard (self .notes) ⌝ }
         ensures { λ r. ⌜ r ≡ record { state = self .state; round = self .round; notes = notesOver (λ j. mem j heard) (self .notes) (noted n (λ j. mem j heard) (λ j. getD (now (said .entry)) j 0) (map valuesIn (self .notes))) } ⌝ }
     {
         let mut j: usize = 0;
@@ -158,7 +159,7 @@ impl Record {
 
     // It takes what it chose, in the round that its record shows.
     fn decide(mut self, n: usize, source: usize, f: usize, heard: u32) -> Record
-        requires { ⌜ (n ≤ 20) × (source < n) × Whole (self .notes) × Fits heard (self .notes) ⌝ }
+        requires { ⌜ (n ≤ 20) × (source < n) × Whole (self .notes) × HavePlaces heard (self .notes) ⌝ }
         ensures { λ r. ⌜ r ≡ record { state = taking (self .round) (choice n source f heard (map valuesIn (self .notes))); round = self .round; notes = self .notes } ⌝ }
     {
         let notes = self.notes;
@@ -201,6 +202,8 @@ fn state_sound(state: State, is_source: bool, round: u8) -> bool
     }
 }
 
+// A heard neighbour's count is at most the round number. The promise also hands on that a note has
+// forty places, which only a function that is handed the note knows.
 fn count_sound(hears: bool, note: Note, round: u8) -> bool
     ensures { λ r. ⌜ (r ≡ «hears» implies leb (note .count) round) × (length (note .values) ≡ 40) ⌝ }
 {
@@ -272,7 +275,7 @@ fn first_cause(
 
 // The round of a record that can be stepped. It is raised first: a take keeps the raised number.
 fn play(n: usize, source: usize, f: usize, heard: u32, before: Record, said: &[u16]) -> Record
-    requires { ⌜ (n ≤ 20) × (source < n) × (n ≤ length (now said)) × (before .round < 40) × Whole (before .notes) × Room heard (before .notes) ⌝ }
+    requires { ⌜ (n ≤ 20) × (source < n) × (n ≤ length (now said)) × (before .round < 40) × Whole (before .notes) × HaveRoom heard (before .notes) ⌝ }
     ensures { λ r. ⌜ r ≡ shownOver (λ j. mem j heard) before (step n source f heard (λ j. getD (now (said .entry)) j 0) (viewOf before)) ⌝ }
 {
     let state = before.state;

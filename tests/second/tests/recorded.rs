@@ -198,8 +198,15 @@ fn marks_of_rows(case: &StepCase) -> Vec<&'static str> {
             continue;
         }
         marks.extend(noise.then_some("noise"));
-        marks.extend((different.len() < values.len()).then_some("repeated"));
-        marks.extend((values.len() < row.count as usize).then_some("zero"));
+        let (repeated, zero) = (
+            different.len() < values.len(),
+            values.len() < row.count as usize,
+        );
+        marks.extend(repeated.then_some("repeated"));
+        marks.extend((repeated && round == 39).then_some("repeated at 39"));
+        marks.extend(zero.then_some("zero"));
+        marks.extend((zero && round == 1).then_some("zero at 1"));
+        marks.extend((zero && round == 39).then_some("zero at 39"));
         if row.count == round {
             marks.extend((round == 1).then_some("full at 1"));
             marks.extend((round == 39).then_some("full at 39"));
@@ -227,6 +234,8 @@ fn marks_of_refused(case: &StepCase, number: u8) -> Vec<&'static str> {
         13 if alone && case.said.len() != place.n as usize => "too many, beside 12",
         13 if alone && taken => "too many, taken",
         13 if alone && record.round == 0 => "too many at 0",
+        13 if alone && record.round == 1 => "too many at 1",
+        13 if alone && record.round == 39 => "too many at 39",
         13 if alone => "too many",
         _ => return Vec::new(),
     };
@@ -250,7 +259,7 @@ fn marks(case: &StepCase) -> Vec<&'static str> {
     marks
 }
 
-const NEEDED: [&str; 25] = [
+const NEEDED: [&str; 30] = [
     "direct",
     "several values have enough",
     "f+1 have a value",
@@ -263,12 +272,17 @@ const NEEDED: [&str; 25] = [
     "noise",
     "noise, not heard",
     "repeated",
+    "repeated at 39",
     "zero",
+    "zero at 1",
+    "zero at 39",
     "full",
     "full at 1",
     "full at 39",
     "too many",
     "too many at 0",
+    "too many at 1",
+    "too many at 39",
     "too many, taken",
     "too many, not heard",
     "above 40, not heard",

@@ -1,4 +1,4 @@
--- An accepted file's run is not refused, so the records are those of the rules. Assumes nothing.
+-- An accepted file's run is not refused, so the records show those of the rules. Assumes nothing.
 use mathlib.Core.Path.{sym, _∙_}
 use native.Mathlib.Omega.{arith}
 use lib.Seq.{length-take-le}

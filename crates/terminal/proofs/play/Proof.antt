@@ -1,12 +1,13 @@
 -- `play` meets its contract: what is raised, noted and decided, one after the other, is the rule's step of a waiting terminal. Assumes nothing.
 use mathlib.Core.Path.{_≡_, sym, ap, _∙_, subst}
 use mathlib.Core.List.{map}
+use native.Mathlib.Omega.{arith}
 use lib.ListN.{getD}
 use Rattle.sets.specs.Sets.{mem}
 use Rattle.terminal.specs.declared.Record.{Record}
 use Rattle.terminal.specs.Rule.{noted, choice, taking}
 use Rattle.terminal.specs.Shown.{valuesIn, Whole, notesOver}
-use Rattle.terminal.specs.Votes.{Fits, Room}
+use Rattle.terminal.specs.Votes.{HavePlaces, HaveRoom}
 use Rattle.terminal.proofs.Shown.{over-whole}
 use Rattle.terminal.proofs.Noting.{noted-fits, waiting-shown, taken-shown}
 use borrow.Author.Needs.{needs}
@@ -24,10 +25,10 @@ note-requires c κs =
     let a = c .before .before .before .before .args in
     let p = c .before .before .before .before .pre in
     let e : c .before .before .advance .result .notes ≡ a .before .notes = ap (λ (r : Record). r .notes) (c .before .before .advance .ensures) in (
-      p .0,
-      p .2,
+      (let l = p .0 in omega arith),
+      (let l = p .2 in omega arith),
       subst Whole (sym e) (p .4),
-      subst (Room (a .heard)) (sym e) (p .5),
+      subst (HaveRoom (a .heard)) (sym e) (p .5),
     )
 
 decide-requires : tie.Need-decide-requires
@@ -39,8 +40,8 @@ decide-requires c κs =
       p .0,
       p .1,
       subst Whole (sym q) (over-whole _ _ _ (subst Whole (sym e) (p .4))),
-      subst (Fits (a .heard)) (sym q)
-          (noted-fits (a .heard) (c .before .before .before .advance .result .notes) (subst Whole (sym e) (p .4)) (subst (Room (a .heard)) (sym e) (p .5)) (a .n) _),
+      subst (HavePlaces (a .heard)) (sym q)
+          (noted-fits (a .heard) (c .before .before .before .advance .result .notes) (subst Whole (sym e) (p .4)) (subst (HaveRoom (a .heard)) (sym e) (p .5)) _ _),
     )
 
 enum-told-2 : tie.Need-enum-told-2

@@ -14,10 +14,10 @@ use Rattle.terminal.proofs.choice.same.Statement.{statement}
 use Rattle.terminal.proofs.choice.same.Tie as tie
 
 abbrev Inv-loop : tie.InvT-loop
-Inv-loop n rows value firsts who₀ j₀ who j = (j ≤ n) × (who ≡ mask j (λ i. eqb (getD firsts i 0) value))
+Inv-loop n neighbours value firsts who₀ j₀ who j = (j ≤ n) × (who ≡ mask j (λ i. eqb (getD firsts i 0) value))
 
 abbrev μ-loop : tie.MeasureT-loop
-μ-loop n rows value firsts who₀ j₀ who j = n - j
+μ-loop n neighbours value firsts who₀ j₀ who j = n - j
 
 loop-holds : tie.Need-loop-holds Inv-loop μ-loop
 unfolding mask
@@ -56,9 +56,9 @@ returns c =
     let a = c .before .before .args in
     let l = c .before .loop in
     let e : l .j ≡ a .n = omega arith in
-    ap (λ (x : ℕ). bitAnd x (a .rows)) (l .inv .1)
-    ∙ mask-and (l .j) (λ i. eqb (getD (a .t1) i 0) (a .value)) (a .rows)
-    ∙ ap (λ (k : ℕ). mask k (λ i. eqb (getD (a .t1) i 0) (a .value) and mem i (a .rows))) e
+    ap (λ (x : ℕ). bitAnd x (a .neighbours)) (l .inv .1)
+    ∙ mask-and (l .j) (λ i. eqb (getD (a .t1) i 0) (a .value)) (a .neighbours)
+    ∙ ap (λ (k : ℕ). mask k (λ i. eqb (getD (a .t1) i 0) (a .value) and mem i (a .neighbours))) e
 
 pub same-spec : {M : Type 1} → statement M
 same-spec =

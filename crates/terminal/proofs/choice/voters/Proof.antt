@@ -14,10 +14,10 @@ use Rattle.terminal.proofs.choice.voters.Statement.{statement}
 use Rattle.terminal.proofs.choice.voters.Tie as tie
 
 abbrev Inv-loop : tie.InvT-loop
-Inv-loop n rows value notes who₀ j₀ who j = (j ≤ n) × (who ≡ mask j (λ i. mem i rows and among value (valuesIn (noteOf notes i))))
+Inv-loop n neighbours value notes who₀ j₀ who j = (j ≤ n) × (who ≡ mask j (λ i. mem i neighbours and among value (valuesIn (noteOf notes i))))
 
 abbrev μ-loop : tie.MeasureT-loop
-μ-loop n rows value notes who₀ j₀ who j = n - j
+μ-loop n neighbours value notes who₀ j₀ who j = n - j
 
 loop-holds : tie.Need-loop-holds Inv-loop μ-loop
 unfolding mask
@@ -66,7 +66,7 @@ returns c =
     let a = c .before .before .args in
     let l = c .before .loop in
     let e : l .j ≡ a .n = omega arith in
-    l .inv .1 ∙ ap (λ (k : ℕ). mask k (λ i. mem i (a .rows) and among (a .value) (valuesIn (noteOf (a .t1) i)))) e
+    l .inv .1 ∙ ap (λ (k : ℕ). mask k (λ i. mem i (a .neighbours) and among (a .value) (valuesIn (noteOf (a .t1) i)))) e
 
 pub voters-spec : {M : Type 1} → statement M
 voters-spec =
