@@ -153,11 +153,17 @@ fn marks_of_waiting(case: &StepCase, after: &Record) -> Vec<&'static str> {
     let votes = votes(place, after);
     let having = |wanted: u32| votes.values().filter(|&&count| count == wanted).count();
     let enough = votes.values().filter(|&&count| count > place.f).count();
+    let lone = |value: u16| {
+        let only = |j: &u32| after.row(*j).count == 1 && after.row(*j).at(0) == value;
+        place.heard.iter().any(only)
+    };
+    let no_lone_voter = matches!(after.state, State::Taken(_, value) if !direct && !lone(value));
     let written = |j: &u32| before.row(*j).count == 39 && after.row(*j).count == 40;
     let known = |j: &u32| before.row(*j).noted().contains(&case.said[*j as usize]);
     [
         ("direct", direct),
         ("several values have enough", !direct && enough > 1),
+        ("no voter has said only this", no_lone_voter),
         (
             "f+1 have a value",
             !direct && enough == 1 && having(place.f + 1) == 1,
@@ -259,9 +265,10 @@ fn marks(case: &StepCase) -> Vec<&'static str> {
     marks
 }
 
-const NEEDED: [&str; 30] = [
+const NEEDED: [&str; 31] = [
     "direct",
     "several values have enough",
+    "no voter has said only this",
     "f+1 have a value",
     "f have a value",
     "0 in the source's first place",
