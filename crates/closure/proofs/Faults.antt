@@ -2,12 +2,13 @@
 use Prim.Native.Nat.{ℕ, _<_, _^_}
 use mathlib.Core.Path.{_≡_}
 use mathlib.Core.Bool.{Bool, true, false, not}
-use borrow.Author.Tests.{ltb-true}
+use lib.Pow.{pow-pos}
+use borrow.Author.Tests.{ltb-true, lt-ltb}
 use Rattle.sets.specs.Tests.{_and_, _implies_}
 use Rattle.sets.specs.Sets.{mem, within}
-use Rattle.sets.proofs.Bools.{and-l, and-r, and-i, not-i, not-e, implies-e}
-use Rattle.sets.proofs.Laws.{all-at}
-use Rattle.quorum.proofs.Laws.{enough-mono}
+use Rattle.sets.proofs.Bools.{and-l, and-r, and-i, and-no-r, not-i, not-e, implies-i, implies-e}
+use Rattle.sets.proofs.Laws.{mem-zero, all-at, all-i}
+use Rattle.quorum.proofs.Laws.{enough-mono, enough-none}
 use Rattle.plan.specs.declared.Plan.{Plan}
 use Rattle.plan.specs.Plan.{hears}
 use Rattle.closure.specs.FaultSet.{enoughIn, hearsEnough, isBounded, isFaultSet}
@@ -26,6 +27,19 @@ unfolding isFaultSet isBounded
 fault-bound p s h b k e =
     not-e (hearsEnough p b s)
     (implies-e _ _ (all-at (p .n) (λ b. not (mem b s) implies not (hearsEnough p b s)) (and-r _ _ (and-r _ _ h)) b k) (not-i e))
+
+-- whoever hears nobody of a set does not hear enough of it, so nobody is a fault set
+pub hears-none : (p : Plan) (b s : ℕ) → ((a : ℕ) → hears p b a and mem a s ≡ false) → hearsEnough p b s ≡ false
+unfolding hearsEnough
+hears-none p b s h = enough-none (p .n) (p .f) (λ a. hears p b a and mem a s) (λ a k. h a)
+
+pub fault-none : (p : Plan) → isFaultSet p 0 ≡ true
+unfolding isFaultSet isBounded within
+fault-none p =
+    and-i _ _ (lt-ltb 0 (2 ^ p .n) (pow-pos (p .n)))
+    (and-i _ _ (not-i (mem-zero (p .source)))
+    (all-i (p .n) (λ b. not (mem b 0) implies not (hearsEnough p b 0))
+    (λ b k. implies-i _ _ (λ h. not-i (hears-none p b 0 (λ a. and-no-r _ _ (mem-zero a)))))))
 
 -- whoever hears enough of a property's terminals, each in the set, hears enough of the set
 pub hears-enough : (p : Plan) (b s : ℕ) (P : ℕ → Bool) → ((a : ℕ) → a < p .n → P a ≡ true → (hears p b a ≡ true) × (mem a s ≡ true))

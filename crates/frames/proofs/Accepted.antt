@@ -31,8 +31,10 @@ use Rattle.lines.specs.Frames.{frameOf}
 use Rattle.frames.specs.declared.Stage.{Stage}
 use Rattle.frames.specs.declared.Stage.the-variants.{Nothing, Links, Faults, Words}
 use Rattle.frames.specs.declared.Progress.{Progress}
+use Rattle.frames.specs.declared.Reader.{Reader}
 use Rattle.frames.specs.Lines.{Line, ended, cut, lastLine, linesFrom}
-use Rattle.frames.specs.Reading.{mostBytes, planKinds, runKinds, stageOf, isAt, roundsOf, nothingRead, noWords, headCause, linkCause, faultSetCause, startCause, messageCause, causeIn, linked, after, wordsAfter, Reading, refusal, told, reading, whole, planReading, runReading}
+use Rattle.frames.specs.Reading.{mostBytes, planReader, runReader, archiveReader, stageOf, isAt, roundsOf, nothingRead, noWords, headCause, linkCause, faultSetCause, startCause, messageCause, causeIn, linksCause, endCause, linked, after, wordsAfter, Reading, refusal, told, reading, whole, planReading, archiveReading, runReading}
+use Rattle.frames.proofs.Unless.{unless-read, unless-refused}
 
 -- a plan that the check finds sound, with its 20 rows
 abbrev pub Whole : Plan → Type 0
@@ -190,48 +192,58 @@ some-line line (b ∷ text) h =
     pick-case (λ (x : List Line). x ≡ [] → ⊥) (eqb b 10) (ended line ∷ linesFrom [] text) (linesFrom (line ++ (b ∷ [])) text)
     (λ t e. let z : _≡_ {A = ℕ} 0 1 = cc in omega arith) (λ t. some-line (line ++ (b ∷ [])) text (simp length-append (omega arith)))
 
--- what holds of a file that is read: its first line's frame was accepted, and the rest is told after it
-module _ (kinds : ℕ) (p : Progress) (words : List ℕ) (k : ℕ) (line : List ℕ) (rest : List Line) where
+-- what holds of a file that is read: its first line's frame was accepted, where the links end there nothing refuses them, and the rest is told after it
+module _ (reader : Reader) (p : Progress) (words : List ℕ) (k : ℕ) (line : List ℕ) (rest : List Line) where
   abbrev frame : Frame
-  frame = frameOf kinds line
+  frame = frameOf (reader .kinds) line
 
   abbrev next : Reading
-  next = told kinds (after p frame) (wordsAfter p words frame) (k + 1) rest
+  next = told reader (after p frame) (wordsAfter p words frame) (k + 1) rest
+
+  pub line-passed : (Q : Reading → Type 0) → (endCause reader p frame ≡ 0 → causeIn p words frame ≡ 0 → next .number ≡ 0 → Q next)
+      → told reader p words k (ended line ∷ rest) .number ≡ 0 → Q (told reader p words k (ended line ∷ rest))
+  unfolding told
+  line-passed Q f =
+      unless-read (endCause reader p frame) 0 _ Q (λ a. unless-read (causeIn p words frame) k next Q (f a))
 
   pub line-read : (Q : Reading → Type 0) → (causeIn p words frame ≡ 0 → next .number ≡ 0 → Q next)
-      → told kinds p words k (ended line ∷ rest) .number ≡ 0 → Q (told kinds p words k (ended line ∷ rest))
-  unfolding told
-  line-read Q f =
-      pick-case (λ (r : Reading). r .number ≡ 0 → Q r) (eqb (causeIn p words frame) 0) next (refusal (causeIn p words frame) k)
-      (λ e. f (eqb-true (causeIn p words frame) 0 e)) (λ e z. absurd (eqb-false (causeIn p words frame) 0 e z))
+      → told reader p words k (ended line ∷ rest) .number ≡ 0 → Q (told reader p words k (ended line ∷ rest))
+  line-read Q f = line-passed Q (λ a. f)
+
+-- at its end nothing refuses the links either
+pub end-read : (reader : Reader) (p : Progress) (words : List ℕ) (k : ℕ) (Q : Reading → Type 0)
+    → (linksCause reader p ≡ 0 → Q (record { number = 0; line = 0; progress = p; words = words }))
+    → told reader p words k [] .number ≡ 0 → Q (told reader p words k [])
+unfolding told
+end-read reader p words k Q f = unless-read (linksCause reader p) 0 _ Q (λ c z. f c)
 
 -- and it is not empty
-pub text-read : (kinds : ℕ) (text : List ℕ) (Q : Reading → Type 0)
-    → (1 ≤ length text → told kinds nothingRead noWords 1 (linesFrom [] text) .number ≡ 0 → Q (told kinds nothingRead noWords 1 (linesFrom [] text)))
-    → reading kinds text .number ≡ 0 → Q (reading kinds text)
+pub text-read : (reader : Reader) (text : List ℕ) (Q : Reading → Type 0)
+    → (1 ≤ length text → told reader nothingRead noWords 1 (linesFrom [] text) .number ≡ 0 → Q (told reader nothingRead noWords 1 (linesFrom [] text)))
+    → reading reader text .number ≡ 0 → Q (reading reader text)
 unfolding reading
-text-read kinds text Q f =
+text-read reader text Q f =
     pick-case (λ (r : Reading). r .number ≡ 0 → Q r) (leb 1 (length text) and leb (length text) mostBytes)
-    (told kinds nothingRead noWords 1 (linesFrom [] text)) (refusal 1 0)
+    (told reader nothingRead noWords 1 (linesFrom [] text)) (refusal 1 0)
     (λ t. f (leb-true 1 (length text) (and-l _ _ t))) (λ t z. absurd (omega arith))
 
 module _ (I : Progress → Type 0)
     (kept : (p : Progress) (words : List ℕ) (frame : Frame) → (stageOf (p .stage) ≡ 0) ⊎ I p → causeIn p words frame ≡ 0 → I (after p frame)) where
-  told-keeps : (kinds : ℕ) (p : Progress) (words : List ℕ) (k : ℕ) (lines : List Line) → (stageOf (p .stage) ≡ 0) ⊎ I p → (lines ≡ [] → I p)
-      → told kinds p words k lines .number ≡ 0 → I (told kinds p words k lines .progress)
+  told-keeps : (reader : Reader) (p : Progress) (words : List ℕ) (k : ℕ) (lines : List Line) → (stageOf (p .stage) ≡ 0) ⊎ I p → (lines ≡ [] → I p)
+      → told reader p words k lines .number ≡ 0 → I (told reader p words k lines .progress)
   unfolding told
-  told-keeps kinds p words k [] i e = λ z. e refl
-  told-keeps kinds p words k (cut line ∷ rest) i e = λ z. absurd (omega arith)
-  told-keeps kinds p words k (ended line ∷ rest) i e =
-      line-read kinds p words k line rest (λ (r : Reading). I (r .progress))
+  told-keeps reader p words k [] i e = end-read reader p words k (λ (r : Reading). I (r .progress)) (λ c. e refl)
+  told-keeps reader p words k (cut line ∷ rest) i e = λ z. absurd (omega arith)
+  told-keeps reader p words k (ended line ∷ rest) i e =
+      line-read reader p words k line rest (λ (r : Reading). I (r .progress))
       (λ c.
-      let j = kept p words (frameOf kinds line) i c in
-      told-keeps kinds (after p (frameOf kinds line)) (wordsAfter p words (frameOf kinds line)) (k + 1) rest (inr j) (λ n. j))
+      let j = kept p words (frameOf (reader .kinds) line) i c in
+      told-keeps reader (after p (frameOf (reader .kinds) line)) (wordsAfter p words (frameOf (reader .kinds) line)) (k + 1) rest (inr j) (λ n. j))
 
-  pub reading-keeps : (kinds : ℕ) (text : List ℕ) → reading kinds text .number ≡ 0 → I (reading kinds text .progress)
-  reading-keeps kinds text =
-      text-read kinds text (λ (r : Reading). I (r .progress))
-      (λ one. told-keeps kinds nothingRead noWords 1 (linesFrom [] text) (inl refl) (λ e. absurd (some-line [] text (omega arith) e)))
+  pub reading-keeps : (reader : Reader) (text : List ℕ) → reading reader text .number ≡ 0 → I (reading reader text .progress)
+  reading-keeps reader text =
+      text-read reader text (λ (r : Reading). I (r .progress))
+      (λ one. told-keeps reader nothingRead noWords 1 (linesFrom [] text) (inl refl) (λ e. absurd (some-line [] text (omega arith) e)))
 
 -- ---- what is known of each stage
 
@@ -280,14 +292,43 @@ module _ (p : Progress) (words : List ℕ) where
     in-range = frame-in-range frame i h;
   }
 
-pub reading-known : (kinds : ℕ) (text : List ℕ) → reading kinds text .number ≡ 0 → Known (reading kinds text .progress)
+pub reading-known : (reader : Reader) (text : List ℕ) → reading reader text .number ≡ 0 → Known (reading reader text .progress)
 reading-known = reading-keeps Known frame-known
+
+-- ---- a refused file: nothing is known of it
+
+told-refused : (reader : Reader) (p : Progress) (words : List ℕ) (k : ℕ) (lines : List Line) → (told reader p words k lines .number ≡ 0 → ⊥)
+    → told reader p words k lines .progress ≡ nothingRead
+unfolding told
+told-refused reader p words k [] = unless-refused (linksCause reader p) 0 _ (λ n. absurd (n refl))
+told-refused reader p words k (cut line ∷ rest) = λ n. refl
+told-refused reader p words k (ended line ∷ rest) =
+    unless-refused (endCause reader p (frameOf (reader .kinds) line)) 0 _
+    (unless-refused (causeIn p words (frameOf (reader .kinds) line)) k _
+    (told-refused reader (after p (frameOf (reader .kinds) line)) (wordsAfter p words (frameOf (reader .kinds) line)) (k + 1) rest))
+
+pub reading-refused : (reader : Reader) (text : List ℕ) → (reading reader text .number ≡ 0 → ⊥) → reading reader text .progress ≡ nothingRead
+unfolding reading
+reading-refused reader text =
+    pick-case (λ (r : Reading). (r .number ≡ 0 → ⊥) → r .progress ≡ nothingRead) (leb 1 (length text) and leb (length text) mostBytes)
+    (told reader nothingRead noWords 1 (linesFrom [] text)) (refusal 1 0)
+    (λ t. told-refused reader nothingRead noWords 1 (linesFrom [] text)) (λ t n. refl)
+
+-- whatever was read has at most 20 terminals
+pub reading-twenty : (reader : Reader) (text : List ℕ) → reading reader text .progress .plan .n ≤ 20
+reading-twenty reader text =
+    ⊎-elim (λ z. sound _ (reading-known reader text z .plan-whole .0) .twenty)
+    (λ n. let e = ap (λ (p : Progress). p .plan .n) (reading-refused reader text n) in omega arith) (equal-or-not (reading reader text .number) 0)
 
 -- ---- an accepted plan file, and an accepted run file
 
 pub accepted-sound : (text : List ℕ) → planReading text .number ≡ 0 → Whole (planReading text .progress .plan)
 unfolding planReading
-accepted-sound text h = reading-known planKinds text h .plan-whole
+accepted-sound text h = reading-known planReader text h .plan-whole
+
+pub archived-sound : (text : List ℕ) → archiveReading text .number ≡ 0 → Whole (archiveReading text .progress .plan)
+unfolding archiveReading
+archived-sound text h = reading-known archiveReader text h .plan-whole
 
 -- a run file that is accepted has reached the last stage
 whole-stage : (r : Reading) → whole r .number ≡ 0 → (whole r ≡ r) × (stageOf (r .progress .stage) ≡ 3)
@@ -298,9 +339,9 @@ whole-stage r =
     (λ t z. absurd (omega arith))
     (λ t z. (refl, eqb-true (stageOf (r .progress .stage)) 3 (not-no _ (sym (and-yes _ _ (eq-eqb (r .number) 0 z)) ∙ t))))
 
-pub run-is : (text : List ℕ) → runReading text .number ≡ 0 → runReading text ≡ reading runKinds text
+pub run-is : (text : List ℕ) → runReading text .number ≡ 0 → runReading text ≡ reading runReader text
 unfolding runReading
-run-is text h = whole-stage (reading runKinds text) h .0
+run-is text h = whole-stage (reading runReader text) h .0
 
 pub run-accepted : (text : List ℕ) → runReading text .number ≡ 0
     → (causeOf (runReading text .progress .plan) ≡ 0)
@@ -308,7 +349,7 @@ pub run-accepted : (text : List ℕ) → runReading text .number ≡ 0
     × (startSound (runReading text .progress .value) (runReading text .progress .rounds) ≡ true)
 unfolding runReading
 run-accepted text h =
-    let w = whole-stage (reading runKinds text) h in
-    let k = reading-known runKinds text (sym (ap (λ (r : Reading). r .number) (w .0)) ∙ h) in
-    let s : stageOf (reading runKinds text .progress .stage) ≡ 3 = w .1 in
+    let w = whole-stage (reading runReader text) h in
+    let k = reading-known runReader text (sym (ap (λ (r : Reading). r .number) (w .0)) ∙ h) in
+    let s : stageOf (reading runReader text .progress .stage) ≡ 3 = w .1 in
     rw (w .0) (k .plan-whole .0, k .bad-set (omega arith), k .in-range s)

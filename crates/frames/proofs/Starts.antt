@@ -9,10 +9,11 @@ use Rattle.lines.specs.declared.Frame.{Frame}
 use Rattle.lines.specs.declared.Frame.the-variants.{Foreign, Unknown, Head, Link, FaultSet, Start, Message}
 use Rattle.lines.specs.Frames.{frameOf}
 use Rattle.frames.specs.declared.Progress.{Progress}
+use Rattle.frames.specs.declared.Reader.{Reader}
 use Rattle.frames.specs.Lines.{Line, ended, cut, linesFrom}
-use Rattle.frames.specs.Reading.{runKinds, stageOf, roundsOf, nothingRead, noWords, causeIn, after, wordsAfter, Reading, told, reading, runReading}
+use Rattle.frames.specs.Reading.{runKinds, runReader, stageOf, roundsOf, nothingRead, noWords, causeIn, after, wordsAfter, Reading, told, reading, runReading}
 use Rattle.frames.specs.Tells.{Tells}
-use Rattle.frames.proofs.Accepted.{head-accepted, link-accepted, fault-set-accepted, start-accepted, line-read, text-read, run-is}
+use Rattle.frames.proofs.Accepted.{head-accepted, link-accepted, fault-set-accepted, start-accepted, line-read, end-read, text-read, run-is}
 
 -- ---- after the start
 
@@ -27,16 +28,16 @@ frame-stays p words (FaultSet x) s h = absurd (omega (arith, fault-set-accepted 
 frame-stays p words (Start value rounds) s h = absurd (omega (arith, start-accepted p words value rounds h .0))
 frame-stays p words (Message round from to value) s h = refl
 
-told-stays : (kinds : ℕ) (p : Progress) (words : List ℕ) (k : ℕ) (lines : List Line) → stageOf (p .stage) ≡ 3
-    → told kinds p words k lines .number ≡ 0 → told kinds p words k lines .progress ≡ p
+told-stays : (reader : Reader) (p : Progress) (words : List ℕ) (k : ℕ) (lines : List Line) → stageOf (p .stage) ≡ 3
+    → told reader p words k lines .number ≡ 0 → told reader p words k lines .progress ≡ p
 unfolding told
-told-stays kinds p words k [] s = λ z. refl
-told-stays kinds p words k (cut line ∷ rest) s = λ z. absurd (omega arith)
-told-stays kinds p words k (ended line ∷ rest) s =
-    line-read kinds p words k line rest (λ (r : Reading). r .progress ≡ p)
+told-stays reader p words k [] s = end-read reader p words k (λ (r : Reading). r .progress ≡ p) (λ c. refl)
+told-stays reader p words k (cut line ∷ rest) s = λ z. absurd (omega arith)
+told-stays reader p words k (ended line ∷ rest) s =
+    line-read reader p words k line rest (λ (r : Reading). r .progress ≡ p)
     (λ c z.
-    let same = frame-stays p words (frameOf kinds line) s c in
-    told-stays kinds (after p (frameOf kinds line)) (wordsAfter p words (frameOf kinds line)) (k + 1) rest (ap (λ (q : Progress). stageOf (q .stage)) same ∙ s)
+    let same = frame-stays p words (frameOf (reader .kinds) line) s c in
+    told-stays reader (after p (frameOf (reader .kinds) line)) (wordsAfter p words (frameOf (reader .kinds) line)) (k + 1) rest (ap (λ (q : Progress). stageOf (q .stage)) same ∙ s)
     z
     ∙ same)
 
@@ -46,34 +47,34 @@ told-stays kinds p words k (ended line ∷ rest) s =
 abbrev pub Started : (value : ℕ) → Rounds → Progress → Type 0
 Started value rounds p = (p .value ≡ value) × (p .rounds ≡ roundsOf (p .plan .n) rounds)
 
-module _ (kinds value : ℕ) (rounds : Rounds) where
+module _ (reader : Reader) (value : ℕ) (rounds : Rounds) where
   -- the rest is told after it
   start-here : (p : Progress) (words : List ℕ) (k : ℕ) (frame : Frame) (rest : List Line) → frame ≡ Start value rounds
-      → told kinds (after p frame) words k rest .number ≡ 0 → Started value rounds (told kinds (after p frame) words k rest .progress)
+      → told reader (after p frame) words k rest .number ≡ 0 → Started value rounds (told reader (after p frame) words k rest .progress)
   unfolding after
   start-here p words k frame rest e z =
-      let same = told-stays kinds (after p frame) words k rest (ap (λ (x : Frame). stageOf (after p x .stage)) e) z in
+      let same = told-stays reader (after p frame) words k rest (ap (λ (x : Frame). stageOf (after p x .stage)) e) z in
       subst (Started value rounds) (sym (same ∙ ap (after p) e)) (refl, refl)
 
-  told-starts : (p : Progress) (words : List ℕ) (k : ℕ) (lines : List Line) → Tells kinds (Start value rounds) lines
-      → told kinds p words k lines .number ≡ 0 → Started value rounds (told kinds p words k lines .progress)
+  told-starts : (p : Progress) (words : List ℕ) (k : ℕ) (lines : List Line) → Tells (reader .kinds) (Start value rounds) lines
+      → told reader p words k lines .number ≡ 0 → Started value rounds (told reader p words k lines .progress)
   unfolding told
   told-starts p words k [] t = absurd t
   told-starts p words k (cut line ∷ rest) t = λ z. absurd (omega arith)
   told-starts p words k (ended line ∷ rest) t =
-      line-read kinds p words k line rest (λ (r : Reading). Started value rounds (r .progress))
+      line-read reader p words k line rest (λ (r : Reading). Started value rounds (r .progress))
       (λ c.
-      ⊎-elim (start-here p (wordsAfter p words (frameOf kinds line)) (k + 1) (frameOf kinds line) rest)
-      (told-starts (after p (frameOf kinds line)) (wordsAfter p words (frameOf kinds line)) (k + 1) rest) t)
+      ⊎-elim (start-here p (wordsAfter p words (frameOf (reader .kinds) line)) (k + 1) (frameOf (reader .kinds) line) rest)
+      (told-starts (after p (frameOf (reader .kinds) line)) (wordsAfter p words (frameOf (reader .kinds) line)) (k + 1) rest) t)
 
-  reading-starts : (text : List ℕ) → Tells kinds (Start value rounds) (linesFrom [] text) → reading kinds text .number ≡ 0
-      → Started value rounds (reading kinds text .progress)
+  reading-starts : (text : List ℕ) → Tells (reader .kinds) (Start value rounds) (linesFrom [] text) → reading reader text .number ≡ 0
+      → Started value rounds (reading reader text .progress)
   reading-starts text t =
-      text-read kinds text (λ (r : Reading). Started value rounds (r .progress)) (λ one. told-starts nothingRead noWords 1 (linesFrom [] text) t)
+      text-read reader text (λ (r : Reading). Started value rounds (r .progress)) (λ one. told-starts nothingRead noWords 1 (linesFrom [] text) t)
 
 pub run-starts : (text : List ℕ) → runReading text .number ≡ 0 → (value : ℕ) (rounds : Rounds) → Tells runKinds (Start value rounds) (linesFrom [] text)
     → Started value rounds (runReading text .progress)
 run-starts text h value rounds t =
     let e = run-is text h in
     subst (λ (r : Reading). Started value rounds (r .progress)) (sym e)
-    (reading-starts runKinds value rounds text t (sym (ap (λ (r : Reading). r .number) e) ∙ h))
+    (reading-starts runReader value rounds text t (sym (ap (λ (r : Reading). r .number) e) ∙ h))

@@ -3,10 +3,10 @@ use Prim.Native.Nat.{ℕ, _+_, _-_, _≤_}
 use mathlib.Core.List.{List}
 use mathlib.Core.Path.{_≡_}
 use lib.ListN.{length, take, drop}
-use Rattle.sets.specs.Sets.{Set}
 use Rattle.quorum.specs.Quorum.{mostTerminals}
 use Rattle.quorum.specs.Words.{mostRounds, mostWords}
 use Rattle.frames.specs.declared.Progress.{Progress}
+use Rattle.frames.specs.declared.Reader.{Reader}
 use Rattle.frames.specs.declared.Cursor.{Cursor}
 use Rattle.frames.specs.Lines.{linesFrom}
 use Rattle.frames.specs.Reading.{Reading, told, reading}
@@ -15,11 +15,11 @@ use Rattle.frames.specs.Reading.{Reading, told, reading}
 abbrev pub current : (text : List ℕ) (from i : ℕ) → List ℕ
 current text from i = take (i - from) (drop from text)
 
-abbrev pub ahead : (kinds : Set) (text : List ℕ) → Progress → (words : List ℕ) (line from i : ℕ) → Reading
-ahead kinds text p words line from i = told kinds p words line (linesFrom (current text from i) (drop i text))
+abbrev pub ahead : Reader → (text : List ℕ) → Progress → (words : List ℕ) (line from i : ℕ) → Reading
+ahead reader text p words line from i = told reader p words line (linesFrom (current text from i) (drop i text))
 
 -- the pass stands before the byte at i and nothing was refused: told from here, the file is what it is from the start
-pub record Going (kinds : Set) (text words : List ℕ) (at : Cursor) (i : ℕ) : Type 0 where
+pub record Going (reader : Reader) (text words : List ℕ) (at : Cursor) (i : ℕ) : Type 0 where
   pub accepted : at .cause ≡ 0
   pub begun : at .from ≤ i
   pub within : i ≤ length text
@@ -27,4 +27,4 @@ pub record Going (kinds : Set) (text words : List ℕ) (at : Cursor) (i : ℕ) :
   pub twenty : at .progress .plan .n ≤ mostTerminals
   pub forty : at .progress .rounds ≤ mostRounds
   pub places : length words ≡ mostWords
-  pub same : ahead kinds text (at .progress) words (at .line) (at .from) i ≡ reading kinds text
+  pub same : ahead reader text (at .progress) words (at .line) (at .from) i ≡ reading reader text

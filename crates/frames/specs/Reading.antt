@@ -1,6 +1,6 @@
 -- A file read line by line: what each frame does, and the causes for which it is refused (document 01, the table of causes). Assumes nothing.
 use Prim.Native.Nat.{ℕ, _+_, _-_, _^_}
-use mathlib.Core.Bool.{Bool, not}
+use mathlib.Core.Bool.{Bool, true, false, not}
 use mathlib.Core.List.{List, [], _∷_}
 use lib.Dec.{eqb, leb, ltb}
 use lib.ListN.{length, getD, set, replicate}
@@ -11,6 +11,7 @@ use Rattle.quorum.specs.Quorum.{mostTerminals, inRange}
 use Rattle.quorum.specs.Words.{mostWords, startSound, placeOf}
 use Rattle.plan.specs.declared.Plan.{Plan}
 use Rattle.plan.specs.Plan.{heardBy, hears}
+use Rattle.plan.specs.Deaf.{deafSet}
 use Rattle.faults.specs.Check.{faultCauseOf}
 use Rattle.lines.specs.declared.Rounds.{Rounds}
 use Rattle.lines.specs.declared.Rounds.the-variants.{Given, Left}
@@ -21,20 +22,32 @@ use Rattle.frames.specs.declared.Stage.{Stage}
 use Rattle.frames.specs.declared.Stage.the-variants.{Nothing, Links, Faults, Words}
 use Rattle.frames.specs.declared.Progress.{Progress}
 use Rattle.frames.specs.declared.FileRead.{FileRead}
+use Rattle.frames.specs.declared.ArchiveRead.{ArchiveRead}
+use Rattle.frames.specs.declared.Reader.{Reader}
 use Rattle.frames.specs.Lines.{Line, ended, cut, linesFrom}
 
--- ---- limits, and the kinds of frame that each program knows
+-- ---- limits, and what each reader opens
 
 -- a file has 1 to so many bytes
 abbrev pub mostBytes : ℕ
 mostBytes = 24576
 
--- the reader of plan files knows 01 and 02, that of run files all five
+-- plan files have the kinds 01 and 02, run files all five
 abbrev pub planKinds : Set
 planKinds = 2 ^ 1 + 2 ^ 2
 
 abbrev pub runKinds : Set
 runKinds = 2 ^ 1 + 2 ^ 2 + 2 ^ 3 + 2 ^ 4 + 2 ^ 5
+
+-- the readers of new plans and of runs, and that of the archive, which opens plans with a deaf terminal too (document 02, P6)
+abbrev pub planReader : Reader
+planReader = record { kinds = planKinds; archive = false }
+
+abbrev pub runReader : Reader
+runReader = record { kinds = runKinds; archive = false }
+
+abbrev pub archiveReader : Reader
+archiveReader = record { kinds = planKinds; archive = true }
 
 -- ---- what is known after some lines
 
@@ -106,6 +119,26 @@ causeIn p words (FaultSet s) = faultSetCause p s
 causeIn p words (Start value rounds) = startCause p value rounds
 causeIn p words (Message round from to value) = messageCause p words round from to value
 
+-- ---- where the links end (document 02, P6): at the first line after the head that passes 1 and 2 and is not a link, or else at the end of the file
+
+-- a line with this frame passes 1 and 2 and is not a link
+unfoldable pub endsLinks : Frame → Bool
+endsLinks Foreign = false
+endsLinks Unknown = false
+endsLinks (Head n source f) = true
+endsLinks (Link from to) = false
+endsLinks (FaultSet s) = true
+endsLinks (Start value rounds) = true
+endsLinks (Message round from to value) = true
+
+-- the number of the first cause that is looked at there, 0 for none: after the head, and while nothing but links has followed
+unfoldable pub linksCause : Reader → Progress → ℕ
+linksCause reader p = firstCause ((isAt Links p and not (reader .archive) and not (eqb (deafSet (p .plan)) 0)) gives 15 ∷ [])
+
+-- the same of a line, if the links end there
+unfoldable pub endCause : Reader → Progress → Frame → ℕ
+endCause reader p frame = pick (endsLinks frame) (linksCause reader p) 0
+
 -- ---- what an accepted frame adds
 
 -- the plan with one link more: `to` hears `from`
@@ -154,33 +187,45 @@ pub record Reading : Type 0 where
 abbrev pub refusal : (number line : ℕ) → Reading
 refusal number line = record { number = number; line = line; progress = nothingRead; words = noWords }
 
--- the lines from line k on: the first that fails decides
-unfoldable pub told : (kinds : Set) → Progress → (words : List ℕ) (k : ℕ) → List Line → Reading
-told kinds p words k [] = record { number = 0; line = 0; progress = p; words = words }
-told kinds p words k (cut line ∷ rest) = refusal 1 k
-told kinds p words k (ended line ∷ rest) =
-    pick (eqb (causeIn p words (frameOf kinds line)) 0)
-    (told kinds (after p (frameOf kinds line)) (wordsAfter p words (frameOf kinds line)) (k + 1) rest)
-    (refusal (causeIn p words (frameOf kinds line)) k)
+-- the reading goes on where no cause was found
+abbrev pub unless : (cause line : ℕ) → Reading → Reading
+unless cause line r = pick (eqb cause 0) r (refusal cause line)
+
+-- the lines from line k on: the first that fails decides. What is looked at where the links end comes before the line's other causes, and is told
+-- with line 0
+unfoldable pub told : Reader → Progress → (words : List ℕ) (k : ℕ) → List Line → Reading
+told reader p words k [] = unless (linksCause reader p) 0 (record { number = 0; line = 0; progress = p; words = words })
+told reader p words k (cut line ∷ rest) = refusal 1 k
+told reader p words k (ended line ∷ rest) =
+    unless (endCause reader p (frameOf (reader .kinds) line)) 0
+    (unless (causeIn p words (frameOf (reader .kinds) line)) k
+    (told reader (after p (frameOf (reader .kinds) line)) (wordsAfter p words (frameOf (reader .kinds) line)) (k + 1) rest))
 
 -- the file's length comes first of all
-unfoldable pub reading : (kinds : Set) (text : List ℕ) → Reading
-reading kinds text =
-    pick (leb 1 (length text) and leb (length text) mostBytes) (told kinds nothingRead noWords 1 (linesFrom [] text)) (refusal 1 0)
+unfoldable pub reading : Reader → (text : List ℕ) → Reading
+reading reader text =
+    pick (leb 1 (length text) and leb (length text) mostBytes) (told reader nothingRead noWords 1 (linesFrom [] text)) (refusal 1 0)
 
 -- a file for `run` needs 03 and 04: that comes last
 unfoldable pub whole : Reading → Reading
 whole r = pick (eqb (r .number) 0 and not (isAt Words (r .progress))) (refusal 3 0) r
 
 unfoldable pub planReading : (text : List ℕ) → Reading
-planReading text = reading planKinds text
+planReading text = reading planReader text
+
+unfoldable pub archiveReading : (text : List ℕ) → Reading
+archiveReading text = reading archiveReader text
 
 unfoldable pub runReading : (text : List ℕ) → Reading
-runReading text = whole (reading runKinds text)
+runReading text = whole (reading runReader text)
 
 -- what a caller gets beside the words
 abbrev pub fileRead : Reading → FileRead
 fileRead r = record { number = r .number; line = r .line; progress = r .progress }
+
+-- the archive's reader gives the deaf terminals too; of a refused file there are none
+abbrev pub archiveRead : Reading → ArchiveRead
+archiveRead r = record { file = fileRead r; deaf = deafSet (r .progress .plan) }
 
 -- the reader of run files is lent a list for the words: where the file is accepted, one of the wrong length is refused 12
 unfoldable pub runFile : (text : List ℕ) (room : ℕ) → Reading

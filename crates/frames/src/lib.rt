@@ -1,10 +1,12 @@
-// Hexadecimal lines: the readers of plan files and of run files.
+// Hexadecimal lines: the readers of plan files, new ones and those of the archive, and of run files.
+mod deaf;
+mod ends;
 mod told;
 
 ghost use mathlib.Core.Path.{_≡_};
 ghost use Prim.Native.Nat.{_+_, _<_, _≤_};
 ghost use lib.ListN.{length};
-ghost use Rattle.frames.specs.Reading.{mostBytes, stageOf, isAt, nothingRead, noWords, refusal, reading, planReading, fileRead, runFile, wordsRead};
+ghost use Rattle.frames.specs.Reading.{mostBytes, stageOf, isAt, nothingRead, noWords, refusal, reading, planReading, archiveReading, fileRead, archiveRead, runFile, wordsRead};
 ghost use Rattle.frames.specs.Pass.{Going};
 use plan::Plan;
 
@@ -13,10 +15,17 @@ const MOST_BYTES: usize = 24576;
 
 const MOST_WORDS: usize = 16000;
 
-// The kinds that a plan file has, 01 and 02, and those of a run file, 01 to 05: bit i for kind i.
+// The kinds of a plan file, 01 and 02, and of a run file, 01 to 05: bit i for kind i.
 const PLAN_KINDS: u32 = 6;
 
 const RUN_KINDS: u32 = 62;
+
+// What a reader opens: the kinds of frame that it knows, and whether plans with a deaf terminal too, as
+// that of the archive does.
+pub struct Reader {
+    pub kinds: u32,
+    pub archive: bool,
+}
 
 // How far a file was read: nothing; the head and perhaps links; the fault set too; the start too and
 // perhaps words.
@@ -42,6 +51,12 @@ pub struct FileRead {
     pub number: u8,
     pub line: u16,
     pub progress: Progress,
+}
+
+// What the reader of the archive answers: the deaf terminals too.
+pub struct ArchiveRead {
+    pub file: FileRead,
+    pub deaf: u32,
 }
 
 // The stages in their order.
@@ -95,15 +110,25 @@ struct Cursor {
 }
 
 // The byte at i: it ends a line, whose frame is told, or it is one more of the line.
-fn pass(kinds: u32, text: &[u8], words: &mut [u16], at: Cursor, i: usize) -> Cursor
-    requires { ⌜ Going kinds (now text) (now words) at i × (i < length (now text)) × (length (now text) ≤ mostBytes) ⌝ }
-    ensures { λ r. ⌜ (r .cause ≡ 0 → Going kinds (now (text .entry)) (now (words .exit)) r (i + 1)) ⌝ }
-    ensures { λ r. ⌜ ((r .cause ≡ 0 → ⊥) → reading kinds (now (text .entry)) ≡ refusal (r .cause) (r .line)) ⌝ }
+fn pass(reader: Reader, text: &[u8], words: &mut [u16], at: Cursor, i: usize) -> Cursor
+    requires { ⌜ Going reader (now text) (now words) at i × (i < length (now text)) × (length (now text) ≤ mostBytes) ⌝ }
+    ensures { λ r. ⌜ (r .cause ≡ 0 → Going reader (now (text .entry)) (now (words .exit)) r (i + 1)) ⌝ }
+    ensures { λ r. ⌜ ((r .cause ≡ 0 → ⊥) → reading reader (now (text .entry)) ≡ refusal (r .cause) (r .line)) ⌝ }
 {
     let from = at.from;
     let known = at.progress;
     if text[i] == 10 {
-        let told = told::tell(known, words, lines::frame_of(kinds, &text[from..i]));
+        let frame = lines::frame_of(reader.kinds, &text[from..i]);
+        let end = ends::end_cause(reader, known, frame);
+        if end != 0 {
+            return Cursor {
+                progress: known,
+                line: 0,
+                from: from,
+                cause: end,
+            };
+        }
+        let told = told::tell(known, words, frame);
         if told.cause != 0 {
             return Cursor {
                 progress: known,
@@ -124,9 +149,9 @@ fn pass(kinds: u32, text: &[u8], words: &mut [u16], at: Cursor, i: usize) -> Cur
 }
 
 // The lines of a file of fitting length, from the first: each is told as its end is met.
-fn read_lines(kinds: u32, text: &[u8], words: &mut [u16]) -> FileRead
+fn read_lines(reader: Reader, text: &[u8], words: &mut [u16]) -> FileRead
     requires { ⌜ (1 ≤ length (now text)) × (length (now text) ≤ mostBytes) × (now words ≡ noWords) ⌝ }
-    ensures { λ r. ⌜ (r ≡ fileRead (reading kinds (now (text .entry)))) × (r .number ≡ 0 → now (words .exit) ≡ reading kinds (now (text .entry)) .words) ⌝ }
+    ensures { λ r. ⌜ (r ≡ fileRead (reading reader (now (text .entry)))) × (r .number ≡ 0 → now (words .exit) ≡ reading reader (now (text .entry)) .words) ⌝ }
 {
     let nothing = refusal(0, 0);
     let start = nothing.progress;
@@ -138,7 +163,7 @@ fn read_lines(kinds: u32, text: &[u8], words: &mut [u16]) -> FileRead
     };
     let mut i = 0;
     while i < text.len() {
-        at = pass(kinds, text, words, at, i);
+        at = pass(reader, text, words, at, i);
         if at.cause != 0 {
             return refusal(at.cause, at.line);
         }
@@ -148,6 +173,10 @@ fn read_lines(kinds: u32, text: &[u8], words: &mut [u16]) -> FileRead
         return refusal(1, at.line);
     }
     let progress = at.progress;
+    let end = ends::links_cause(reader, progress);
+    if end != 0 {
+        return refusal(end, 0);
+    }
     FileRead {
         number: 0,
         line: 0,
@@ -156,9 +185,9 @@ fn read_lines(kinds: u32, text: &[u8], words: &mut [u16]) -> FileRead
 }
 
 // The file's own length is looked at first of all.
-fn read(kinds: u32, text: &[u8], words: &mut [u16]) -> FileRead
+fn read(reader: Reader, text: &[u8], words: &mut [u16]) -> FileRead
     requires { ⌜ now words ≡ noWords ⌝ }
-    ensures { λ r. ⌜ (r ≡ fileRead (reading kinds (now (text .entry)))) × (r .number ≡ 0 → now (words .exit) ≡ reading kinds (now (text .entry)) .words) ⌝ }
+    ensures { λ r. ⌜ (r ≡ fileRead (reading reader (now (text .entry)))) × (r .number ≡ 0 → now (words .exit) ≡ reading reader (now (text .entry)) .words) ⌝ }
 {
     if text.len() < 1 {
         return refusal(1, 0);
@@ -166,15 +195,35 @@ fn read(kinds: u32, text: &[u8], words: &mut [u16]) -> FileRead
     if MOST_BYTES < text.len() {
         return refusal(1, 0);
     }
-    read_lines(kinds, text, words)
+    read_lines(reader, text, words)
 }
 
-// The plan of a file with heads and links only.
+// The plan of a file with heads and links only, of which every terminal but the source hears somebody.
 pub fn read_plan(text: &[u8]) -> FileRead
     ensures { λ r. ⌜ r ≡ fileRead (planReading (now (text .entry))) ⌝ }
 {
     let mut words = [0u16; MOST_WORDS];
-    read(PLAN_KINDS, text, &mut words)
+    let reader = Reader {
+        kinds: PLAN_KINDS,
+        archive: false,
+    };
+    read(reader, text, &mut words)
+}
+
+// The plan of such a file, whoever is deaf, and the deaf terminals.
+pub fn read_archive(text: &[u8]) -> ArchiveRead
+    ensures { λ r. ⌜ r ≡ archiveRead (archiveReading (now (text .entry))) ⌝ }
+{
+    let mut words = [0u16; MOST_WORDS];
+    let reader = Reader {
+        kinds: PLAN_KINDS,
+        archive: true,
+    };
+    let file = read(reader, text, &mut words);
+    ArchiveRead {
+        file: file,
+        deaf: deaf::deaf_set(file.progress.plan),
+    }
 }
 
 fn copy_words(from: &[u16], to: &mut [u16])
@@ -193,7 +242,11 @@ pub fn read_run(text: &[u8], words: &mut [u16]) -> FileRead
     ensures { λ r. ⌜ (r ≡ fileRead (runFile (now (text .entry)) (length (now (words .entry))))) × (now (words .exit) ≡ wordsRead (runFile (now (text .entry)) (length (now (words .entry)))) (now (words .entry))) ⌝ }
 {
     let mut local = [0u16; MOST_WORDS];
-    let file = read(RUN_KINDS, text, &mut local);
+    let reader = Reader {
+        kinds: RUN_KINDS,
+        archive: false,
+    };
+    let file = read(reader, text, &mut local);
     if file.number != 0 {
         return file;
     }

@@ -12,6 +12,8 @@ mod texts;
 fn answer(kind: u8, size: usize, body: &[u8], line: &mut [u8]) -> usize {
     match kind {
         b'v' => texts::verdict(size, body, line),
+        b'a' => texts::archive(size, body, line),
+        b'd' => texts::open(body, line),
         b'r' => texts::run(size, body, line),
         b'f' => texts::read(size, body, line),
         b'p' => texts::write(size, body, line),

@@ -26,6 +26,20 @@ pub(crate) fn verdict(room: usize, file: &[u8], line: &mut [u8]) -> usize {
     0
 }
 
+fn archive_into(file: &[u8], out: &mut [u8], line: &mut [u8]) -> usize {
+    let w = verdict_output::archive_text(file, out);
+    written(line, w.number, w.len, out)
+}
+
+// The same by the program for the archive.
+pub(crate) fn archive(room: usize, file: &[u8], line: &mut [u8]) -> usize {
+    let mut out = [90u8; 400];
+    if room <= 400 {
+        return archive_into(file, &mut out[..room], line);
+    }
+    0
+}
+
 fn run_into(file: &[u8], out: &mut [u8], line: &mut [u8]) -> usize {
     let w = run_output::run_text(file, out);
     written(line, w.number, w.len, out)
@@ -105,20 +119,32 @@ fn rows(line: &mut [u8], at: usize, list: [u32; 20]) -> usize {
     k
 }
 
-// What was read, beside the words.
-fn file(line: &mut [u8], r: FileRead) -> usize {
-    let progress = r.progress;
-    let plan = progress.plan;
+// The number, the line and the plan that was read.
+fn plan_of(line: &mut [u8], r: FileRead) -> usize {
+    let plan = r.progress.plan;
     let list = plan.rows;
     let one = say::byte(line, 0, r.number);
     let two = say::pair(line, one, r.line);
     let three = say::size(line, two, plan.n);
     let four = say::size(line, three, plan.source);
     let five = say::size(line, four, plan.f);
-    let six = rows(line, five, list);
-    let seven = say::quad(line, six, progress.faulty);
-    let eight = say::pair(line, seven, progress.value);
-    say::byte(line, eight, progress.rounds)
+    rows(line, five, list)
+}
+
+// What was read, beside the words.
+fn file(line: &mut [u8], r: FileRead) -> usize {
+    let progress = r.progress;
+    let one = plan_of(line, r);
+    let two = say::quad(line, one, progress.faulty);
+    let three = say::pair(line, two, progress.value);
+    say::byte(line, three, progress.rounds)
+}
+
+// What the archive's reader answers: the deaf set too.
+pub(crate) fn open(text: &[u8], line: &mut [u8]) -> usize {
+    let r = frames::read_archive(text);
+    let one = plan_of(line, r.file);
+    say::quad(line, one, r.deaf)
 }
 
 fn read_into(text: &[u8], words: &mut [u16], line: &mut [u8]) -> usize {

@@ -9,8 +9,8 @@ use Rattle.plan.specs.Plan.{causeOf}
 use Rattle.text.specs.declared.Written as text
 use Rattle.text.specs.Texts.{writtenOf}
 use Rattle.frames.specs.declared.FileRead.{FileRead}
-use Rattle.frames.specs.Reading.{planReading, fileRead}
-use Rattle.frames.proofs.Accepted.{accepted-sound}
+use Rattle.frames.specs.Reading.{archiveReading, fileRead}
+use Rattle.frames.proofs.Accepted.{archived-sound}
 use Rattle.writer.specs.Written.{planText, writtenText}
 use Rattle.writer.proofs.Laws.{text-short, sound-text}
 use Rattle.output.specs.declared.Written.{Written}
@@ -23,11 +23,11 @@ unfolding rewrittenOn
 anew-refused read t n a = a ∙ sym (refused-is read (planText (read .progress .plan)) n)
 
 -- an accepted file's plan is sound, so its text is what is written
-module _ (file : List ℕ) (read : FileRead) (e : read ≡ fileRead (planReading file)) (z : read .number ≡ 0) where
+module _ (file : List ℕ) (read : FileRead) (e : read ≡ fileRead (archiveReading file)) (z : read .number ≡ 0) where
   sound : causeOf (read .progress .plan) ≡ 0
   sound =
-      let n : planReading file .number ≡ 0 = sym (ap (λ (r : FileRead). r .number) e) ∙ z in
-      ap (λ (r : FileRead). causeOf (r .progress .plan)) e ∙ accepted-sound file n .0
+      let n : archiveReading file .number ≡ 0 = sym (ap (λ (r : FileRead). r .number) e) ∙ z in
+      ap (λ (r : FileRead). causeOf (r .progress .plan)) e ∙ archived-sound file n .0
 
   pub anew-text : writtenText (read .progress .plan) ≡ rewrittenOn read
   unfolding rewrittenOn
@@ -42,9 +42,9 @@ module _ (file : List ℕ) (read : FileRead) (e : read ≡ fileRead (planReading
 
 pub rewritten-short : (file : List ℕ) → length (rewrittenText file) ≤ 2809
 unfolding rewrittenText rewrittenOn
-rewritten-short file = on-length (fileRead (planReading file)) _ 2809 (omega arith) (λ z. text-short (planReading file .progress .plan))
+rewritten-short file = on-length (fileRead (archiveReading file)) _ 2809 (omega arith) (λ z. text-short (archiveReading file .progress .plan))
 
 pub rewritten-fits : (file : List ℕ) (room : ℕ) → 2809 ≤ room
-    → answerOn (fileRead (planReading file)) (rewrittenText file) room
-    ≡ record { number = planReading file .number; line = planReading file .line; len = length (rewrittenText file) }
-rewritten-fits file room h = whole-text (fileRead (planReading file)) (rewrittenText file) room (omega (arith, rewritten-short file))
+    → answerOn (fileRead (archiveReading file)) (rewrittenText file) room
+    ≡ record { number = archiveReading file .number; line = archiveReading file .line; len = length (rewrittenText file) }
+rewritten-fits file room h = whole-text (fileRead (archiveReading file)) (rewrittenText file) room (omega (arith, rewritten-short file))

@@ -1,4 +1,4 @@
--- What `verdict` prints on any file (document 01, "Hexadecimal lines"). Assumes nothing.
+-- What `verdict` and `archive` print on any file (document 01, "Hexadecimal lines"; document 02, P6). Assumes nothing.
 use Prim.Native.Nat.{ℕ}
 use mathlib.Core.List.{List, [], _∷_, _++_}
 use lib.Dec.{eqb}
@@ -7,7 +7,7 @@ use Rattle.sets.specs.Sets.{Set}
 use Rattle.closure.specs.Answer.{Answer, answerOf}
 use Rattle.text.specs.Digits.{hexByte, hexTriple}
 use Rattle.frames.specs.declared.FileRead.{FileRead}
-use Rattle.frames.specs.Reading.{planReading, fileRead}
+use Rattle.frames.specs.Reading.{planReading, archiveReading, fileRead}
 use Rattle.output.specs.OnFile.{refusalLine, textOn}
 
 -- 81: 00 pass or 01 fail, then F, L, R
@@ -24,3 +24,7 @@ verdictOn read = textOn read (answerText (answerOf (read .progress .plan)))
 
 unfoldable pub verdictText : (file : List ℕ) → List ℕ
 verdictText file = verdictOn (fileRead (planReading file))
+
+-- `archive` opens plans with a deaf terminal too
+unfoldable pub archiveText : (file : List ℕ) → List ℕ
+archiveText file = verdictOn (fileRead (archiveReading file))

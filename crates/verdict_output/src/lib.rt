@@ -1,12 +1,12 @@
-// What `verdict` prints: from a plan file's bytes to the verdict's line.
+// What `verdict` and `archive` print: from a plan file's bytes to the verdict's line.
 ghost use mathlib.Core.Path.{_≡_};
 ghost use Prim.Native.Nat.{_<_};
 ghost use lib.ListN.{length};
 ghost use Rattle.partition.specs.Answer.{answered};
 ghost use Rattle.text.specs.Texts.{held, putInto};
-ghost use Rattle.frames.specs.Reading.{planReading, fileRead};
+ghost use Rattle.frames.specs.Reading.{planReading, archiveReading, fileRead};
 ghost use Rattle.output.specs.OnFile.{answerOn};
-ghost use Rattle.verdict_output.specs.Verdict.{verdictLine, answerText, verdictOn, verdictText};
+ghost use Rattle.verdict_output.specs.Verdict.{verdictLine, answerText, verdictOn, verdictText, archiveText};
 use frames::FileRead;
 use output::Written;
 use partition::Judgement;
@@ -55,5 +55,15 @@ pub fn verdict_text(text: &[u8], out: &mut [u8]) -> Written
     ensures { λ r. ⌜ now (out .exit) ≡ putInto (verdictText (now (text .entry))) (now (out .entry)) ⌝ }
 {
     let read = frames::read_plan(text);
+    output::put(read, of_plan(read), out)
+}
+
+// What `archive` prints on a plan file, whoever is deaf, into the lent buffer.
+pub fn archive_text(text: &[u8], out: &mut [u8]) -> Written
+    ensures { λ r. ⌜ r ≡ answerOn (fileRead (archiveReading (now (text .entry)))) (archiveText (now (text .entry))) (length (now (out .entry))) ⌝ }
+    ensures { λ r. ⌜ now (out .exit) ≡ putInto (archiveText (now (text .entry))) (now (out .entry)) ⌝ }
+{
+    let archived = frames::read_archive(text);
+    let read = archived.file;
     output::put(read, of_plan(read), out)
 }

@@ -1,22 +1,17 @@
--- The lines of the text that is written, and how the reader takes them. Assumes nothing.
+-- The lines of the text that is written. Assumes nothing.
 use Prim.Native.Nat.{ℕ, zero, suc, _+_, _*_, _/_, _%_, _≤_}
-use mathlib.Core.Path.{_≡_, refl, ap, _∙_}
+use mathlib.Core.Path.{_≡_, refl}
 use mathlib.Core.Bool.{true}
 use mathlib.Core.List.{List, [], _∷_, _++_}
 use native.Mathlib.Omega.{arith}
 use lib.ListN.{length, length-append}
-use borrow.Author.Tests.{eq-eqb}
 use Rattle.sets.specs.Tests.{pick}
-use Rattle.sets.proofs.Bools.{pick-yes, pick-case, every}
+use Rattle.sets.proofs.Bools.{pick-case, every}
 use Rattle.plan.specs.declared.Plan.{Plan}
 use Rattle.plan.specs.Plan.{hears}
 use Rattle.text.specs.Digits.{hexByte}
 use Rattle.text.proofs.Laws.{noEnd, byte-no-end}
-use Rattle.lines.specs.declared.Frame.{Frame}
-use Rattle.lines.specs.Frames.{frameOf}
-use Rattle.frames.specs.declared.Progress.{Progress}
-use Rattle.frames.specs.Lines.{Line, ended, linesFrom}
-use Rattle.frames.specs.Reading.{causeIn, after, wordsAfter, told}
+use Rattle.frames.specs.Lines.{ended, linesFrom}
 use Rattle.frames.proofs.TextLines.{line-of}
 use Rattle.writer.specs.Written.{headLine, linkLine, linkLines}
 use Rattle.writer.proofs.Digits.{headDigits, linkDigits}
@@ -36,14 +31,6 @@ head-lines p rest = line-of [] (headDigits (p .n) (p .source) (p .f)) rest (head
 pub link-lines : (from to : ℕ) (rest : List ℕ) → linesFrom [] (linkLine from to ++ rest) ≡ ended (linkDigits from to) ∷ linesFrom [] rest
 unfolding linkLine hexByte
 link-lines from to rest = line-of [] (linkDigits from to) rest (link-no-end from to)
-
--- a line whose frame is accepted
-pub line-told : (kinds : ℕ) (p : Progress) (words : List ℕ) (k : ℕ) (line : List ℕ) (rest : List Line) (frame : Frame) → frameOf kinds line ≡ frame
-    → causeIn p words frame ≡ 0 → told kinds p words k (ended line ∷ rest) ≡ told kinds (after p frame) (wordsAfter p words frame) (k + 1) rest
-unfolding told
-line-told kinds p words k line rest frame f z =
-    pick-yes _ _ _ (eq-eqb (causeIn p words (frameOf kinds line)) 0 (ap (causeIn p words) f ∙ z))
-    ∙ ap (λ (x : Frame). told kinds (after p x) (wordsAfter p words x) (k + 1) rest) f
 
 -- ---- the text's length
 

@@ -20,15 +20,17 @@ use Rattle.sets.proofs.Laws.{equal-or-not, below-or-not, mem-zero, mem-above, s
 use Rattle.quorum.specs.Quorum.{inRange}
 use Rattle.plan.specs.declared.Plan.{Plan}
 use Rattle.plan.specs.Plan.{heardBy, hears, causeOf}
+use Rattle.plan.specs.Deaf.{deafSet}
 use Rattle.plan.proofs.Laws.{Sound, sound, tests}
 use Rattle.lines.specs.declared.Frame.the-variants.{Head, Link}
 use Rattle.frames.specs.declared.Stage.the-variants.{Links}
 use Rattle.frames.specs.declared.Progress.{Progress}
 use Rattle.frames.specs.Lines.{lastLine, linesFrom}
-use Rattle.frames.specs.Reading.{mostBytes, planKinds, isAt, nothingRead, noWords, headCause, linkCause, causeIn, linked, after, wordsAfter, Reading, told, reading, planReading}
+use Rattle.frames.specs.Reading.{mostBytes, planKinds, archiveReader, isAt, nothingRead, noWords, headCause, linkCause, causeIn, linked, after, wordsAfter, Reading, told, reading, planReading, archiveReading}
+use Rattle.frames.proofs.Archive.{kept-line, kept-end, beside}
 use Rattle.writer.specs.Written.{headLine, linkLine, linkLines, planText}
 use Rattle.writer.proofs.Digits.{headDigits, linkDigits, head-frame, link-frame}
-use Rattle.writer.proofs.Lines.{head-lines, link-lines, line-told, head-length, links-length}
+use Rattle.writer.proofs.Lines.{head-lines, link-lines, head-length, links-length}
 
 or-false : (x y : Bool) → y ≡ false → x or y ≡ x
 unfolding _or_
@@ -161,24 +163,26 @@ module _ (p : Plan) (s : Sound p) where
     abbrev Read : Reading
     Read = record { number = 0; line = 0; progress = progressWith p (p .rows); words = words }
 
-    links-end : (j : ℕ) (rows : List ℕ) → Passed p 400 rows → told planKinds (progressWith p rows) words j (linesFrom [] []) ≡ Read
-    unfolding told linesFrom lastLine
-    links-end j rows passed = ap (λ (r : List ℕ). record { number = 0; line = 0; progress = progressWith p r; words = words }) (all-passed rows t passed)
+    links-end : (j : ℕ) (rows : List ℕ) → Passed p 400 rows → told archiveReader (progressWith p rows) words j (linesFrom [] []) ≡ Read
+    unfolding linesFrom lastLine
+    links-end j rows passed =
+        kept-end planKinds (progressWith p rows) words j
+        ∙ ap (λ (r : List ℕ). record { number = 0; line = 0; progress = progressWith p r; words = words }) (all-passed rows t passed)
 
     link-told : (k j : ℕ) (rows rest : List ℕ) → Passed p k rows → (from to : ℕ) → 20 * from + to ≡ k → from < 20 → to < 20 → hears p to from ≡ true
-        → told planKinds (progressWith p rows) words j (linesFrom [] (linkLine from to ++ rest))
-        ≡ told planKinds (progressWith p (set rows to (with 32 (getD rows to 0) from))) words (j + 1) (linesFrom [] rest)
+        → told archiveReader (progressWith p rows) words j (linesFrom [] (linkLine from to ++ rest))
+        ≡ told archiveReader (progressWith p (set rows to (with 32 (getD rows to 0) from))) words (j + 1) (linesFrom [] rest)
     unfolding after linked wordsAfter heardBy
     link-told k j rows rest passed from to here a b e =
-        ap (told planKinds (progressWith p rows) words j) (link-lines from to rest)
-        ∙ line-told planKinds (progressWith p rows) words j (linkDigits from to) (linesFrom [] rest) (Link from to) (link-frame from to (omega arith) (omega arith))
+        ap (told archiveReader (progressWith p rows) words j) (link-lines from to rest)
+        ∙ kept-line planKinds (progressWith p rows) words j (linkDigits from to) (linesFrom [] rest) (Link from to) (link-frame from to (omega arith) (omega arith))
         (link-accepted k rows words passed from to here a b e)
 
-    links-told : (m k j : ℕ) (rows : List ℕ) → k + m ≡ 400 → Passed p k rows → told planKinds (progressWith p rows) words j (linesFrom [] (linkLines p m k)) ≡ Read
+    links-told : (m k j : ℕ) (rows : List ℕ) → k + m ≡ 400 → Passed p k rows → told archiveReader (progressWith p rows) words j (linesFrom [] (linkLines p m k)) ≡ Read
     unfolding linkLines
     links-told zero k j rows e passed = links-end j rows (subst (λ (i : ℕ). Passed p i rows) (omega arith) passed)
     links-told (suc m) k j rows e passed =
-        pick-case (λ (l : List ℕ). told planKinds (progressWith p rows) words j (linesFrom [] (l ++ linkLines p m (suc k))) ≡ Read)
+        pick-case (λ (l : List ℕ). told archiveReader (progressWith p rows) words j (linesFrom [] (l ++ linkLines p m (suc k))) ≡ Read)
         (hears p (k % 20) (k / 20)) (linkLine (k / 20) (k % 20)) []
         (λ h.
         let here : 20 * (k / 20) + k % 20 ≡ k = omega arith in
@@ -190,17 +194,17 @@ module _ (p : Plan) (s : Sound p) where
         (λ h. links-told m (suc k) j rows (omega arith) (place-skipped p k rows passed h))
 
     head-told : (rest : List ℕ) → inRange (p .n) (p .source) (p .f) ≡ true
-        → told planKinds nothingRead words 1 (linesFrom [] (headLine p ++ rest)) ≡ told planKinds (progressWith p (replicate 20 0)) words 2 (linesFrom [] rest)
+        → told archiveReader nothingRead words 1 (linesFrom [] (headLine p ++ rest)) ≡ told archiveReader (progressWith p (replicate 20 0)) words 2 (linesFrom [] rest)
     unfolding causeIn headCause isAt after wordsAfter
     head-told rest r =
         let n : p .n < 256 = omega (arith, s .twenty) in
         let source : p .source < 256 = omega (arith, s .source-below) in
         let f : p .f < 256 = omega (arith, s .f-below) in
-        ap (told planKinds nothingRead words 1) (head-lines p rest)
-        ∙ line-told planKinds nothingRead words 1 (headDigits (p .n) (p .source) (p .f)) (linesFrom [] rest) (Head (p .n) (p .source) (p .f))
+        ap (told archiveReader nothingRead words 1) (head-lines p rest)
+        ∙ kept-line planKinds nothingRead words 1 (headDigits (p .n) (p .source) (p .f)) (linesFrom [] rest) (Head (p .n) (p .source) (p .f))
         (head-frame (p .n) (p .source) (p .f) n source f) (cause-later _ _ _ (not-yes refl) ∙ cause-last _ _ (not-yes r))
 
-    text-told : inRange (p .n) (p .source) (p .f) ≡ true → told planKinds nothingRead words 1 (linesFrom [] (planText p)) ≡ Read
+    text-told : inRange (p .n) (p .source) (p .f) ≡ true → told archiveReader nothingRead words 1 (linesFrom [] (planText p)) ≡ Read
     unfolding planText
     text-told r = head-told (linkLines p 400 0) r ∙ links-told 400 0 2 (replicate 20 0) refl (none-passed p)
 
@@ -212,11 +216,20 @@ text-length p =
     let l : length (linkLines p 400 0) ≤ 2800 = links-length p 400 0 in
     (omega arith, omega arith)
 
-pub read-back : (p : Plan) → causeOf p ≡ 0 → length (p .rows) ≡ 20
-    → planReading (planText p)
-    ≡ record { number = 0; line = 0; progress = record { stage = Links; plan = p; faulty = 0; value = 0; rounds = 0 }; words = noWords }
-unfolding planReading reading
-read-back p e t =
-    let long = text-length p in
-    pick-yes _ _ _ (and-i _ _ (le-leb 1 (length (planText p)) (long .0)) (le-leb (length (planText p)) mostBytes (long .1)))
-    ∙ text-told p (sound p e) t noWords (tests p e .0)
+-- by the archive
+abbrev pub asRead : Plan → Reading
+asRead p = record { number = 0; line = 0; progress = record { stage = Links; plan = p; faulty = 0; value = 0; rounds = 0 }; words = noWords }
+
+module _ (p : Plan) (e : causeOf p ≡ 0) (t : length (p .rows) ≡ 20) where
+  pub read-back : archiveReading (planText p) ≡ asRead p
+  unfolding archiveReading reading
+  read-back =
+      let long = text-length p in
+      pick-yes _ _ _ (and-i _ _ (le-leb 1 (length (planText p)) (long .0)) (le-leb (length (planText p)) mostBytes (long .1)))
+      ∙ text-told p (sound p e) t noWords (tests p e .0)
+
+  -- and where nobody is deaf, by the reader of new plans too
+  pub read-new : deafSet p ≡ 0 → planReading (planText p) ≡ asRead p
+  read-new d =
+      beside (planText p) .nobody-deaf (ap (λ (r : Reading). r .number) read-back) (ap (λ (r : Reading). deafSet (r .progress .plan)) read-back ∙ d)
+      ∙ read-back

@@ -8,9 +8,10 @@ use Rattle.lines.specs.declared.Frame.{Frame}
 use Rattle.lines.specs.declared.Frame.the-variants.{Foreign, Unknown, Head, Link, FaultSet, Start, Message}
 use Rattle.lines.specs.Frames.{frameOf}
 use Rattle.frames.specs.declared.Progress.{Progress}
+use Rattle.frames.specs.declared.Reader.{Reader}
 use Rattle.frames.specs.Lines.{Line, ended, cut, linesFrom}
 use Rattle.frames.specs.Reading.{stageOf, nothingRead, noWords, causeIn, linked, after, wordsAfter, Reading, told, reading}
-use Rattle.frames.proofs.Accepted.{head-accepted, link-accepted, fault-set-accepted, start-accepted, message-accepted, frame-stage, some-line, line-read, text-read}
+use Rattle.frames.proofs.Accepted.{head-accepted, link-accepted, fault-set-accepted, start-accepted, message-accepted, frame-stage, some-line, line-read, end-read, text-read}
 use Rattle.writer.specs.RoundTrip.{Begins}
 
 abbrev headOf : Plan → Frame
@@ -40,31 +41,31 @@ head-kept p words (Message round from to value) s h = refl
 
 -- ---- the lines
 
-told-head : (kinds : ℕ) (p : Progress) (words : List ℕ) (k : ℕ) (lines : List Line) → (stageOf (p .stage) ≡ 0 → ⊥)
-    → told kinds p words k lines .number ≡ 0 → headOf (told kinds p words k lines .progress .plan) ≡ headOf (p .plan)
+told-head : (reader : Reader) (p : Progress) (words : List ℕ) (k : ℕ) (lines : List Line) → (stageOf (p .stage) ≡ 0 → ⊥)
+    → told reader p words k lines .number ≡ 0 → headOf (told reader p words k lines .progress .plan) ≡ headOf (p .plan)
 unfolding told
-told-head kinds p words k [] s = λ z. refl
-told-head kinds p words k (cut line ∷ rest) s = λ z. absurd (omega arith)
-told-head kinds p words k (ended line ∷ rest) s =
-    line-read kinds p words k line rest (λ (r : Reading). headOf (r .progress .plan) ≡ headOf (p .plan))
+told-head reader p words k [] s = end-read reader p words k (λ (r : Reading). headOf (r .progress .plan) ≡ headOf (p .plan)) (λ c. refl)
+told-head reader p words k (cut line ∷ rest) s = λ z. absurd (omega arith)
+told-head reader p words k (ended line ∷ rest) s =
+    line-read reader p words k line rest (λ (r : Reading). headOf (r .progress .plan) ≡ headOf (p .plan))
     (λ c z.
-    told-head kinds (after p (frameOf kinds line)) (wordsAfter p words (frameOf kinds line)) (k + 1) rest (frame-stage p words (frameOf kinds line) c) z
-    ∙ head-kept p words (frameOf kinds line) s c)
+    told-head reader (after p (frameOf (reader .kinds) line)) (wordsAfter p words (frameOf (reader .kinds) line)) (k + 1) rest (frame-stage p words (frameOf (reader .kinds) line) c) z
+    ∙ head-kept p words (frameOf (reader .kinds) line) s c)
 
-told-begins : (kinds : ℕ) (words : List ℕ) (lines : List Line) → (lines ≡ [] → ⊥)
-    → told kinds nothingRead words 1 lines .number ≡ 0 → Begins kinds (told kinds nothingRead words 1 lines .progress .plan) lines
+told-begins : (reader : Reader) (words : List ℕ) (lines : List Line) → (lines ≡ [] → ⊥)
+    → told reader nothingRead words 1 lines .number ≡ 0 → Begins (reader .kinds) (told reader nothingRead words 1 lines .progress .plan) lines
 unfolding told
-told-begins kinds words [] n = λ z. absurd (n refl)
-told-begins kinds words (cut line ∷ rest) n = λ z. absurd (omega arith)
-told-begins kinds words (ended line ∷ rest) n =
-    line-read kinds nothingRead words 1 line rest (λ (r : Reading). frameOf kinds line ≡ headOf (r .progress .plan))
+told-begins reader words [] n = λ z. absurd (n refl)
+told-begins reader words (cut line ∷ rest) n = λ z. absurd (omega arith)
+told-begins reader words (ended line ∷ rest) n =
+    line-read reader nothingRead words 1 line rest (λ (r : Reading). frameOf (reader .kinds) line ≡ headOf (r .progress .plan))
     (λ c z.
-    first-head words (frameOf kinds line) c
+    first-head words (frameOf (reader .kinds) line) c
     ∙ sym
-    (told-head kinds (after nothingRead (frameOf kinds line)) (wordsAfter nothingRead words (frameOf kinds line)) (1 + 1) rest
-    (frame-stage nothingRead words (frameOf kinds line) c) z))
+    (told-head reader (after nothingRead (frameOf (reader .kinds) line)) (wordsAfter nothingRead words (frameOf (reader .kinds) line)) (1 + 1) rest
+    (frame-stage nothingRead words (frameOf (reader .kinds) line) c) z))
 
-pub reading-begins : (kinds : ℕ) (text : List ℕ) → reading kinds text .number ≡ 0 → Begins kinds (reading kinds text .progress .plan) (linesFrom [] text)
-reading-begins kinds text =
-    text-read kinds text (λ (r : Reading). Begins kinds (r .progress .plan) (linesFrom [] text))
-    (λ one. told-begins kinds noWords (linesFrom [] text) (some-line [] text (omega arith)))
+pub reading-begins : (reader : Reader) (text : List ℕ) → reading reader text .number ≡ 0 → Begins (reader .kinds) (reading reader text .progress .plan) (linesFrom [] text)
+reading-begins reader text =
+    text-read reader text (λ (r : Reading). Begins (reader .kinds) (r .progress .plan) (linesFrom [] text))
+    (λ one. told-begins reader noWords (linesFrom [] text) (some-line [] text (omega arith)))

@@ -23,10 +23,11 @@ use Rattle.lines.specs.declared.Frame.{Frame}
 use Rattle.lines.specs.declared.Frame.the-variants.{Foreign, Unknown, Head, Link, FaultSet, Start, Message}
 use Rattle.lines.specs.Frames.{frameOf}
 use Rattle.frames.specs.declared.Progress.{Progress}
+use Rattle.frames.specs.declared.Reader.{Reader}
 use Rattle.frames.specs.Lines.{Line, ended, cut, linesFrom}
 use Rattle.frames.specs.Reading.{stageOf, nothingRead, noWords, causeIn, linked, after, wordsAfter, Reading, told, reading}
 use Rattle.frames.specs.Tells.{Tells}
-use Rattle.frames.proofs.Accepted.{Whole, head-accepted, link-accepted, frame-stage, frame-whole, line-read, text-read}
+use Rattle.frames.proofs.Accepted.{Whole, head-accepted, link-accepted, frame-stage, frame-whole, line-read, end-read, text-read}
 
 -- no links
 no-row : (b : ℕ) → getD {A = ℕ} (replicate 20 0) b 0 ≡ 0
@@ -118,27 +119,29 @@ joined e g = (
   ⊎-elim (λ a. g .1 (inl (e .1 (inl a)))) (⊎-elim (λ f. g .1 (inl (e .1 (inr f)))) (λ t. g .1 (inr t))),
 )
 
-told-links : (kinds : ℕ) (p : Progress) (words : List ℕ) (k : ℕ) (lines : List Line) → Ready p
-    → told kinds p words k lines .number ≡ 0 → Says p (λ a b. Tells kinds (Link a b) lines) (told kinds p words k lines .progress)
+told-links : (reader : Reader) (p : Progress) (words : List ℕ) (k : ℕ) (lines : List Line) → Ready p
+    → told reader p words k lines .number ≡ 0 → Says p (λ a b. Tells (reader .kinds) (Link a b) lines) (told reader p words k lines .progress)
 unfolding told Says
-told-links kinds p words k [] r = λ z a b. (λ h. inl h, ⊎-elim (λ h. h) (λ e. absurd e))
-told-links kinds p words k (cut line ∷ rest) r = λ z. absurd (omega arith)
-told-links kinds p words k (ended line ∷ rest) r =
-    line-read kinds p words k line rest (λ (x : Reading). Says p (λ a b. Tells kinds (Link a b) (ended line ∷ rest)) (x .progress))
+told-links reader p words k [] r =
+    end-read reader p words k (λ (x : Reading). Says p (λ a b. Tells (reader .kinds) (Link a b) []) (x .progress))
+    (λ c a b. (λ h. inl h, ⊎-elim (λ h. h) (λ e. absurd e)))
+told-links reader p words k (cut line ∷ rest) r = λ z. absurd (omega arith)
+told-links reader p words k (ended line ∷ rest) r =
+    line-read reader p words k line rest (λ (x : Reading). Says p (λ a b. Tells (reader .kinds) (Link a b) (ended line ∷ rest)) (x .progress))
     (λ c z a b.
-    joined (frame-links p words r (frameOf kinds line) c a b)
-    (told-links kinds (after p (frameOf kinds line)) (wordsAfter p words (frameOf kinds line)) (k + 1) rest (frame-ready p words r (frameOf kinds line) c) z
+    joined (frame-links p words r (frameOf (reader .kinds) line) c a b)
+    (told-links reader (after p (frameOf (reader .kinds) line)) (wordsAfter p words (frameOf (reader .kinds) line)) (k + 1) rest (frame-ready p words r (frameOf (reader .kinds) line) c) z
     a b))
 
 nothing-ready : Ready nothingRead
 nothing-ready = record { begun = λ n. absurd (n refl); empty = λ z a b. no-link 0 0 0 a b }
 
 -- b hears a exactly if some line of the file is the link from a to b
-pub reading-links : (kinds : ℕ) (text : List ℕ) → reading kinds text .number ≡ 0 → (a b : ℕ)
-    → (hears (reading kinds text .progress .plan) b a ≡ true) ↔ Tells kinds (Link a b) (linesFrom [] text)
+pub reading-links : (reader : Reader) (text : List ℕ) → reading reader text .number ≡ 0 → (a b : ℕ)
+    → (hears (reading reader text .progress .plan) b a ≡ true) ↔ Tells (reader .kinds) (Link a b) (linesFrom [] text)
 unfolding Says
-reading-links kinds text =
-    text-read kinds text (λ (r : Reading). (a b : ℕ) → (hears (r .progress .plan) b a ≡ true) ↔ Tells kinds (Link a b) (linesFrom [] text))
+reading-links reader text =
+    text-read reader text (λ (r : Reading). (a b : ℕ) → (hears (r .progress .plan) b a ≡ true) ↔ Tells (reader .kinds) (Link a b) (linesFrom [] text))
     (λ one z a b.
-    let g = told-links kinds nothingRead noWords 1 (linesFrom [] text) nothing-ready z a b in
+    let g = told-links reader nothingRead noWords 1 (linesFrom [] text) nothing-ready z a b in
     (λ h. ⊎-elim (λ x. clash x (no-link 0 0 0 a b)) (λ x. x) (g .0 h), λ x. g .1 (inr x)))

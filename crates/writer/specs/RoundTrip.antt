@@ -10,7 +10,7 @@ use Rattle.plan.specs.Plan.{hears}
 use Rattle.lines.specs.declared.Frame.the-variants.{Head, Link}
 use Rattle.lines.specs.Frames.{frameOf}
 use Rattle.frames.specs.Lines.{Line, ended, cut, linesFrom}
-use Rattle.frames.specs.Reading.{planKinds, runKinds, planReading, runReading}
+use Rattle.frames.specs.Reading.{planKinds, runKinds, Reading, planReading, archiveReading, runReading}
 use Rattle.frames.specs.Tells.{Tells}
 use Rattle.writer.specs.Written.{planText}
 
@@ -26,13 +26,15 @@ pub record Says (kinds : Set) (file : List ℕ) (p : Plan) : Type 0 where
   pub links : (a b : Terminal) → (hears p b a ≡ true) ↔ Tells kinds (Link a b) (linesFrom [] file)
 
 -- of an accepted file and the plan that was read: both the file and what is written of the plan say it, and the latter is read as the same plan
-pub record Again (kinds : Set) (file : List ℕ) (p : Plan) : Type 0 where
+pub record Again (kinds : Set) (read : List ℕ → Reading) (file : List ℕ) (p : Plan) : Type 0 where
   pub before : Says kinds file p
   pub after : Says planKinds (planText p) p
-  pub accepted : planReading (planText p) .number ≡ 0
-  pub same : planReading (planText p) .progress .plan ≡ p
+  pub accepted : read (planText p) .number ≡ 0
+  pub same : read (planText p) .progress .plan ≡ p
 
--- the claim about any file, for `verdict` and for `run`
+-- the claim about any file: what is written of an archived plan is read by the archive, and of the plan of `verdict` or `run` by the reader of new
+-- plans
 pub record RoundTrip (file : List ℕ) : Type 0 where
-  pub of-verdict : planReading file .number ≡ 0 → Again planKinds file (planReading file .progress .plan)
-  pub of-run : runReading file .number ≡ 0 → Again runKinds file (runReading file .progress .plan)
+  pub of-archive : archiveReading file .number ≡ 0 → Again planKinds archiveReading file (archiveReading file .progress .plan)
+  pub of-verdict : planReading file .number ≡ 0 → Again planKinds planReading file (planReading file .progress .plan)
+  pub of-run : runReading file .number ≡ 0 → Again runKinds planReading file (runReading file .progress .plan)

@@ -24,7 +24,7 @@ pub fn check(checks: &mut Checks) {
 
 fn ways_to_give_a_file(checks: &mut Checks) {
     let example = lines(&EXAMPLE);
-    for words in [vec!["verdict"], vec!["verdict", "-"]] {
+    for words in [vec!["verdict"], vec!["verdict", "-"], vec!["archive"]] {
         let done = checks.call_with(&words, example.as_bytes());
         checks.ends(&format!("{words:?} of input"), &done, 0, VERDICT, "");
     }
@@ -60,7 +60,7 @@ fn programs(checks: &mut Checks) {
     let other_order = lines(&["01040001", "020203", "020002", "020103", "020001"]);
     let example = lines(&EXAMPLE);
     let run_text = format!("{TEXT}bad 1\nvalue 7\nrounds 3\nround 2: 1 says 9 to 3\n");
-    let table: [(&str, &str, String); 9] = [
+    let table: [(&str, &str, String); 11] = [
         ("run", &run, states.clone()),
         ("run", &run_text, states.clone()),
         ("explain", &run, format!("{states}{told}")),
@@ -70,6 +70,8 @@ fn programs(checks: &mut Checks) {
         ("plan", &other_order, example.clone()),
         ("plan", &run_text, run.clone()),
         ("verdict", TEXT, VERDICT.into()),
+        ("archive", TEXT, VERDICT.into()),
+        ("archive", &run_text, VERDICT.into()),
     ];
     for (word, input, wanted) in table {
         let done = checks.call_with(&[word], input.as_bytes());
@@ -100,15 +102,17 @@ fn one_word(checks: &mut Checks) {
 }
 
 /// The names that a row's words and lines stand for.
-const FILES: [(&str, &str); 4] = [
+const FILES: [(&str, &str); 6] = [
     ("good", "01020000\n020001\n"),
     ("failing", TEXT),
+    ("deaf", "01020000\n"),
+    ("deaf text", "terminals 2\nsource 0\nbound 0\n"),
     ("refused", "01150001\n"),
     ("missing", ""),
 ];
 
 /// Words, status and lines, without the folder of the files.
-const MANY: [(&[&str], i32, &[&str]); 5] = [
+const MANY: [(&[&str], i32, &[&str]); 10] = [
     (
         &["verdict", "good", "failing"],
         0,
@@ -121,6 +125,40 @@ const MANY: [(&[&str], i32, &[&str]); 5] = [
         &["verdict", "refused", "good"],
         1,
         &["refused: ff040001", "good: 8100000000000000000000"],
+    ),
+    (
+        &["archive", "good", "failing", "deaf", "deaf text"],
+        0,
+        &[
+            "good: 8100000000000000000000",
+            "failing: 8101000002000005000008",
+            "deaf: 8101000000000001000002",
+            "deaf text: 8101000000000001000002",
+        ],
+    ),
+    (
+        &["archive", "refused", "deaf"],
+        1,
+        &["refused: ff040001", "deaf: 8101000000000001000002"],
+    ),
+    (
+        &["archive", "missing", "refused"],
+        2,
+        &["missing: there is no file 'missing'", "refused: ff040001"],
+    ),
+    (
+        &["verdict", "deaf", "deaf text", "good"],
+        1,
+        &[
+            "deaf: ff0f0000",
+            "deaf text: refused, the whole file: terminal 1 hears nobody; a new plan must have no such terminal, and './hulmayek archive FILE' opens a plan that is on file already (cause 15)",
+            "good: 8100000000000000000000",
+        ],
+    ),
+    (
+        &["check", "deaf", "good", "deaf text"],
+        3,
+        &["deaf: fail", "good: pass", "deaf text: fail"],
     ),
     (
         &["check", "good", "failing"],

@@ -85,16 +85,59 @@ fn first_use(checks: &mut Checks, copy: &Copy) {
     copy.calls();
 }
 
-/// A word has the programs proved that it asks, and no other.
+/// A word has the programs proved that it asks, and no other; `verdict` has its own by now. What is
+/// proved for one word serves the others that ask it.
+const EACH_WORD: [(&str, &str); 13] = [
+    ("verdict", ""),
+    ("check", "archive"),
+    ("archive", ""),
+    ("run", "run"),
+    ("trace", ""),
+    ("explain", "verdict archive run rewrite"),
+    ("draw", ""),
+    ("mend", ""),
+    ("with-bad", ""),
+    ("plan", ""),
+    ("show", ""),
+    ("rewrite", ""),
+    ("verdict", ""),
+];
+
 fn each_word(checks: &mut Checks, copy: &Copy) {
-    let done = copy.call(&["check", "-"]);
-    checks.same("check asks the verdict alone", "", &copy.calls());
-    checks.same("check says nothing of a build", "", &done.err);
-    copy.call(&["run", "-"]);
-    let all = format!("{}: check verdict run rewrite\n", copy.place.display());
-    checks.same("run asks more programs", &all, &copy.calls());
-    copy.call(&["verdict", "-"]);
-    checks.same("they serve the other words too", "", &copy.calls());
+    for (word, programs) in EACH_WORD {
+        let done = copy.call(&[word, "-"]);
+        let wanted = match programs {
+            "" => String::new(),
+            names => format!("{}: check {names}\n", copy.place.display()),
+        };
+        checks.same(&format!("{word} has proved"), &wanted, &copy.calls());
+        let answer = format!("{word} -\ngiven\n");
+        checks.same(&format!("{word} answers"), &answer, &done.out);
+        let silent = programs.is_empty() == done.err.is_empty();
+        checks.holds(&format!("{word} speaks of a build if there is one"), silent);
+    }
+    several_words(checks, copy);
+}
+
+/// A word that may ask several programs has all of them, and of one that is gone each word that asks
+/// it builds it again.
+fn several_words(checks: &mut Checks, copy: &Copy) {
+    let call = |programs: &str| format!("{}: check {programs}\n", copy.place.display());
+    let table = [
+        ("rewrite", "archive", call("verdict archive run rewrite")),
+        ("run", "archive", String::new()),
+        ("check", "archive", call("archive")),
+        ("check", "verdict", String::new()),
+        ("verdict", "verdict", call("verdict")),
+    ];
+    for (word, gone, wanted) in table {
+        copy.remove(&format!("target/bin/{gone}"));
+        copy.call(&[word, "-"]);
+        let label = format!("{word} where {gone} is gone");
+        checks.same(&label, &wanted, &copy.calls());
+        copy.call(&["explain", "-"]);
+        copy.calls();
+    }
 }
 
 /// A source of a program or of a crate under it; a removed one too. Other crates do not count.

@@ -3,9 +3,9 @@
 use crate::checks::{done, read, Checks};
 use std::process::Command;
 
-const WORDS: [&str; 12] = [
-    "check", "explain", "draw", "mend", "with-bad", "trace", "verdict", "run", "show", "plan",
-    "rewrite", "test",
+const WORDS: [&str; 13] = [
+    "check", "explain", "draw", "mend", "with-bad", "trace", "verdict", "archive", "run", "show",
+    "plan", "rewrite", "test",
 ];
 const ONE_FILE: [&str; 7] = [
     "explain", "draw", "mend", "trace", "show", "plan", "rewrite",
@@ -66,7 +66,7 @@ fn help_on(checks: &mut Checks, word: &str) {
     checks.ends(&format!("help {word}"), &by_help, 0, &own.out, "");
 }
 
-/// Document 01's table of kinds and its limits.
+/// Document 01's table of kinds and its limits, and document 02's cause of a deaf terminal.
 fn frames_page(checks: &mut Checks) {
     let page = checks.call(&["help", "frames"]).out;
     for words in [
@@ -77,13 +77,14 @@ fn frames_page(checks: &mut Checks) {
         "05    round, from, to, value (2) ",
         "24,576",
         "high byte",
+        " 15 a terminal",
     ] {
         checks.holds(&format!("help frames has {words:?}"), page.contains(words));
     }
 }
 
 /// Calls that no file can mend.
-const WRONG: [(&[&str], &str); 11] = [
+const WRONG: [(&[&str], &str); 12] = [
     (
         &["mend", "--calls=x", "plans/a.txt"],
         "'--calls=x' has no number after the '='",
@@ -111,6 +112,7 @@ const WRONG: [(&[&str], &str); 11] = [
         "'draw' has no option '--csv'",
     ),
     (&["verdict", "--mend"], "'verdict' has no option '--mend'"),
+    (&["archive", "--csv"], "'archive' has no option '--csv'"),
     (
         &["with-bad", "plans/a.txt"],
         "'with-bad' wants a file and terminals, as in: with-bad FILE 4 7",
@@ -166,6 +168,7 @@ fn unwritable_output(checks: &mut Checks) {
     let table = [
         ("check $'a\\xffb'", bytes),
         ("verdict plans/h.hex >/dev/full", full),
+        ("archive plans/b.hex >/dev/full", full),
         ("explain plans/h.txt >/dev/full", full),
         ("check plans/a.txt >/dev/full", full),
         ("draw plans/h.txt >/dev/full", full),

@@ -4,6 +4,7 @@ mod answers;
 mod builds;
 mod calls;
 mod checks;
+mod deaf;
 mod mends;
 mod pictures;
 mod plans;
@@ -19,13 +20,14 @@ use std::process::ExitCode;
 
 type Topic = (&'static str, fn(&mut Checks));
 
-const TOPICS: [Topic; 10] = [
+const TOPICS: [Topic; 11] = [
     ("answers", answers::check),
     ("calls", calls::check),
     ("plans", plans::check),
     ("reasons", reasons::check),
     ("text", text_form::check),
     ("runs", runs::check),
+    ("deaf", deaf::check),
     ("mends", mends::check),
     ("pictures", pictures::check),
     ("readme", readme::check),

@@ -133,9 +133,12 @@ fn rounds(count: u8) -> String {
     format!("{count} rounds")
 }
 
-/// Verdict, check and explain of the frames, and the first two of the text.
+/// The drawing in which a terminal hears nobody: as a new plan it is refused. deaf.rs has the words.
+const FOR_THE_ARCHIVE: &str = "b";
+
+/// Archive and check, of the frames and of the text.
 fn judged(checks: &mut Checks, row: &Row) {
-    let Row(name, n, _, _, outcome) = row;
+    let Row(name, _, _, _, outcome) = row;
     let (frame, word, status) = match outcome {
         Pass(_) => ("8100000000000000000000\n".to_string(), "pass\n", 0),
         Fail(bad, reached, cut) => (
@@ -146,8 +149,8 @@ fn judged(checks: &mut Checks, row: &Row) {
     };
     for form in ["hex", "txt"] {
         let file = format!("plans/{name}.{form}");
-        let done = checks.call(&["verdict", &file]);
-        checks.same(&format!("verdict of {file}"), &frame, &done.out);
+        let done = checks.call(&["archive", &file]);
+        checks.same(&format!("archive of {file}"), &frame, &done.out);
         let done = checks.call(&["check", &file]);
         checks.same(&format!("check of {file}"), word, &done.out);
         checks.same(
@@ -155,6 +158,19 @@ fn judged(checks: &mut Checks, row: &Row) {
             &status.to_string(),
             &done.status.to_string(),
         );
+    }
+    if *name != FOR_THE_ARCHIVE {
+        judged_as_new(checks, row, &frame);
+    }
+}
+
+/// Verdict of both, and explain of the frames.
+fn judged_as_new(checks: &mut Checks, row: &Row, frame: &str) {
+    let Row(name, n, _, _, outcome) = row;
+    for form in ["hex", "txt"] {
+        let file = format!("plans/{name}.{form}");
+        let done = checks.call(&["verdict", &file]);
+        checks.same(&format!("verdict of {file}"), frame, &done.out);
     }
     let wanted = match outcome {
         Pass(last) => format!(
@@ -165,7 +181,8 @@ fn judged(checks: &mut Checks, row: &Row) {
         Fail(..) => failed(checks, row),
     };
     let done = checks.call(&["explain", &format!("plans/{name}.hex")]);
-    checks.ends(&format!("explain {name}"), &done, 0, &(frame + &wanted), "");
+    let wanted = frame.to_string() + &wanted;
+    checks.ends(&format!("explain {name}"), &done, 0, &wanted, "");
 }
 
 /// Who hears how many of L is counted from the committed frames.
@@ -237,7 +254,7 @@ fn refused_drawing(checks: &mut Checks) {
     checks.ends("verdict of j", &done, 1, "ff040001\n", "");
     let why = "refused, line 2 (terminals 1): 2 to 20 terminals are allowed (cause 4)";
     for word in [
-        "plan", "verdict", "check", "explain", "draw", "show", "mend",
+        "plan", "verdict", "archive", "check", "explain", "draw", "show", "mend",
     ] {
         let done = checks.call(&[word, "plans/j.txt"]);
         checks.tells(&format!("{word} of j.txt"), &done, 1, why);

@@ -82,9 +82,9 @@ const WHOLE: [Row; 16] = [
     Row(
         "verdict",
         3,
-        2,
+        3,
         "a second head: 01 stands once, in the first line",
-        &["01040001", "01040001"],
+        &["01020000", "020001", "01020000"],
     ),
     Row(
         "verdict",
@@ -353,8 +353,9 @@ fn bytes_that_are_no_lines(checks: &mut Checks) {
 fn kind_that_is_lacking(checks: &mut Checks) {
     let frames = lines(&[&EXAMPLE[..], &["03000002", "04000703"]].concat());
     for (word, program) in [
-        ("check", "verdict"),
+        ("check", "archive"),
         ("verdict", "verdict"),
+        ("archive", "archive"),
         ("rewrite", "rewrite"),
     ] {
         let done = checks.call_with(&[word], frames.as_bytes());

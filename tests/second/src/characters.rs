@@ -1,5 +1,6 @@
 //! Every byte in the place of a digit: the same files over and over, with another byte in one place.
 
+use crate::draft::{join, link_line};
 use crate::generate::Kind;
 
 /// Where the byte stands.
@@ -28,7 +29,7 @@ pub fn byte_in(index: u64) -> (u8, Place) {
 pub fn file(kind: Kind, index: u64) -> Vec<u8> {
     let (byte, place) = byte_in(index);
     let start: &[u8] = match kind {
-        Kind::Verdict => b"01140000\n02",
+        Kind::Verdict => b"01140001\n02",
         Kind::Run => b"01020000\n020001\n03000000\n04",
     };
     let (before, after): (&[u8], &[u8]) = match (kind, place) {
@@ -38,5 +39,19 @@ pub fn file(kind: Kind, index: u64) -> Vec<u8> {
         (Kind::Run, Place::Low) => (b"0", b"0701\n"),
         (_, Place::Past) => (b"000701000000", b"0\n"),
     };
-    [start, before, &[byte], after].concat()
+    let rest = if kind == Kind::Verdict && byte.is_ascii_hexdigit() {
+        others_hear()
+    } else {
+        Vec::new()
+    };
+    [start, before, &[byte], after, &rest].concat()
+}
+
+/// Each of twenty terminals but the source hears one other, which is not enough: so nobody is deaf
+/// and only whoever hears the source too gets the notice. It is given where the byte may be read.
+fn others_hear() -> Vec<u8> {
+    let links: Vec<Vec<u8>> = (1..20)
+        .map(|hearer| link_line(hearer % 19 + 1, hearer))
+        .collect();
+    join(&links)
 }

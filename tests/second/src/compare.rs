@@ -3,7 +3,7 @@
 use crate::characters;
 use crate::faults::Fault;
 use crate::generate::{case, Kind};
-use crate::output::{rewritten_text, run_text, verdict_text};
+use crate::output::{archive_text, rewritten_text, run_text, verdict_text};
 use std::fs;
 use std::io::{Read, Write};
 use std::process::{Child, Command, Stdio};
@@ -97,9 +97,9 @@ struct Tested<'a> {
     text: fn(&[u8], Fault) -> Vec<u8>,
 }
 
-/// The programs, in this order: verdict, run, rewrite.
-fn tested<'a>(programs: &[&'a str; 3]) -> [Tested<'a>; 3] {
-    let [verdict, run, rewrite] = *programs;
+/// The programs, in this order: verdict, run, rewrite, archive.
+fn tested<'a>(programs: &[&'a str; 4]) -> [Tested<'a>; 4] {
+    let [verdict, run, rewrite, archive] = *programs;
     let of = |name, program, kind, text| Tested {
         name,
         program,
@@ -110,12 +110,13 @@ fn tested<'a>(programs: &[&'a str; 3]) -> [Tested<'a>; 3] {
         of("verdict", verdict, Kind::Verdict, verdict_text),
         of("run", run, Kind::Run, run_text),
         of("rewrite", rewrite, Kind::Verdict, rewritten_text),
+        of("archive", archive, Kind::Verdict, archive_text),
     ]
 }
 
 /// Compares the programs, each beside the others; prints one line in all, and true if nothing
 /// differed.
-pub fn compare(programs: &[&str; 3], seed: u64, count: u64) -> bool {
+pub fn compare(programs: &[&str; 4], seed: u64, count: u64) -> bool {
     let tested = tested(programs);
     let counts: Vec<(u64, u64)> = thread::scope(|scope| {
         let started = tested

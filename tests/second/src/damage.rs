@@ -11,7 +11,7 @@ use crate::rng::Rng;
 
 type Lines = Vec<Vec<u8>>;
 
-const FOREIGN: [u8; 16] = *b"gGABCDEFzZ /:@`\r";
+pub const FOREIGN: [u8; 16] = *b"gGABCDEFzZ /:@`\r";
 
 /// Places of the lines of one kind.
 fn places(lines: &Lines, kind: u8) -> Vec<usize> {

@@ -2,9 +2,9 @@
 //! would find it.
 
 use crate::generate::{case, Kind};
-use crate::output::{run_text, verdict_text};
+use crate::output::{archive_text, run_text, verdict_text};
 use crate::plan::Cause;
-use crate::reader::read_plan;
+use crate::reader::{read_archive, Filed, Refusal};
 use crate::step::{step, Record};
 use crate::steps::{step_case, StepCase};
 
@@ -55,9 +55,20 @@ pub enum Fault {
     UnnamedRoundsForty,
     UnnamedRoundsAsTerminals,
     NamedRoundsIgnored,
+    SourceDeaf,
+    DeafByDeaf,
+    DeafInArchive,
+    DeafNotInRuns,
+    DeafWithLine,
+    DeafBeforeText,
+    DeafBeforeKind,
+    DeafAfterLine,
+    DeafAtEndOnly,
+    DeafAtBadSetOnly,
+    MissingBeforeDeaf,
 }
 
-pub const PLANTED: [(Fault, &str); 43] = [
+pub const PLANTED: [(Fault, &str); 54] = [
     (Fault::VotesWithoutOne, "f instead of f+1 votes in the step"),
     (Fault::ClosureWithoutOne, "f instead of f+1 in the closure"),
     (
@@ -173,6 +184,41 @@ pub const PLANTED: [(Fault, &str); 43] = [
         Fault::NamedRoundsIgnored,
         "n-1 rounds where the start names another number",
     ),
+    (
+        Fault::SourceDeaf,
+        "a source that hears nobody counted as deaf",
+    ),
+    (
+        Fault::DeafByDeaf,
+        "a terminal that hears only deaf ones called deaf",
+    ),
+    (Fault::DeafInArchive, "cause 15 given by the archive"),
+    (
+        Fault::DeafNotInRuns,
+        "deaf terminals not looked for in run files",
+    ),
+    (
+        Fault::DeafWithLine,
+        "cause 15 told with the line's number instead of 0",
+    ),
+    (Fault::DeafBeforeText, "cause 15 before 1"),
+    (Fault::DeafBeforeKind, "cause 15 before 2"),
+    (
+        Fault::DeafAfterLine,
+        "cause 15 after the other causes of the line",
+    ),
+    (
+        Fault::DeafAtEndOnly,
+        "cause 15 checked at the end of the file only",
+    ),
+    (
+        Fault::DeafAtBadSetOnly,
+        "cause 15 checked at a bad set only, or at the end",
+    ),
+    (
+        Fault::MissingBeforeDeaf,
+        "a missing frame before cause 15 at the end",
+    ),
 ];
 
 /// Larger sites cost time in the verdict and show no fault that smaller ones hide.
@@ -182,38 +228,49 @@ const LARGEST_SITE: u32 = 11;
 #[derive(Clone, Copy, Debug, Default, PartialEq, Eq)]
 pub struct Found {
     pub verdicts: u64,
+    pub archive: u64,
     pub runs: u64,
     pub steps: u64,
 }
 
 impl Found {
     pub fn all(&self) -> u64 {
-        self.verdicts + self.runs + self.steps
+        self.verdicts + self.archive + self.runs + self.steps
     }
 }
 
 /// Cases with the sound answers, made once for all faults.
 pub struct Sound {
     verdicts: Vec<(Vec<u8>, Vec<u8>)>,
+    archive: Vec<(Vec<u8>, Opened)>,
     runs: Vec<(Vec<u8>, Vec<u8>)>,
     steps: Vec<(StepCase, StepAnswer)>,
 }
+
+/// What the archive prints of a file, and what its reader answers.
+type Opened = (Vec<u8>, Result<Filed, Refusal>);
 
 type StepAnswer = Result<Record, (Cause, Record)>;
 
 impl Sound {
     pub fn new(seed: u64, count: u64) -> Sound {
         let small = |text: &Vec<u8>| {
-            read_plan(text, Fault::None).map_or(true, |plan| plan.n <= LARGEST_SITE)
+            read_archive(text, Fault::None).map_or(true, |filed| filed.plan.n <= LARGEST_SITE)
         };
-        let plans = (0..count)
+        let plans: Vec<Vec<u8>> = (0..count)
             .map(|index| case(Kind::Verdict, seed, index))
-            .filter(small);
+            .filter(small)
+            .collect();
         let runs = (0..count).map(|index| case(Kind::Run, seed, index));
         let steps = (0..count).map(|index| step_case(seed, index));
         Sound {
             verdicts: plans
-                .map(|text| (text.clone(), verdict_text(&text, Fault::None)))
+                .iter()
+                .map(|text| (text.clone(), verdict_text(text, Fault::None)))
+                .collect(),
+            archive: plans
+                .iter()
+                .map(|text| (text.clone(), opened(text, Fault::None)))
                 .collect(),
             runs: runs
                 .map(|text| (text.clone(), run_text(&text, Fault::None)))
@@ -224,8 +281,14 @@ impl Sound {
         }
     }
 
-    pub fn cases(&self) -> (usize, usize, usize) {
-        (self.verdicts.len(), self.runs.len(), self.steps.len())
+    /// How many cases there are of each sort.
+    pub fn cases(&self) -> Found {
+        Found {
+            verdicts: self.verdicts.len() as u64,
+            archive: self.archive.len() as u64,
+            runs: self.runs.len() as u64,
+            steps: self.steps.len() as u64,
+        }
     }
 
     /// How many cases tell the broken implementation from the sound one.
@@ -234,6 +297,10 @@ impl Sound {
             .verdicts
             .iter()
             .filter(|(text, was)| verdict_text(text, fault) != *was);
+        let archive = self
+            .archive
+            .iter()
+            .filter(|(text, was)| opened(text, fault) != *was);
         let runs = self
             .runs
             .iter()
@@ -244,10 +311,15 @@ impl Sound {
             .filter(|(call, was)| !same(&answer(call, fault), was));
         Found {
             verdicts: verdicts.count() as u64,
+            archive: archive.count() as u64,
             runs: runs.count() as u64,
             steps: steps.count() as u64,
         }
     }
+}
+
+fn opened(text: &[u8], fault: Fault) -> Opened {
+    (archive_text(text, fault), read_archive(text, fault))
 }
 
 fn answer(call: &StepCase, fault: Fault) -> StepAnswer {
@@ -264,11 +336,20 @@ fn same(one: &StepAnswer, other: &StepAnswer) -> bool {
     }
 }
 
+fn told(found: &Found) -> String {
+    let Found {
+        verdicts,
+        archive,
+        runs,
+        steps,
+    } = found;
+    format!("{verdicts} verdicts, {archive} of the archive, {runs} runs, {steps} steps")
+}
+
 /// Prints one line a fault; true if every fault was found.
 pub fn faults(seed: u64, count: u64) -> bool {
     let sound = Sound::new(seed, count);
-    let (verdicts, runs, steps) = sound.cases();
-    println!("cases: {verdicts} verdicts, {runs} runs, {steps} steps (seed {seed})");
+    println!("cases: {} (seed {seed})", told(&sound.cases()));
     let mut all_found = true;
     for (fault, name) in PLANTED {
         let found = sound.found(fault);
@@ -277,13 +358,7 @@ pub fn faults(seed: u64, count: u64) -> bool {
         } else {
             "NOT FOUND"
         };
-        println!(
-            "{word}: {name}: {} cases ({} verdicts, {} runs, {} steps)",
-            found.all(),
-            found.verdicts,
-            found.runs,
-            found.steps
-        );
+        println!("{word}: {name}: {} cases ({})", found.all(), told(&found));
         all_found = all_found && found.all() > 0;
     }
     all_found

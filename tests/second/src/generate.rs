@@ -3,10 +3,12 @@
 use crate::damage::{change_byte, change_lines, change_text, noise, plant, sized, spoil_line};
 use crate::draft::{join, plan_draft, run_draft, Draft, Manner};
 use crate::drawings::DRAWINGS;
+use crate::faults::Fault;
+use crate::place::{placed, THERE};
 use crate::plan::Plan;
 use crate::plans::{
-    border_plan, deep_plan, hear_at_source, joined_plan, random_plan, strong_plan, thin_plan,
-    weak_plan,
+    border_plan, deaf_plan, deafen, deep_plan, hear_at_source, joined_plan, mend, random_plan,
+    strong_plan, thin_plan, weak_plan,
 };
 use crate::rng::Rng;
 use std::fs;
@@ -28,14 +30,19 @@ impl Kind {
     }
 }
 
-/// Sorts of cases; they take turns by index.
-const SORTS: u64 = 16;
+/// Sorts of cases; they take turns by index. The first ones are of valid files.
+pub const SORTS: u64 = 18;
+pub const VALID_SORTS: u64 = 8;
+
+/// Of a hundred valid files so many have a deaf terminal, and of those that get damaged.
+const DEAF: u32 = 10;
+const DEAF_AND_DAMAGED: u32 = 20;
 
 /// The bytes of one input file.
 pub fn case(kind: Kind, seed: u64, index: u64) -> Vec<u8> {
     let mut rng = Rng::for_case(seed, kind as u64 + 1, index);
     let turn = index / SORTS;
-    if index % SORTS >= 8 {
+    if index % SORTS >= VALID_SORTS {
         return damaged(&mut rng, kind, index % SORTS, turn);
     }
     let draft = match kind {
@@ -60,23 +67,36 @@ fn terminals(turn: u64, low: u32, high: u32) -> u32 {
 }
 
 fn plan_case(rng: &mut Rng, sort: u64, turn: u64) -> Draft {
-    let plan = match sort {
-        0 => random_plan(rng, terminals(turn, 2, 8), None),
-        1 => random_plan(rng, terminals(turn, 2, 14), None),
-        2 => strong_plan(rng, terminals(turn, 2, 11)),
-        3 => border_plan(rng, terminals(turn, 2, 8)),
-        4 if turn.is_multiple_of(2) => drawing(turn / 2),
-        4 => joined_plan(rng),
-        5 if turn.is_multiple_of(3) => joined_plan(rng),
-        5 => weak_plan(rng, terminals(turn, 2, 14)),
-        6 => large_plan(rng, turn),
-        _ => deep_plan(rng, terminals(turn, 2, 11)),
+    let plan = if rng.chance(DEAF) {
+        deaf_plan(rng, terminals(turn, 2, 20))
+    } else {
+        hearing_plan(rng, sort, turn)
     };
     let mut draft = plan_draft(plan);
     if sort == 7 || rng.chance(30) {
         rng.shuffle(&mut draft.lines[1..]);
     }
     draft
+}
+
+/// A plan without deaf terminals, or a drawing as it is.
+fn hearing_plan(rng: &mut Rng, sort: u64, turn: u64) -> Plan {
+    if sort == 4 && turn.is_multiple_of(2) {
+        return drawing(turn / 2);
+    }
+    let mut plan = match sort {
+        0 => random_plan(rng, terminals(turn, 2, 8), None),
+        1 => random_plan(rng, terminals(turn, 2, 14), None),
+        2 => strong_plan(rng, terminals(turn, 2, 11)),
+        3 => border_plan(rng, terminals(turn, 2, 8)),
+        4 => joined_plan(rng),
+        5 if turn.is_multiple_of(3) => joined_plan(rng),
+        5 => weak_plan(rng, terminals(turn, 2, 14)),
+        6 => large_plan(rng, turn),
+        _ => deep_plan(rng, terminals(turn, 2, 11)),
+    };
+    mend(rng, &mut plan);
+    plan
 }
 
 /// More than 14 terminals: mostly few links, so that a small witness ends the search early.
@@ -100,10 +120,14 @@ fn run_case(rng: &mut Rng, sort: u64, turn: u64) -> Draft {
     let n = terminals(turn, 2, 20);
     // Both forms of start: with its rounds, and without.
     let rounds = rng.chance(65).then(|| rng.between(0, 12));
+    if rng.chance(DEAF) {
+        return named_run(rng, deaf_plan, n, rounds, Manner::Wild);
+    }
     match sort {
         0 => named_run(rng, strong_plan, n, rounds, Manner::Wild),
         1 => {
-            let plan = random_plan(rng, n, None);
+            let mut plan = random_plan(rng, n, None);
+            mend(rng, &mut plan);
             run_draft(rng, plan, rounds, Manner::Wild)
         }
         2 => named_run(rng, weak_plan, n, rounds, Manner::Wild),
@@ -153,7 +177,7 @@ pub fn turning_run(rng: &mut Rng, n: u32, rounds: Option<u32>) -> Draft {
     let make = rng.pick(&[weak_plan as fn(&mut Rng, u32) -> Plan, thin_plan, thin_plan]);
     let manner = rng.pick(&[
         Manner::Turncoat,
-        Manner::Turncoat,
+        Manner::Faithless,
         Manner::Faithless,
         Manner::Staggered,
         Manner::Flood,
@@ -165,7 +189,7 @@ pub fn turning_run(rng: &mut Rng, n: u32, rounds: Option<u32>) -> Draft {
 /// whoever waited for them takes then, and what is passed on in a round more shows.
 pub fn edge_run(rng: &mut Rng, n: u32) -> Draft {
     let rounds = rng.pick(&[None, None, Some(n - 1), Some(n), Some(40)]);
-    let once = Manner::Once(rng.pick(&[n - 1, n, 40]));
+    let once = Manner::Once(rng.pick(&[n - 1, n - 1, n, 40]));
     // Not every plan has liars that are heard, and two terminals seldom do.
     let mut tries = (0..20).map(|_| {
         let make = rng.pick(&[
@@ -176,11 +200,14 @@ pub fn edge_run(rng: &mut Rng, n: u32) -> Draft {
         ]);
         named_run(rng, make, n, rounds, once)
     });
-    let some_word = |draft: &Draft| draft.lines.iter().any(|line| line.starts_with(b"05"));
     match tries.find(some_word) {
         Some(draft) => draft,
         None => named_run(rng, strong_plan, n, rounds, once),
     }
+}
+
+fn some_word(draft: &Draft) -> bool {
+    draft.lines.iter().any(|line| line.starts_with(b"05"))
 }
 
 /// Links and words each in random order.
@@ -204,6 +231,9 @@ fn base(rng: &mut Rng, kind: Kind) -> Draft {
     if rng.chance(40) {
         hear_at_source(rng, &mut plan);
     }
+    if rng.chance(DEAF_AND_DAMAGED) {
+        deafen(rng, &mut plan);
+    }
     if kind == Kind::Verdict {
         return plan_draft(plan);
     }
@@ -213,6 +243,12 @@ fn base(rng: &mut Rng, kind: Kind) -> Draft {
 }
 
 fn damaged(rng: &mut Rng, kind: Kind, sort: u64, turn: u64) -> Vec<u8> {
+    if sort >= 16 {
+        // All that can stand where the links end, with a deaf plan and with any.
+        let there = THERE[(turn % THERE.len() as u64) as usize];
+        let deaf = sort == 16 || rng.chance(30);
+        return placed(rng, kind, there, deaf);
+    }
     let draft = base(rng, kind);
     let mut lines = draft.lines.clone();
     let causes = if kind == Kind::Run { 11 } else { 6 };
@@ -237,11 +273,19 @@ fn damaged(rng: &mut Rng, kind: Kind, sort: u64, turn: u64) -> Vec<u8> {
         }
         14 if turn.is_multiple_of(2) => return sized(rng, kind, &draft),
         15 if turn.is_multiple_of(2) => return noise(rng),
-        // The later causes are hidden by any other one, so they come alone more often.
-        _ => {
-            let late = rng.between(causes - 5, causes);
-            plant(rng, kind, &draft, &mut lines, late);
-        }
+        _ => return late_cause(rng, kind, draft, causes),
     }
+    join(&lines)
+}
+
+/// The later causes are hidden by any other one, so they come alone more often, and in a file in
+/// which somebody lies if one is soon found.
+fn late_cause(rng: &mut Rng, kind: Kind, draft: Draft, causes: u32) -> Vec<u8> {
+    let mut tries = (0..8).map(|_| base(rng, kind));
+    let lying = |draft: &Draft| some_word(draft) && draft.plan.deaf(Fault::None).is_empty();
+    let draft = tries.find(lying).unwrap_or(draft);
+    let late = rng.between(causes - 5, causes);
+    let mut lines = draft.lines.clone();
+    plant(rng, kind, &draft, &mut lines, late);
     join(&lines)
 }

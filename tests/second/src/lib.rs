@@ -3,7 +3,8 @@
 //! It is written from the specification alone and takes other data structures than the one
 //! it is compared with: sets are ordered sets of terminal numbers, files are split into
 //! lines, bad sets are listed by size, the closure is a work list, a row of a record is a map
-//! of the places that hold something.
+//! of the places that hold something. The programs `verdict` and `run` read new plans; `archive`
+//! and `rewrite` open those on file too, in which a terminal may be deaf.
 
 pub mod characters;
 pub mod compare;
@@ -14,6 +15,7 @@ pub mod exhaust;
 pub mod faults;
 pub mod generate;
 pub mod output;
+pub mod place;
 pub mod plan;
 pub mod plans;
 pub mod reader;
@@ -29,6 +31,11 @@ use faults::Fault;
 /// From the bytes of a plan file to the bytes that `verdict` prints.
 pub fn verdict_text(text: &[u8]) -> Vec<u8> {
     output::verdict_text(text, Fault::None)
+}
+
+/// From the bytes of a plan file to the bytes that `archive` prints.
+pub fn archive_text(text: &[u8]) -> Vec<u8> {
+    output::archive_text(text, Fault::None)
 }
 
 /// From the bytes of a run file to the bytes that `run` prints.

@@ -11,8 +11,9 @@ use std::process::ExitCode;
 const USAGE: &str = "usage:
   second verdict < FILE
   second run < FILE
+  second archive < FILE
   second generate verdict|run SEED COUNT DIR
-  second compare PROGRAM_VERDICT PROGRAM_RUN PROGRAM_REWRITE SEED COUNT
+  second compare PROGRAM_VERDICT PROGRAM_RUN PROGRAM_REWRITE PROGRAM_ARCHIVE SEED COUNT
   second faults [SEED COUNT]
   second exhaust
   second record CALLS LINES
@@ -36,6 +37,7 @@ fn dispatch(words: &[&str]) -> Option<bool> {
     match words {
         ["verdict"] => Some(filter(second::verdict_text)),
         ["run"] => Some(filter(second::run_text)),
+        ["archive"] => Some(filter(second::archive_text)),
         ["generate", kind, seed, count, folder] => {
             let kind = match *kind {
                 "verdict" => Kind::Verdict,
@@ -50,8 +52,8 @@ fn dispatch(words: &[&str]) -> Option<bool> {
                 Path::new(folder),
             )))
         }
-        ["compare", verdict, run, rewrite, seed, count] => Some(compare::compare(
-            &[verdict, run, rewrite],
+        ["compare", verdict, run, rewrite, archive, seed, count] => Some(compare::compare(
+            &[verdict, run, rewrite, archive],
             number(seed)?,
             number(count)?,
         )),

@@ -2,7 +2,7 @@
 
 use crate::faults::Fault;
 use crate::plan::{number_of, Plan, Set};
-use crate::reader::{read_plan, read_run, Refusal};
+use crate::reader::{read_archive, read_plan, read_run, Refusal};
 use crate::run::run_file;
 use crate::step::{Record, State};
 use crate::verdict::{verdict, Verdict};
@@ -58,11 +58,20 @@ pub fn refusal_line(refusal: Refusal) -> Vec<u8> {
     line(&[0xff, refusal.cause.number(), high, low])
 }
 
-/// The verdict's line on a file, or why the file is refused.
-pub fn verdict_answer(text: &[u8], fault: Fault) -> Result<Vec<u8>, Refusal> {
-    let plan = read_plan(text, fault)?;
-    let answer = verdict(&plan, fault).map_err(|cause| Refusal { cause, line: 0 })?;
+/// The verdict's line on a plan that was read.
+fn judged(plan: &Plan, fault: Fault) -> Result<Vec<u8>, Refusal> {
+    let answer = verdict(plan, fault).map_err(|cause| Refusal { cause, line: 0 })?;
     Ok(verdict_line(&answer, fault))
+}
+
+/// The verdict's line on a new plan's file, or why the file is refused.
+pub fn verdict_answer(text: &[u8], fault: Fault) -> Result<Vec<u8>, Refusal> {
+    judged(&read_plan(text, fault)?, fault)
+}
+
+/// The verdict's line on any plan's file, deaf or not, or why the file is refused.
+pub fn archive_answer(text: &[u8], fault: Fault) -> Result<Vec<u8>, Refusal> {
+    judged(&read_archive(text, fault)?.plan, fault)
 }
 
 /// All of the program `verdict`, from text to text.
@@ -70,10 +79,15 @@ pub fn verdict_text(text: &[u8], fault: Fault) -> Vec<u8> {
     verdict_answer(text, fault).unwrap_or_else(refusal_line)
 }
 
-/// All of the program `rewrite`, from text to text.
+/// All of the program `archive`, from text to text.
+pub fn archive_text(text: &[u8], fault: Fault) -> Vec<u8> {
+    archive_answer(text, fault).unwrap_or_else(refusal_line)
+}
+
+/// All of the program `rewrite`, from text to text. It opens plans as the archive does.
 pub fn rewritten_text(text: &[u8], fault: Fault) -> Vec<u8> {
-    match read_plan(text, fault) {
-        Ok(plan) => plan_text(&plan),
+    match read_archive(text, fault) {
+        Ok(filed) => plan_text(&filed.plan),
         Err(refusal) => refusal_line(refusal),
     }
 }

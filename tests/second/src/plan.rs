@@ -10,7 +10,8 @@ pub type Set = BTreeSet<u32>;
 pub const FEWEST_TERMINALS: u32 = 2;
 pub const MOST_TERMINALS: u32 = 20;
 
-/// Why a file or a call is refused; the order is the order of the numbers.
+/// Why a file or a call is refused; the order is the order of the numbers. 15 has a place of its
+/// own in a file and is never ranked by its number.
 #[derive(Clone, Copy, Debug, PartialEq, Eq, PartialOrd, Ord)]
 pub enum Cause {
     Text = 1,
@@ -26,6 +27,7 @@ pub enum Cause {
     WordTwice = 11,
     Length = 12,
     Record = 13,
+    Deaf = 15,
 }
 
 impl Cause {
@@ -76,6 +78,23 @@ impl Plan {
             .filter(|link| link.1 == hearer)
             .map(|link| link.0)
             .collect()
+    }
+
+    /// The terminals that hear nobody. The source needs to hear nobody, so it is never one.
+    pub fn deaf(&self, fault: Fault) -> Set {
+        let asked = |terminal: &u32| *terminal != self.source || fault == Fault::SourceDeaf;
+        let all: Vec<u32> = (0..self.n).filter(asked).collect();
+        let hears_none_but = |those: &Set| -> Set {
+            let cut_off = all.iter().copied();
+            cut_off
+                .filter(|&terminal| self.heard_by(terminal).is_subset(those))
+                .collect()
+        };
+        let deaf = hears_none_but(&Set::new());
+        if fault == Fault::DeafByDeaf {
+            return hears_none_but(&deaf);
+        }
+        deaf
     }
 }
 

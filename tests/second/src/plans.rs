@@ -193,6 +193,44 @@ pub fn hear_at_source(rng: &mut Rng, plan: &mut Plan) {
     }
 }
 
+/// Takes all links into some terminals, which may still be heard by others.
+pub fn deafen(rng: &mut Rng, plan: &mut Plan) {
+    let others = source_first(rng, plan).split_off(1);
+    let some = 1 + rng.below(others.len());
+    let count = rng.pick(&[1, 1, 1, 2, some]);
+    let deaf: Set = others.into_iter().take(count).collect();
+    plan.links.retain(|link| !deaf.contains(&link.1));
+}
+
+/// Lets whoever is deaf hear somebody.
+pub fn mend(rng: &mut Rng, plan: &mut Plan) {
+    for hearer in plan.deaf(Fault::None) {
+        let sender = (hearer + rng.between(1, plan.n - 1)) % plan.n;
+        plan.links.insert((sender, hearer));
+    }
+}
+
+/// A plan of any sort.
+pub fn any_plan(rng: &mut Rng, n: u32) -> Plan {
+    let make = rng.pick(&[
+        strong_plan as fn(&mut Rng, u32) -> Plan,
+        weak_plan,
+        deep_plan,
+        |rng, n| random_plan(rng, n, None),
+    ]);
+    make(rng, n)
+}
+
+/// One in which one terminal or several are deaf.
+pub fn deaf_plan(rng: &mut Rng, n: u32) -> Plan {
+    let mut plan = any_plan(rng, n);
+    if rng.chance(30) {
+        hear_at_source(rng, &mut plan);
+    }
+    deafen(rng, &mut plan);
+    plan
+}
+
 /// A bad set of the plan, grown member by member as far as the bound allows.
 pub fn random_bad_set(rng: &mut Rng, plan: &Plan, percent: u32) -> Set {
     let mut bad = Set::new();

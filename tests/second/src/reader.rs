@@ -27,12 +27,54 @@ pub struct RunFile {
     pub words: BTreeMap<(u32, u32, u32), u16>,
 }
 
-pub fn read_plan(text: &[u8], fault: Fault) -> Result<Plan, Refusal> {
-    read(text, 2, fault).map(|reading| reading.file.plan)
+/// A plan already on file, with the terminals in it that hear nobody.
+#[derive(Clone, Debug, PartialEq, Eq)]
+pub struct Filed {
+    pub plan: Plan,
+    pub deaf: Set,
 }
 
+/// A new plan.
+pub fn read_plan(text: &[u8], fault: Fault) -> Result<Plan, Refusal> {
+    read(text, Reader::Plan, fault).map(|reading| reading.file.plan)
+}
+
+/// A plan from the archive.
+pub fn read_archive(text: &[u8], fault: Fault) -> Result<Filed, Refusal> {
+    let plan = read(text, Reader::Archive, fault)?.file.plan;
+    let deaf = plan.deaf(fault);
+    Ok(Filed { plan, deaf })
+}
+
+/// A new plan with a run of it.
 pub fn read_run(text: &[u8], fault: Fault) -> Result<RunFile, Refusal> {
-    read(text, 5, fault).map(|reading| reading.file)
+    read(text, Reader::Run, fault).map(|reading| reading.file)
+}
+
+/// Who reads. Only the archive opens plans with deaf terminals.
+#[derive(Clone, Copy, PartialEq, Eq)]
+enum Reader {
+    Plan,
+    Archive,
+    Run,
+}
+
+impl Reader {
+    fn last_kind(self) -> u8 {
+        if self == Reader::Run {
+            5
+        } else {
+            2
+        }
+    }
+
+    fn refuses_deaf(self, fault: Fault) -> bool {
+        match self {
+            Reader::Plan => true,
+            Reader::Archive => fault == Fault::DeafInArchive,
+            Reader::Run => fault != Fault::DeafNotInRuns,
+        }
+    }
 }
 
 /// What the lines so far allow next.
@@ -45,12 +87,12 @@ enum Stage {
 }
 
 struct Reading {
-    last_kind: u8,
+    reader: Reader,
     stage: Stage,
     file: RunFile,
 }
 
-fn read(text: &[u8], last_kind: u8, fault: Fault) -> Result<Reading, Refusal> {
+fn read(text: &[u8], reader: Reader, fault: Fault) -> Result<Reading, Refusal> {
     if text.is_empty() || text.len() > LONGEST_FILE {
         return refuse(Cause::Text, 0, fault);
     }
@@ -63,7 +105,7 @@ fn read(text: &[u8], last_kind: u8, fault: Fault) -> Result<Reading, Refusal> {
         words: BTreeMap::new(),
     };
     let mut reading = Reading {
-        last_kind,
+        reader,
         stage: Stage::Head,
         file,
     };
@@ -73,10 +115,10 @@ fn read(text: &[u8], last_kind: u8, fault: Fault) -> Result<Reading, Refusal> {
             return refuse(cause, line, fault);
         }
     }
-    if last_kind == 5 && reading.stage != Stage::Words {
-        return refuse(Cause::Order, 0, fault);
+    match reading.take_end(fault) {
+        Err(cause) => refuse(cause, 0, fault),
+        Ok(()) => Ok(reading),
     }
-    Ok(reading)
 }
 
 fn refuse(cause: Cause, line: u16, fault: Fault) -> Result<Reading, Refusal> {
@@ -85,6 +127,9 @@ fn refuse(cause: Cause, line: u16, fault: Fault) -> Result<Reading, Refusal> {
         (Fault::KindAndOrderExchanged, Cause::Order) => Cause::Kind,
         _ => cause,
     };
+    // Deaf terminals are a fault of the whole drawing, wherever its links end.
+    let whole = cause == Cause::Deaf && fault != Fault::DeafWithLine;
+    let line = if whole { 0 } else { line };
     Err(Refusal { cause, line })
 }
 
@@ -99,18 +144,62 @@ fn lowest(found: &[(bool, Cause)]) -> Result<(), Cause> {
 
 impl Reading {
     fn take_line(&mut self, piece: &[u8], fault: Fault) -> Result<(), Cause> {
-        let frame = frame_bytes(piece, fault).ok_or(Cause::Text)?;
+        let Some(frame) = frame_bytes(piece, fault) else {
+            if fault == Fault::DeafBeforeText && !piece.starts_with(b"02") {
+                self.links_end(fault)?;
+            }
+            return Err(Cause::Text);
+        };
         let kind = frame[0];
-        if kind > self.last_kind || !length_fits(kind, frame.len()) {
+        if kind > self.reader.last_kind() || !length_fits(kind, frame.len()) {
+            if fault == Fault::DeafBeforeKind && kind != 2 {
+                self.links_end(fault)?;
+            }
             return Err(Cause::Kind);
         }
         let rest: Vec<u32> = frame[1..].iter().map(|&byte| u32::from(byte)).collect();
+        let ended = if is_place(kind, fault) {
+            self.links_end(fault)
+        } else {
+            Ok(())
+        };
+        match fault {
+            Fault::DeafAfterLine => self.take_frame(kind, &rest, fault).and(ended),
+            _ => ended.and_then(|()| self.take_frame(kind, &rest, fault)),
+        }
+    }
+
+    /// Cause 15. The links end at the first line that is none of them, so not after a bad set.
+    fn links_end(&self, fault: Fault) -> Result<(), Cause> {
+        let first = self.stage == Stage::Links || fault == Fault::DeafAtEndOnly;
+        let asked = first && self.reader.refuses_deaf(fault);
+        if asked && !self.file.plan.deaf(fault).is_empty() {
+            return Err(Cause::Deaf);
+        }
+        Ok(())
+    }
+
+    /// The end of the file: it may be where the links end, and a frame may be missing.
+    fn take_end(&self, fault: Fault) -> Result<(), Cause> {
+        let missing = if self.reader == Reader::Run && self.stage != Stage::Words {
+            Err(Cause::Order)
+        } else {
+            Ok(())
+        };
+        let ended = self.links_end(fault);
+        match fault {
+            Fault::MissingBeforeDeaf => missing.and(ended),
+            _ => ended.and(missing),
+        }
+    }
+
+    fn take_frame(&mut self, kind: u8, rest: &[u32], fault: Fault) -> Result<(), Cause> {
         match (self.stage, kind) {
-            (Stage::Head, 1) => self.take_head(&rest),
-            (Stage::Links, 2) => self.take_link(&rest, fault),
-            (Stage::Links, 3) => self.take_bad_set(&rest, fault),
-            (Stage::Start, 4) => self.take_start(&rest, fault),
-            (Stage::Words, 5) => self.take_word(&rest),
+            (Stage::Head, 1) => self.take_head(rest),
+            (Stage::Links, 2) => self.take_link(rest, fault),
+            (Stage::Links, 3) => self.take_bad_set(rest, fault),
+            (Stage::Start, 4) => self.take_start(rest, fault),
+            (Stage::Words, 5) => self.take_word(rest),
             _ => Err(Cause::Order),
         }
     }
@@ -186,6 +275,15 @@ fn rounds_of(named: Option<u32>, terminals: u32, fault: Fault) -> u32 {
         (Fault::UnnamedRoundsForty, None) => 40,
         (Fault::UnnamedRoundsAsTerminals, None) => terminals,
         (_, None) => terminals - 1,
+    }
+}
+
+/// Whether a frame of this kind ends the links: every one but a link itself.
+fn is_place(kind: u8, fault: Fault) -> bool {
+    match fault {
+        Fault::DeafAtEndOnly => false,
+        Fault::DeafAtBadSetOnly => kind == 3,
+        _ => kind != 2,
     }
 }
 

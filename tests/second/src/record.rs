@@ -8,13 +8,14 @@
 //! that is not 0.
 
 use crate::characters;
-use crate::draft::{join, run_draft, Draft, Manner};
+use crate::draft::{join, plan_draft, run_draft, Draft, Manner};
 use crate::faults::Fault;
-use crate::generate::{case, edge_run, turning_run, Kind};
-use crate::output::{digits, refusal_line, run_answer, verdict_answer};
+use crate::generate::{case, edge_run, turning_run, Kind, SORTS, VALID_SORTS};
+use crate::output::{archive_answer, digits, refusal_line, run_answer, verdict_answer};
+use crate::place::{placed, THERE};
 use crate::plan::{number_of, set_of, write_plan, Cause, Plan, Set};
-use crate::plans::{deep_plan, random_plan, strong_plan, thin_plan, weak_plan};
-use crate::reader::{read_run, Refusal, RunFile};
+use crate::plans::{any_plan, deaf_plan, deafen, thin_plan};
+use crate::reader::{read_archive, read_run, Refusal, RunFile};
 use crate::rng::Rng;
 use crate::run::{run, Order};
 use crate::step::{step, Record, Row, State, PLACES, ROWS};
@@ -71,7 +72,7 @@ pub fn write(calls_file: &Path, lines_file: &Path) -> io::Result<()> {
 type Maker = fn(u64, u64) -> Call;
 
 /// Every kind of call, and how many of it.
-const KINDS: [(Maker, u64); 16] = [
+const KINDS: [(Maker, u64); 20] = [
     (verdict_call, 600),
     (run_call, 600),
     (edge_call, 150),
@@ -88,6 +89,10 @@ const KINDS: [(Maker, u64); 16] = [
     (lent_call, 300),
     (verdict_character_call, characters::FILES),
     (run_character_call, characters::FILES),
+    (archive_call, 300),
+    (open_call, 300),
+    (placed_plan_call, 66),
+    (placed_run_call, 88),
 ];
 
 /// The calls of each kind. Of the long ones a few are enough.
@@ -147,7 +152,8 @@ fn written(number: u8, length: usize, list: &[u8]) -> Vec<u8> {
     [&[number], &pair(length as u16)[..], list].concat()
 }
 
-/// A wrong file's number is the lowest; its line of text is put where there is room for it.
+/// A wrong file's number comes before that of a short list: it is lower, or it is 15, which stands
+/// before the lower ones of its place. The file's line of text is put where there is room for it.
 fn answered(answer: Result<Vec<u8>, Refusal>, room: usize) -> Vec<u8> {
     let file = answer
         .as_ref()
@@ -168,36 +174,58 @@ fn room_for(rng: &mut Rng, text: usize, most: usize) -> usize {
     room.min(most)
 }
 
+/// A program's text function: the letter of its calls, and what it answers.
+#[derive(Clone, Copy)]
+struct Text {
+    letter: u8,
+    answer: fn(&[u8], Fault) -> Result<Vec<u8>, Refusal>,
+}
+
+const VERDICT: Text = Text {
+    letter: b'v',
+    answer: verdict_answer,
+};
+const RUN: Text = Text {
+    letter: b'r',
+    answer: run_answer,
+};
+const ARCHIVE: Text = Text {
+    letter: b'a',
+    answer: archive_answer,
+};
+
 /// A file for a program's text function, with as much room as is asked for a text of that length.
-fn text_call(kind: Kind, file: Vec<u8>, room: impl FnOnce(u8, usize) -> usize) -> Call {
-    let (letter, answer) = match kind {
-        Kind::Verdict => (b'v', verdict_answer(&file, Fault::None)),
-        Kind::Run => (b'r', run_answer(&file, Fault::None)),
-    };
-    let text = answer
+fn text_call(text: Text, file: Vec<u8>, room: impl FnOnce(usize) -> usize) -> Call {
+    let answer = (text.answer)(&file, Fault::None);
+    let length = answer
         .as_ref()
         .map_or_else(|&refusal| refusal_line(refusal).len(), Vec::len);
-    let lent = room(letter, text);
+    let lent = room(length);
     Call {
-        kind: letter,
+        kind: text.letter,
         lent,
         body: file,
         line: answered(answer, lent),
     }
 }
 
-fn case_call(kind: Kind, seed: u64, index: u64) -> Call {
-    text_call(kind, case(kind, seed, index), |letter, text| {
-        room_for(&mut rng_for(seed, letter, index), text, 400)
-    })
+/// The same with any room.
+fn roomed_call(text: Text, file: Vec<u8>, seed: u64, index: u64) -> Call {
+    let mut rng = rng_for(seed, text.letter, index);
+    text_call(text, file, |length| room_for(&mut rng, length, 400))
+}
+
+/// The same with room for the whole answer.
+fn whole_call(text: Text, file: Vec<u8>) -> Call {
+    text_call(text, file, |length| length)
 }
 
 fn verdict_call(seed: u64, index: u64) -> Call {
-    case_call(Kind::Verdict, seed, index)
+    roomed_call(VERDICT, case(Kind::Verdict, seed, index), seed, index)
 }
 
 fn run_call(seed: u64, index: u64) -> Call {
-    case_call(Kind::Run, seed, index)
+    roomed_call(RUN, case(Kind::Run, seed, index), seed, index)
 }
 
 /// Both forms of start, and words at the edge of the rounds that are played, with room for the
@@ -205,8 +233,7 @@ fn run_call(seed: u64, index: u64) -> Call {
 fn edge_call(seed: u64, index: u64) -> Call {
     let mut rng = rng_for(seed, b'e', index);
     let n = rng.between(2, 8);
-    let file = join(&edge_run(&mut rng, n).lines);
-    text_call(Kind::Run, file, |_, text| text)
+    whole_call(RUN, join(&edge_run(&mut rng, n).lines))
 }
 
 /// Liars that change what they say, with room for the whole answer.
@@ -214,23 +241,32 @@ fn turning_call(seed: u64, index: u64) -> Call {
     let mut rng = rng_for(seed, b't', index);
     let n = rng.between(4, 9);
     let rounds = rng.pick(&[None, Some(6), Some(9)]);
-    let file = join(&turning_run(&mut rng, n, rounds).lines);
-    text_call(Kind::Run, file, |_, text| text)
+    whole_call(RUN, join(&turning_run(&mut rng, n, rounds).lines))
 }
 
 /// Every byte in the place of a digit, with room for the whole answer.
 fn verdict_character_call(_: u64, index: u64) -> Call {
-    text_call(
-        Kind::Verdict,
-        characters::file(Kind::Verdict, index),
-        |_, text| text,
-    )
+    whole_call(VERDICT, characters::file(Kind::Verdict, index))
 }
 
 fn run_character_call(_: u64, index: u64) -> Call {
-    text_call(Kind::Run, characters::file(Kind::Run, index), |_, text| {
-        text
-    })
+    whole_call(RUN, characters::file(Kind::Run, index))
+}
+
+/// All that can stand where the links end, in turn, mostly with a deaf plan.
+fn placed_file(kind: Kind, seed: u64, letter: u8, index: u64) -> Vec<u8> {
+    let mut rng = rng_for(seed, letter, index);
+    let there = THERE[(index % THERE.len() as u64) as usize];
+    let deaf = rng.chance(75);
+    placed(&mut rng, kind, there, deaf)
+}
+
+fn placed_plan_call(seed: u64, index: u64) -> Call {
+    whole_call(VERDICT, placed_file(Kind::Verdict, seed, b'1', index))
+}
+
+fn placed_run_call(seed: u64, index: u64) -> Call {
+    whole_call(RUN, placed_file(Kind::Run, seed, b'2', index))
 }
 
 fn write_call(seed: u64, index: u64) -> Call {
@@ -248,13 +284,67 @@ fn write_call(seed: u64, index: u64) -> Call {
     }
 }
 
+// ---- the archive
+
+/// By turns: the place where the links end, a plan with deaf terminals, and other files than those
+/// that the verdict is asked about, among which more are valid.
+fn archive_file(seed: u64, letter: u8, index: u64) -> Vec<u8> {
+    let mut rng = rng_for(seed, letter, index);
+    let turn = index / 3;
+    match index % 3 {
+        0 => placed_file(Kind::Verdict, seed, letter, turn),
+        1 => {
+            let plan = deaf_plan(&mut rng, 2 + (turn % 19) as u32);
+            let mut lines = plan_draft(plan).lines;
+            rng.shuffle(&mut lines[1..]);
+            join(&lines)
+        }
+        _ => {
+            let sorts = rng.pick(&[VALID_SORTS, SORTS]);
+            let place = (1_000 * u64::from(letter) + turn) * SORTS;
+            let sort = rng.below(sorts as usize) as u64;
+            case(Kind::Verdict, seed, place + sort)
+        }
+    }
+}
+
+fn archive_call(seed: u64, index: u64) -> Call {
+    roomed_call(ARCHIVE, archive_file(seed, b'a', index), seed, index)
+}
+
+/// The archive's reader: number, line, the plan, and the deaf set; zeros beside a refusal.
+fn open_call(seed: u64, index: u64) -> Call {
+    let body = archive_file(seed, b'd', index);
+    let line = match read_archive(&body, Fault::None) {
+        Ok(filed) => [
+            &[0; 3],
+            &head_bytes(&filed.plan)[..],
+            &row_bytes(&filed.plan),
+            &quad(&filed.deaf),
+        ]
+        .concat(),
+        Err(refusal) => [
+            &[refusal.cause.number()],
+            &pair(refusal.line)[..],
+            &[0; 6 + 80 + 4],
+        ]
+        .concat(),
+    };
+    Call {
+        kind: b'd',
+        lent: 0,
+        body,
+        line,
+    }
+}
+
 // ---- the reader of run files
 
 fn read_call(seed: u64, index: u64) -> Call {
     let mut rng = rng_for(seed, b'f', index);
     // Other files than those that are run.
-    let sorts = if rng.chance(40) { 8 } else { 16 };
-    let place = 10_000 + index * 16 + rng.below(sorts) as u64;
+    let sorts = if rng.chance(40) { VALID_SORTS } else { SORTS };
+    let place = (1_000 + index) * SORTS + rng.below(sorts as usize) as u64;
     let body = case(Kind::Run, seed, place);
     let wrong = [0, 1, WORD_PLACES - 1, WORD_PLACES + 1];
     let lent = if rng.chance(15) {
@@ -262,7 +352,7 @@ fn read_call(seed: u64, index: u64) -> Call {
     } else {
         WORD_PLACES
     };
-    // The lowest number: a file's own causes are all below that of the list's length.
+    // A file's own causes all come before that of the list's length, 15 with those of its place.
     let line = match read_run(&body, Fault::None) {
         Err(refusal) => refused_file(refusal.cause, refusal.line, lent),
         Ok(_) if lent != WORD_PLACES => refused_file(Cause::Length, 0, lent),
@@ -286,9 +376,7 @@ fn refused_file(cause: Cause, line: u16, lent: usize) -> Vec<u8> {
 fn accepted_file(file: &RunFile) -> Vec<u8> {
     let plan = &file.plan;
     let mut line = vec![0; 3];
-    for head in [plan.n, plan.source, plan.f] {
-        line.extend(pair(head as u16));
-    }
+    line.extend(head_bytes(plan));
     line.extend(row_bytes(plan));
     line.extend(quad(&file.bad));
     line.extend(pair(file.value));
@@ -316,6 +404,12 @@ fn words_of(file: &RunFile) -> Vec<u16> {
 
 // ---- plans and sets
 
+/// The three numbers of the head in two bytes each.
+fn head_bytes(plan: &Plan) -> Vec<u8> {
+    let head = [plan.n, plan.source, plan.f].into_iter();
+    head.flat_map(|number| pair(number as u16)).collect()
+}
+
 fn row_bytes(plan: &Plan) -> Vec<u8> {
     (0..20)
         .flat_map(|hearer| quad(&plan.heard_by(hearer)))
@@ -330,13 +424,7 @@ fn plan_bytes(plan: &Plan) -> Vec<u8> {
 /// A plan of at most so many terminals, one in four with a wrong number in it.
 fn some_plan(rng: &mut Rng, most: u32) -> Plan {
     let n = rng.between(2, most);
-    let make = rng.pick(&[
-        strong_plan as fn(&mut Rng, u32) -> Plan,
-        weak_plan,
-        deep_plan,
-        |rng, n| random_plan(rng, n, None),
-    ]);
-    let mut plan = make(rng, n);
+    let mut plan = any_plan(rng, n);
     if rng.chance(25) {
         break_plan(rng, &mut plan);
     }
@@ -540,16 +628,21 @@ fn site(of: Site) -> Call {
     }
 }
 
-/// The run of a file, with noise where no word is looked at; one in three is then broken.
+/// The run of a file, with noise where no word is looked at; one in ten has deaf terminals, which
+/// a plan record may have, and one in three is then broken.
 fn noisy_site(rng: &mut Rng, seed: u64, sizes: RangeInclusive<u32>) -> Site {
     let file = loop {
-        let index = 100_000 + rng.below(1 << 30) as u64 * 16 + rng.below(8) as u64;
+        let turn = 10_000 + rng.below(1 << 30) as u64;
+        let index = turn * SORTS + rng.below(VALID_SORTS as usize) as u64;
         match read_run(&case(Kind::Run, seed, index), Fault::None) {
             Ok(file) if sizes.contains(&file.plan.n) => break file,
             _ => continue,
         }
     };
     let mut of = Site::of(file);
+    if rng.chance(10) {
+        deafen(rng, &mut of.plan);
+    }
     let n = of.plan.n as usize;
     for (place, word) in of.words.iter_mut().enumerate() {
         let link = ((place / n % n) as u32, (place % n) as u32);

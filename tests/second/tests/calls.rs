@@ -4,7 +4,7 @@ use second::drawings::DRAWINGS;
 use second::faults::Fault;
 use second::output::plan_text;
 use second::plan::{number_of, set_of, write_plan, Cause, Plan, Set};
-use second::reader::read_plan;
+use second::reader::read_archive;
 use second::run::{run, Order};
 use second::step::{Record, Row, State};
 use second::verdict::{verdict, witness_check};
@@ -248,7 +248,8 @@ fn written_plans_are_read_back() {
     for n in 2..=20 {
         for density in [0, 30, 100] {
             let plan = second::plans::random_plan(&mut rng, n, Some(density));
-            assert_eq!(read_plan(&plan_text(&plan), Fault::None), Ok(plan));
+            let filed = read_archive(&plan_text(&plan), Fault::None).expect("a right plan");
+            assert_eq!(filed.plan, plan);
         }
     }
 }

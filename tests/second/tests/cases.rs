@@ -4,7 +4,7 @@ use second::compare::{ask, Answer, TIME_LIMIT};
 use second::draft::join;
 use second::exhaust::exhaust;
 use second::faults::{Fault, Sound, PLANTED};
-use second::generate::{case, turning_run, Kind};
+use second::generate::{case, turning_run, Kind, SORTS, VALID_SORTS};
 use second::output::run_text;
 use second::reader::{read_run, RunFile};
 use second::record;
@@ -29,7 +29,7 @@ fn reached(kind: Kind, text: fn(&[u8]) -> Vec<u8>) -> BTreeSet<(String, bool)> {
     let printed = (0..1600).map(|index| {
         let input = case(kind, 1, index);
         // Verdicts on many terminals take long without optimisation.
-        let long = kind == Kind::Verdict && index % 16 < 8;
+        let long = kind == Kind::Verdict && index % SORTS < VALID_SORTS;
         String::from_utf8(if long { Vec::new() } else { text(&input) }).expect("digits")
     });
     let refusals = printed.filter(|line| line.starts_with("ff"));
@@ -53,6 +53,8 @@ fn cases_reach_every_cause() {
     }
     for set in [&verdicts, &runs] {
         assert!(set.contains(&("01".to_string(), false)));
+        assert!(set.contains(&("0f".to_string(), false)));
+        assert!(!set.contains(&("0f".to_string(), true)));
     }
     assert!(runs.contains(&("03".to_string(), false)));
 }
@@ -164,15 +166,20 @@ fn edges(text: &[u8]) -> Vec<(&'static str, bool)> {
         .collect()
 }
 
+/// The fresh cases that are made for the edges.
+fn edge_cases() -> Vec<Vec<u8>> {
+    let made = (0..7200).filter(|index| index % (2 * SORTS) == 5);
+    made.map(|index| case(Kind::Run, 1, index)).collect()
+}
+
 /// Both forms of start, with words in round n-1, n or 40 alone, are among the cases and among the
 /// recorded calls. Where the start names no rounds, those in n and in 40 are refused.
 #[test]
 fn both_forms_of_start_with_words_at_the_edge() {
-    let fresh = (0..1600).filter(|index| index % 32 == 5);
-    let fresh = fresh.map(|index| {
-        let text = case(Kind::Run, 1, index);
-        let refused = second::run_text(&text).starts_with(b"ff0a");
-        (text, refused)
+    let fresh = edge_cases().into_iter().filter_map(|text| {
+        let printed = second::run_text(&text);
+        let deaf = printed.starts_with(b"ff0f");
+        (!deaf).then(|| (text, printed.starts_with(b"ff0a")))
     });
     let calls = record::calls(record::SEED).into_iter();
     let recorded = calls.filter(|call| call.kind == b'r' && [0, 10].contains(&call.line[0]));
@@ -197,8 +204,7 @@ fn both_forms_of_start_with_words_at_the_edge() {
 /// alone, both among the cases and among the recorded calls.
 #[test]
 fn default_rounds_show_in_accepted_files() {
-    let fresh = (0..1600).filter(|index| index % 32 == 5);
-    let fresh: Vec<Vec<u8>> = fresh.map(|index| case(Kind::Run, 1, index)).collect();
+    let fresh = edge_cases();
     let calls = record::calls(record::SEED).into_iter();
     let recorded = calls.filter(|call| call.kind == b'r' && call.line[0] == 0);
     let recorded: Vec<Vec<u8>> = recorded.map(|call| call.body).collect();
@@ -227,7 +233,7 @@ fn both_forms_of_start_are_read() {
 #[test]
 fn passed_plans_end_with_nobody_waiting() {
     let mut ended = 0;
-    for index in (0..3200).filter(|index| index % 16 < 8) {
+    for index in (0..3600).filter(|index| index % SORTS < VALID_SORTS) {
         let text = case(Kind::Run, 1, index);
         let (n, named, _) = start_and_words(&text);
         let plan = read_run(&text, Fault::None).map(|file| file.plan);
@@ -317,10 +323,12 @@ fn recorded_calls_reach_every_answer() {
         let of_kind = calls.iter().filter(|call| call.kind == kind);
         of_kind.map(|call| call.line[0]).collect()
     };
-    let expected: [(u8, &[u8]); 9] = [
-        (b'v', &[0, 1, 2, 3, 4, 5, 6, 12]),
-        (b'r', &[0, 1, 2, 3, 4, 5, 6, 7, 8, 9, 10, 11, 12]),
-        (b'f', &[0, 1, 2, 3, 4, 5, 6, 7, 8, 9, 10, 11, 12]),
+    let expected: [(u8, &[u8]); 11] = [
+        (b'v', &[0, 1, 2, 3, 4, 5, 6, 12, 15]),
+        (b'a', &[0, 1, 2, 3, 4, 5, 6, 12]),
+        (b'd', &[0, 1, 2, 3, 4, 5, 6]),
+        (b'r', &[0, 1, 2, 3, 4, 5, 6, 7, 8, 9, 10, 11, 12, 15]),
+        (b'f', &[0, 1, 2, 3, 4, 5, 6, 7, 8, 9, 10, 11, 12, 15]),
         (b'p', &[0, 4, 5, 12]),
         (b's', &[0, 4, 5, 12, 13]),
         (b'w', &[0, 1, 4, 5]),
@@ -349,9 +357,11 @@ fn recorded_calls_have_a_wrong_file_and_a_wrong_list() {
             "kind {}",
             kind as char
         );
-        assert!(file.iter().all(|call| (1..12).contains(&number(call))));
+        let of_files = |number: u8| (1..12).contains(&number) || number == 15;
+        assert!(file.iter().all(|call| of_files(number(call))));
     };
     both(b'f', |call| call.lent != 16_000);
     both(b'v', |call| call.lent < 9);
     both(b'r', |call| call.lent < 9);
+    both(b'a', |call| call.lent < 9);
 }

@@ -2,7 +2,7 @@
 
 mod common;
 
-use common::{refused, run_bytes, verdict_bytes};
+use common::{archive_bytes, refused, run_bytes, verdict_bytes};
 use second::characters::{byte_in, file, Place, FILES};
 use second::generate::Kind;
 use second::record;
@@ -74,8 +74,9 @@ fn in_a_link() {
             (Place::Low, Some(value)) => told(value),
             _ => untold(byte, place, value.is_some(), 2),
         };
-        let printed = verdict_bytes(&file(Kind::Verdict, index));
-        assert_eq!(printed, expected, "byte {byte}, {place:?}");
+        let text = file(Kind::Verdict, index);
+        assert_eq!(verdict_bytes(&text), expected, "byte {byte}, {place:?}");
+        assert_eq!(archive_bytes(&text), expected, "byte {byte}, {place:?}");
     }
 }
 

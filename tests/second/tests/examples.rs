@@ -2,7 +2,7 @@
 
 mod common;
 
-use common::{run, verdict};
+use common::{archive, refused, run, verdict};
 use second::drawings::{Outcome, DRAWINGS};
 use second::faults::Fault;
 use second::output::{plan_text, verdict_line};
@@ -100,11 +100,20 @@ fn every_drawing() {
 fn every_drawing_as_a_file() {
     for drawing in &DRAWINGS {
         let plan = drawing.plan();
-        let printed = second::verdict_text(&plan_text(&plan));
-        match verdict_of(&plan, Fault::None) {
-            Ok(answer) => assert_eq!(printed, verdict_line(&answer, Fault::None)),
-            Err(_) => assert_eq!(printed, b"ff040001\n", "drawing {}", drawing.name),
-        }
+        let text = plan_text(&plan);
+        let expected = match verdict_of(&plan, Fault::None) {
+            Ok(answer) => verdict_line(&answer, Fault::None),
+            Err(_) => b"ff040001\n".to_vec(),
+        };
+        let name = drawing.name;
+        assert_eq!(second::archive_text(&text), expected, "drawing {name}");
+        // In B terminal 1 hears nobody.
+        let new = if name == 'B' {
+            b"ff0f0000\n".to_vec()
+        } else {
+            expected
+        };
+        assert_eq!(second::verdict_text(&text), new, "drawing {name}");
     }
 }
 
@@ -112,7 +121,8 @@ fn every_drawing_as_a_file() {
 fn drawings_printed() {
     let h = "01070001 020001 020002 020003 020004 020105 020205 020605 020306 020406 020506";
     assert_eq!(verdict("01020000 020001"), "8100000000000000000000\n");
-    assert_eq!(verdict("01020000"), "8101000000000001000002\n");
+    assert_eq!(verdict("01020000"), refused(15, 0));
+    assert_eq!(archive("01020000"), "8101000000000001000002\n");
     assert_eq!(
         verdict("01030001 020001 020102"),
         "8101000000000003000004\n"
@@ -150,8 +160,12 @@ fn rounds_when_none_are_given() {
 
 #[test]
 fn bound_up_to_all_but_one() {
-    assert_eq!(verdict("01030002 020001"), "8101000000000003000004\n");
-    assert_eq!(verdict("01030003 020001"), "ff040001\n");
+    let chain = "020001 020102";
+    assert_eq!(
+        verdict(&format!("01030002 {chain}")),
+        "8101000000000003000004\n"
+    );
+    assert_eq!(verdict(&format!("01030003 {chain}")), "ff040001\n");
 }
 
 #[test]

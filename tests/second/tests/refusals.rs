@@ -2,11 +2,17 @@
 
 mod common;
 
-use common::{file, refused, run, run_bytes, verdict, verdict_bytes};
+use common::{archive, file, refused, run, run_bytes, verdict, verdict_bytes};
 
 /// Site E, a bad set {1}, value 7, 3 rounds: 7 lines.
 const PLAN: &str = "01040001 020001 020002 020103 020203";
 const RUN: &str = "01040001 020001 020002 020103 020203 03000002 04000703";
+
+/// Twenty terminals in a chain: 20 lines.
+fn chain() -> String {
+    let links = (0..19).map(|from| format!(" 02{from:02x}{:02x}", from + 1));
+    links.fold("01140000".to_string(), |words, link| words + &link)
+}
 
 fn plans_refused(number: u8, cases: &[(&str, u16)]) {
     for (words, line) in cases {
@@ -110,9 +116,9 @@ fn order_in_plans() {
         &[
             ("020001", 1),
             ("020001 01020000", 1),
-            ("01020000 01020000", 2),
+            ("01020000 020001 01020000", 3),
             ("01020000 020001 01000000", 3),
-            ("01020000 01ffffff", 2),
+            ("01020000 020001 01ffffff", 3),
         ],
     );
 }
@@ -152,7 +158,7 @@ fn order_in_runs() {
         RUN,
         &[("050101030009 04000000", 9), ("050101030009 03ffffff", 9)],
     );
-    assert_eq!(run("01020000"), refused(3, 0));
+    assert_eq!(run("01020000 020001"), refused(3, 0));
 }
 
 #[test]
@@ -167,7 +173,7 @@ fn head() {
         4,
         &[("01020002", 1), ("01140014", 1), ("011400ff 020001", 1)],
     );
-    assert_eq!(verdict("01140013").len(), 23);
+    assert_eq!(archive("01140013").len(), 23);
     assert_eq!(verdict("01021300"), refused(4, 1));
 }
 
@@ -219,10 +225,11 @@ fn bad_set_members() {
     );
     runs_refused(
         7,
-        "01140000",
-        &[("03100000", 2), ("03800000", 2), ("03000001", 2)],
+        &chain(),
+        &[("03100000", 21), ("03800000", 21), ("03000001", 21)],
     );
-    assert_eq!(run("01140000 03080000 040007 ").len(), 20 * 13);
+    let last_is_bad = format!("{} 03080000 040007", chain());
+    assert_eq!(run(&last_is_bad).len(), 20 * 13);
 }
 
 #[test]
@@ -235,7 +242,7 @@ fn bad_set_bound() {
         "01030001 020001 020002 020100 020200",
         &[("03000006", 6)],
     );
-    runs_refused(8, "01020000 020100", &[("03000002", 3)]);
+    runs_refused(8, "01020000 020001 020100", &[("03000002", 4)]);
     // Members of the set may hear as many as they like.
     let inside = run("01030000 020001 020102 020201 03000006 04000701");
     assert_eq!(inside, "820001000007\n820102000000\n820202000000\n");
@@ -315,9 +322,10 @@ fn lowest_number_on_a_line() {
     assert_eq!(verdict("0100000"), refused(1, 1)); // odd digits before head
     assert_eq!(verdict("0200"), refused(2, 1)); // length before order
     assert_eq!(verdict("01020000 0100"), refused(2, 2));
-    assert_eq!(verdict("01020000 01000000"), refused(3, 2)); // order before head
+    assert_eq!(verdict("01020000 020001 01000000"), refused(3, 3)); // order before head
     assert_eq!(run("01020000 0200ff 03000000 0200ff"), refused(5, 2));
-    assert_eq!(run("01020000 03000000 0200ff"), refused(3, 3)); // order before link end
+    let late = "01020000 020001 03000000 0200ff";
+    assert_eq!(run(late), refused(3, 4)); // order before link end
     assert_eq!(run(&format!("{PLAN} 03000007")), refused(7, 6)); // member before bound
     assert_eq!(run(&format!("{PLAN} 04000000")), refused(3, 6)); // order before start
     let twice = "050101030009 050101030000";
@@ -330,7 +338,7 @@ fn first_line_decides() {
     assert_eq!(verdict("01020000 020000 0G"), refused(5, 2));
     assert_eq!(verdict_bytes(b"01020000\n020000\n020001"), refused(5, 2));
     assert_eq!(run("01020000 020001 020001 03000001"), refused(6, 3));
-    assert_eq!(run("01020000 03000001 01"), refused(7, 2));
+    assert_eq!(run("01020000 020001 03000001 01"), refused(7, 3));
     assert_eq!(run(&format!("{PLAN} 03000006 04")), refused(8, 6));
     // A frame missing at the end comes last.
     assert_eq!(run("01020000 020001 06"), refused(2, 3));

@@ -1,7 +1,7 @@
 //! The proved programs, as the script has built them.
 
 use crate::document::Document;
-use crate::frames::{self, Answer, Plan, State, Verdict};
+use crate::frames::{self, Answer, Plan, Refusal, State, Verdict, DEAF};
 use crate::Trouble;
 use std::io::Write;
 use std::path::{Path, PathBuf};
@@ -37,29 +37,49 @@ impl Programs {
         }
     }
 
-    /// The verdict on frames that are no file of the user's.
+    /// The verdict on frames that are no file of the user's. `archive` has it of any plan, and
+    /// what is tried here may have a deaf terminal.
     pub fn verdict(&self, frames: &str) -> Result<Verdict, Trouble> {
-        match self.ask("verdict", frames.as_bytes())?.1 {
+        match self.ask("archive", frames.as_bytes())?.1 {
             Answer::Verdict(verdict) => Ok(verdict),
-            _ => Err(Trouble::Broken("'verdict' gave no verdict".into())),
+            _ => Err(Trouble::Broken("'archive' gave no verdict".into())),
         }
     }
 
-    /// The verdict on a document's plan.
+    /// The verdict on a document's plan, be it new or on file.
     pub fn verdict_of(&self, document: &Document) -> Result<Verdict, Trouble> {
-        match self.ask("verdict", document.plan_frames())?.1 {
+        match self.ask("archive", document.plan_frames())?.1 {
             Answer::Verdict(verdict) => Ok(verdict),
-            Answer::Refused(refusal) => Err(document.refused("verdict", &refusal)),
-            _ => Err(Trouble::Broken("'verdict' gave no verdict".into())),
+            Answer::Refused(refusal) => Err(document.refused("archive", &refusal)),
+            _ => Err(Trouble::Broken("'archive' gave no verdict".into())),
         }
     }
 
     /// A document's plan, once the program that reads all of it has accepted it.
     pub fn accepted(&self, document: &Document) -> Result<Plan, Trouble> {
+        match self.refusal_of(document)? {
+            Some((program, refusal)) => Err(document.refused(program, &refusal)),
+            None => Ok(document.plan()),
+        }
+    }
+
+    /// The same for a word that needs nothing of a run: where `run` refuses a deaf terminal, the
+    /// plan is still one for the archive.
+    pub fn accepted_plan(&self, document: &Document) -> Result<Plan, Trouble> {
+        match self.refusal_of(document)? {
+            Some((program, refusal)) if refusal.cause != DEAF => {
+                Err(document.refused(program, &refusal))
+            }
+            _ => Ok(document.plan()),
+        }
+    }
+
+    /// By `run`, or of a plan by `rewrite`, which opens those of the archive too.
+    fn refusal_of(&self, document: &Document) -> Result<Option<(&str, Refusal)>, Trouble> {
         let program = if document.is_run() { "run" } else { "rewrite" };
         match self.ask(program, document.frames())?.1 {
-            Answer::Refused(refusal) => Err(document.refused(program, &refusal)),
-            _ => Ok(document.plan()),
+            Answer::Refused(refusal) => Ok(Some((program, refusal))),
+            _ => Ok(None),
         }
     }
 

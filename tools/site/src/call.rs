@@ -2,7 +2,7 @@
 
 use crate::ask::Programs;
 use crate::document::{self, Document};
-use crate::frames::{self, Answer};
+use crate::frames::{self, Answer, DEAF};
 use crate::search::LIMIT;
 use crate::{draw, mend, shown, silence, tell, trace, words, Told, Trouble};
 
@@ -16,7 +16,7 @@ pub struct Call {
 
 /// The words' options; the last one has a number after it.
 const OPTIONS: [(&str, &str); 3] = [("draw", "--mend"), ("trace", "--csv"), ("mend", "--calls=")];
-const MANY_FILES: [&str; 3] = ["verdict", "check", "run"];
+const MANY_FILES: [&str; 4] = ["verdict", "archive", "check", "run"];
 
 const PASSES: u8 = 0;
 const REFUSED: u8 = 1;
@@ -95,6 +95,7 @@ impl Call {
     fn answer_of(&self, document: &Document, programs: &Programs) -> Result<Told, Trouble> {
         match self.word.as_str() {
             "verdict" => asked("verdict", document.plan_frames(), document, programs),
+            "archive" => asked("archive", document.plan_frames(), document, programs),
             "run" => asked("run", document.frames(), document, programs),
             "rewrite" | "plan" => rewritten(document, programs),
             "check" => checked(document, programs),
@@ -173,19 +174,49 @@ fn checked(document: &Document, programs: &Programs) -> Result<Told, Trouble> {
 fn explained(document: &Document, programs: &Programs) -> Result<Told, Trouble> {
     let program = if document.is_run() { "run" } else { "verdict" };
     let (printed, answer) = programs.ask(program, document.frames())?;
-    let lines = match &answer {
+    let mut text = printed + &words::ended(&in_words(document, program, &answer, programs)?);
+    match &answer {
+        Answer::Refused(refusal) if refusal.cause == DEAF && !document.is_run() => {
+            text += &archived(document, programs)?;
+        }
         Answer::Refused(refusal) if document.is_text() => {
             return Err(document.refused(program, refusal));
         }
+        _ => {}
+    }
+    Ok(Told {
+        text,
+        status: u8::from(matches!(answer, Answer::Refused(_))),
+    })
+}
+
+fn in_words(
+    document: &Document,
+    program: &str,
+    answer: &Answer,
+    programs: &Programs,
+) -> Result<Vec<String>, Trouble> {
+    Ok(match answer {
         Answer::Refused(refusal) => vec![document.refusal_in_words(program, refusal)],
         Answer::Verdict(verdict) => words::of_verdict(document, verdict, programs)?,
         Answer::Terminals(states) => words::of_states(document, states),
         Answer::Plan => Vec::new(),
-    };
-    Ok(Told {
-        text: printed + &words::ended(&lines),
-        status: u8::from(matches!(answer, Answer::Refused(_))),
     })
+}
+
+/// What the archive has of a plan that is refused as a new one. It may refuse it too, for a line
+/// under the links that `verdict` has not come to.
+fn archived(document: &Document, programs: &Programs) -> Result<String, Trouble> {
+    let (printed, answer) = programs.ask("archive", document.frames())?;
+    let does = match answer {
+        Answer::Refused(_) => "refuses it too",
+        _ => "opens it",
+    };
+    let lines = in_words(document, "archive", &answer, programs)?;
+    Ok(format!(
+        "the archive {does}:\n{printed}{}",
+        words::ended(&lines)
+    ))
 }
 
 /// The proved writer puts the plan's links in order.

@@ -175,9 +175,9 @@ impl Document {
         &self.frames[..self.plan_length]
     }
 
-    /// Of an accepted document.
+    /// Of an accepted document, or one that is refused for a deaf terminal alone.
     pub fn plan(&self) -> Plan {
-        frames::plan(&self.frames)
+        frames::plan(frames::plan_part(&self.frames))
     }
 
     /// A title for people: the site's name, or the file's.

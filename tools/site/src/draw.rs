@@ -12,12 +12,13 @@ use crate::Trouble;
 use std::collections::BTreeMap;
 
 pub fn draw(document: &Document, mended: bool, programs: &Programs) -> Result<String, Trouble> {
-    let plan = programs.accepted(document)?;
     if document.is_run() && !mended {
+        let plan = programs.accepted(document)?;
         let frames = String::from_utf8_lossy(document.frames());
         let told = of_run(document, &programs.states(&frames)?);
         return Ok(Sheet::new(&plan, document, told, Vec::new()).picture());
     }
+    let plan = programs.accepted_plan(document)?;
     let verdict = programs.verdict(&plan.to_frames())?;
     let new = if mended {
         first_way(&plan, programs)?

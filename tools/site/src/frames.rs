@@ -36,6 +36,10 @@ pub struct Run {
 /// The most rounds of a run.
 pub const MOST_ROUNDS: u8 = 40;
 
+/// The cause that a new plan with a deaf terminal is refused with: one other than the source that
+/// hears nobody.
+pub const DEAF: u8 = 15;
+
 /// Cause and line of a refused file; line 0 is the whole file.
 pub struct Refusal {
     pub cause: u8,
@@ -108,6 +112,14 @@ impl Plan {
         let senders: BTreeSet<u8> = heard.map(|(from, _)| *from).collect();
         senders.into_iter().collect()
     }
+
+    /// The terminals other than the source that hear nobody, ascending.
+    pub fn deaf(&self) -> Vec<u8> {
+        let others = (0..self.terminals).filter(|one| *one != self.source);
+        others
+            .filter(|one| self.heard_by(*one).is_empty())
+            .collect()
+    }
 }
 
 impl Run {
@@ -125,6 +137,15 @@ impl Run {
 pub fn is_run_file(file: &[u8]) -> bool {
     let mut lines = file.split(|&byte| byte == b'\n');
     lines.any(|line| matches!(line, [b'0', b'3' | b'4' | b'5', ..]))
+}
+
+/// The first line and the links under it. A file that is refused for a deaf terminal has been
+/// accepted so far, and no further.
+pub fn plan_part(file: &[u8]) -> &[u8] {
+    let mut lines = file.split_inclusive(|&byte| byte == b'\n');
+    let head = lines.next().map_or(0, <[u8]>::len);
+    let links = lines.take_while(|line| line.starts_with(b"02"));
+    &file[..head + links.map(<[u8]>::len).sum::<usize>()]
 }
 
 /// The head and the links of an accepted file; other frames of a run file are passed over.

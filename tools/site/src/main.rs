@@ -4,6 +4,7 @@
 
 mod ask;
 mod call;
+mod deaf;
 mod digits;
 mod document;
 mod draw;

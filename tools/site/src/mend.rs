@@ -15,7 +15,7 @@ const WAYS: usize = 20;
 
 /// Within so many calls of the verdict for links, and as many for a repeater.
 pub fn mend(document: &Document, limit: usize, programs: &Programs) -> Result<String, Trouble> {
-    let plan = programs.accepted(document)?;
+    let plan = programs.accepted_plan(document)?;
     if !programs.verdict(&plan.to_frames())?.fails {
         return Ok("# this plan passes: nothing to mend\n".into());
     }

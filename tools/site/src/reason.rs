@@ -2,7 +2,7 @@
 //! looks at the file once more, and says nothing where it cannot tell.
 
 use crate::digits::bad_line;
-use crate::frames::{self, Plan, Refusal, Run, Word};
+use crate::frames::{self, Plan, Refusal, Run, Word, DEAF};
 
 const LONGEST_FILE: usize = 24_576;
 /// Each kind's name, its lengths after the kind byte, and what they hold.
@@ -99,8 +99,21 @@ fn whole_file(file: &[u8], cause: u8) -> Option<Reason> {
         3 if !has(b"04") => {
             plainly("a run needs its value and rounds, a line 04, and there is none")
         }
+        DEAF => hear_nobody(&frames::plan(frames::plan_part(file))),
         _ => None,
     }
+}
+
+fn hear_nobody(plan: &Plan) -> Option<Reason> {
+    let deaf = plan.deaf();
+    let hear = match deaf.len() {
+        0 => return None,
+        1 => format!("terminal {} hears nobody", deaf[0]),
+        _ => format!("terminals {} hear nobody", with_and(&deaf)),
+    };
+    plainly(format!(
+        "{hear}; a new plan must have no such terminal, and './hulmayek archive FILE' opens a plan that is on file already"
+    ))
 }
 
 fn counted(bytes: usize) -> String {

@@ -1,5 +1,5 @@
 //! The fewest links that turn a failing plan into one that passes. Every plan that is tried is
-//! asked of the proved `verdict`.
+//! asked of the proved `archive`: it may still have a terminal that hears nobody.
 //!
 //! Whatever set of new links mends a plan must touch the verdict's F, L, R on it: a link from F
 //! to a good terminal (or F stays a bad set) or from L to R (or R stays cut off). So the next link

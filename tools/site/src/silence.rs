@@ -1,9 +1,11 @@
 //! "What if these die": may they be bad together, and whom does their silence cut off? Asked of
-//! the proved `run`, with that bad set, no words, and more rounds than any notice needs.
+//! the proved `run`, with that bad set, no words, and more rounds than any notice needs. Where the
+//! plan has a deaf terminal, `run` is asked of one that has none (deaf.rs).
 
 use crate::ask::Programs;
+use crate::deaf::Hearing;
 use crate::document::Document;
-use crate::frames::{self, Answer, State, MOST_ROUNDS};
+use crate::frames::{self, Answer, Plan, Refusal, State, MOST_ROUNDS};
 use crate::reason::{self, with_and};
 use crate::{words, Told, Trouble};
 use std::collections::BTreeSet;
@@ -17,25 +19,32 @@ pub fn with_bad(
     programs: &Programs,
 ) -> Result<Told, Trouble> {
     let bad = numbers(terminals)?;
-    let plan = programs.accepted(document)?;
-    let mut file = plan.to_frames();
+    let plan = programs.accepted_plan(document)?;
+    let hearing = Hearing::of(&plan, &bad);
     let set = bad.iter().fold(0, |set, one| set | 1 << one);
-    file += &(frames::bad_set(set) + &frames::start(1, Some(MOST_ROUNDS)));
+    let run = frames::bad_set(set) + &frames::start(1, Some(MOST_ROUNDS));
     let who = with_and(&bad);
-    match programs.ask("run", file.as_bytes())?.1 {
-        Answer::Terminals(states) => Ok(silent(document, &who, plan.bound, &states)),
-        Answer::Refused(refusal) => {
-            let why = reason::find(file.as_bytes(), "run", &refusal, &|line| line);
-            let why = why.map_or_else(|| words::cause(&refusal).to_string(), |why| why.whole());
-            Ok(Told {
-                text: format!(
-                    "no: {who} may not be bad: {why} (cause {})\n",
-                    refusal.cause
-                ),
-                status: NOT_ALLOWED,
-            })
+    let asked = hearing.plan.to_frames() + &run;
+    match programs.ask("run", asked.as_bytes())?.1 {
+        Answer::Terminals(states) => {
+            let states = hearing.states(states);
+            Ok(silent(document, &who, plan.bound, &states))
         }
+        Answer::Refused(refusal) => Ok(not_allowed(&plan, &run, &who, refusal.cause)),
         _ => Err(Trouble::Broken("'run' gave no states".into())),
+    }
+}
+
+/// Why is found on the user's own plan, where the bad set is the line after the links.
+fn not_allowed(plan: &Plan, run: &str, who: &str, cause: u8) -> Told {
+    let file = plan.to_frames() + run;
+    let line = plan.links.len() + 2;
+    let refusal = Refusal { cause, line };
+    let why = reason::find(file.as_bytes(), "run", &refusal, &|line| line);
+    let why = why.map_or_else(|| words::cause(&refusal).to_string(), |why| why.whole());
+    Told {
+        text: format!("no: {who} may not be bad: {why} (cause {cause})\n"),
+        status: NOT_ALLOWED,
     }
 }
 

@@ -2,7 +2,7 @@
 
 use crate::ask::Programs;
 use crate::document::{Document, Extras};
-use crate::frames::{self, Plan, Refusal, Run, State, Verdict};
+use crate::frames::{self, Plan, Refusal, Run, State, Verdict, DEAF};
 use crate::Trouble;
 
 /// The lines under a verdict's frame. How fast a notice is when nobody lies is asked of `run`.
@@ -79,6 +79,13 @@ fn failed(plan: &Plan, extras: &Extras, verdict: &Verdict) -> Vec<String> {
 /// How many reached neighbours a cut-off terminal hears, and how many it would need.
 fn short_of(plan: &Plan, extras: &Extras, verdict: &Verdict, terminal: u8) -> String {
     let heard = plan.heard_by(terminal);
+    let (called, needs) = (extras.called(terminal), plan.bound + 1);
+    if heard.is_empty() {
+        let ending = if needs == 1 { "" } else { "s" };
+        return format!(
+            "terminal {called} hears nobody and needs {needs} reached terminal{ending}, or the source"
+        );
+    }
     let reached: Vec<u8> = heard
         .into_iter()
         .filter(|one| verdict.reached.contains(one))
@@ -88,11 +95,7 @@ fn short_of(plan: &Plan, extras: &Extras, verdict: &Verdict, terminal: u8) -> St
         1 => format!("1 reached terminal ({})", reached[0]),
         more => format!("{more} reached terminals ({})", plain(&reached)),
     };
-    format!(
-        "terminal {} hears {whom} and needs {}, or the source",
-        extras.called(terminal),
-        plan.bound + 1
-    )
+    format!("terminal {called} hears {whom} and needs {needs}, or the source")
 }
 
 fn plain(terminals: &[u8]) -> String {
@@ -137,8 +140,8 @@ pub fn line_of(file: &[u8], line: usize) -> String {
     }
 }
 
-/// The specification's table of causes, where it speaks of files. Two rows name a whole-file
-/// part, line 0, and the words follow the line.
+/// The specification's table of causes, and the requests' after it, where they speak of files. Two
+/// rows name a whole-file part, line 0, and the words follow the line.
 pub fn cause(refusal: &Refusal) -> &'static str {
     match (refusal.cause, refusal.line) {
         (1, 0) => "file empty or too long",
@@ -154,6 +157,7 @@ pub fn cause(refusal: &Refusal) -> &'static str {
         (9, _) => "value 0, or rounds above 40",
         (10, _) => "word with round 0 or past the last, no such link, good sender, value 0",
         (11, _) => "second word on one link in one round",
+        (DEAF, _) => "a terminal other than the source hears nobody",
         _ => "a cause that files do not have",
     }
 }

@@ -1,20 +1,20 @@
+use borrow.Author.Needs.{needs}
 use Prim.Native.Nat.{_-_}
 use mathlib.Core.Path.{refl, sym, ap, _∙_}
 use native.Mathlib.Omega.{arith}
 use lib.ListN.{length}
-use borrow.Author.Needs.{needs}
 use Rattle.frames.specs.declared.FileRead.{FileRead}
 use Rattle.frames.specs.Pass.{Going}
-use Rattle.frames.proofs.LineLaws.{going-starts, ends-cut, ends-told, no-words, file-refused, file-told}
+use Rattle.frames.proofs.LineLaws.{going-starts, ends-cut, ends-refused, ends-told, no-words, file-refused, file-told}
 -- The loop's invariant: told from here on, with the current line's bytes so far, the file is what it is from the start. Assumes nothing.
 use Rattle.frames.proofs.read_lines.Statement.{statement}
 use Rattle.frames.proofs.read_lines.Tie as tie
 
 abbrev Inv-loop : tie.InvT-loop
-Inv-loop kinds text words₀ at₀ i₀ words at i = Going kinds text words at i
+Inv-loop reader text words₀ at₀ i₀ words at i = Going reader text words at i
 
 abbrev μ-loop : tie.MeasureT-loop
-μ-loop kinds text words₀ at₀ i₀ words at i = length text - i
+μ-loop reader text words₀ at₀ i₀ words at i = length text - i
 
 refusal-requires : tie.Need-refusal-requires Inv-loop μ-loop
 refusal-requires c κs = search needs
@@ -53,17 +53,33 @@ returns-2 : tie.Need-returns-2 Inv-loop μ-loop
 returns-2 c = let l = c .before .before .before .before .loop in
     let a = c .before .before .before .before .before .before .before .before .before .args in
     file-refused _ _ _ _ _ (c .refusal3 .ensures)
-    (sym (l .inv .same) ∙ ends-cut (a .kinds) (a .text .now) (l .at .progress) (l .words) (l .at .line) (l .at .from) (l .i) (c .before .before .before .loop-test .left) (l .inv .within) (c .before .if2 .taken))
+    (sym (l .inv .same) ∙ ends-cut (a .reader) (a .text .now) (l .at .progress) (l .words) (l .at .line) (l .at .from) (l .i) (c .before .before .before .loop-test .left) (l .inv .within) (c .before .if2 .taken))
     (λ z. omega arith)
 
+links-cause-requires : tie.Need-links-cause-requires Inv-loop μ-loop
+links-cause-requires c κs = c .before .before .before .before .loop .inv .twenty
+
+refusal-requires-4 : tie.Need-refusal-requires-4 Inv-loop μ-loop
+refusal-requires-4 c κs = search needs
+
 same-length-3 : tie.Need-same-length-3 Inv-loop μ-loop
-same-length-3 c = c .before .before .before .before .loop .inv .places ∙ sym (no-words _ (c .before .before .before .before .before .before .before .before .before .pre .2))
+same-length-3 c = c .before .before .before .before .before .before .before .loop .inv .places ∙ sym (no-words _ (c .before .before .before .before .before .before .before .before .before .before .before .before .pre .2))
 
 returns-3 : tie.Need-returns-3 Inv-loop μ-loop
-returns-3 c = let l = c .before .before .before .before .loop in
-    let a = c .before .before .before .before .before .before .before .before .before .args in
+returns-3 c = let l = c .before .before .before .before .before .before .before .loop in
+    let a = c .before .before .before .before .before .before .before .before .before .before .before .before .args in
+    file-refused _ _ _ _ _ (c .refusal4 .ensures)
+    (sym (l .inv .same) ∙ ends-refused (a .reader) (a .text .now) (l .at .progress) (l .words) (l .at .line) (l .at .from) (l .i) (c .before .before .before .before .before .before .loop-test .left) (c .before .before .before .before .if2 .left) _ (c .before .before .links-cause .ensures) (c .before .if3 .taken))
+    (c .before .if3 .taken)
+
+same-length-4 : tie.Need-same-length-4 Inv-loop μ-loop
+same-length-4 c = c .before .before .before .before .before .before .loop .inv .places ∙ sym (no-words _ (c .before .before .before .before .before .before .before .before .before .before .before .pre .2))
+
+returns-4 : tie.Need-returns-4 Inv-loop μ-loop
+returns-4 c = let l = c .before .before .before .before .before .before .loop in
+    let a = c .before .before .before .before .before .before .before .before .before .before .before .args in
     file-told _ _ _ _ refl
-    (sym (l .inv .same) ∙ ends-told (a .kinds) (a .text .now) (l .at .progress) (l .words) (l .at .line) (l .at .from) (l .i) (c .before .before .before .loop-test .left) (c .before .if2 .left))
+    (sym (l .inv .same) ∙ ends-told (a .reader) (a .text .now) (l .at .progress) (l .words) (l .at .line) (l .at .from) (l .i) (c .before .before .before .before .before .loop-test .left) (c .before .before .before .if2 .left) _ (c .before .links-cause .ensures) (c .if3 .left))
 
 pub read-lines-spec : {M : Type 1} → statement M
 read-lines-spec =
@@ -83,5 +99,9 @@ read-lines-spec =
     refusal-requires-3
     same-length-2
     returns-2
+    links-cause-requires
+    refusal-requires-4
     same-length-3
-    returns-3)
+    returns-3
+    same-length-4
+    returns-4)

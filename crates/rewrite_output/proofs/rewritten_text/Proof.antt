@@ -1,4 +1,5 @@
 use mathlib.Core.Path.{ap, _∙_}
+use Rattle.frames.specs.declared.ArchiveRead.{ArchiveRead}
 use Rattle.output.proofs.Laws.{put-as}
 use Rattle.rewrite_output.specs.Rewritten.{rewrittenOn, rewrittenText}
 use Rattle.rewrite_output.proofs.Laws.{anew-refused, anew-text, anew-answer}
@@ -7,8 +8,8 @@ use borrow.Author.Needs.{needs}
 use Rattle.rewrite_output.proofs.rewritten_text.Statement.{statement}
 use Rattle.rewrite_output.proofs.rewritten_text.Tie as tie
 
-read-plan-requires : tie.Need-read-plan-requires
-read-plan-requires c κs = search needs
+read-archive-requires : tie.Need-read-archive-requires
+read-archive-requires c κs = search needs
 
 refusal-requires : tie.Need-refusal-requires
 refusal-requires c κs = search needs
@@ -21,7 +22,7 @@ same-length c = search needs
 
 returns : tie.Need-returns
 unfolding rewrittenText
-returns c = let e = c .before .before .before .before .before .before .before .read-plan .ensures in
+returns c = let e = ap (λ (r : ArchiveRead). r .file) (c .before .before .before .before .before .before .before .before .read-archive .ensures) in
     put-as _ _ _ _ _ _ _ e (anew-refused _ _ (c .before .before .before .before .before .if1 .taken) (c .before .before .before .before .refusal .ensures) ∙ ap rewrittenOn e) (c .before .before .put .ensures .0) (c .before .before .put .ensures .1)
 
 write-plan-requires : tie.Need-write-plan-requires
@@ -35,16 +36,16 @@ same-length-2 c = search needs
 
 returns-2 : tie.Need-returns-2
 unfolding rewrittenText
-returns-2 c = let e = c .before .before .before .before .before .before .before .read-plan .ensures in
+returns-2 c = let e = ap (λ (r : ArchiveRead). r .file) (c .before .before .before .before .before .before .before .before .read-archive .ensures) in
     let z = c .before .before .before .before .before .if1 .left in
     let w = c .before .before .before .write-plan .ensures in
-    put-as _ _ _ _ _ _ _ e (anew-text _ _ e z ∙ ap rewrittenOn e) (anew-answer _ _ e z _ _ (c .before .before .before .before .before .before .before .before .before .before .args .out .now) (c .on-line .ensures) (w .0)) (w .1)
+    put-as _ _ _ _ _ _ _ e (anew-text _ _ e z ∙ ap rewrittenOn e) (anew-answer _ _ e z _ _ (c .before .before .before .before .before .before .before .before .before .before .before .args .out .now) (c .on-line .ensures) (w .0)) (w .1)
 
 pub rewritten-text-spec : {M : Type 1} → statement M
 rewritten-text-spec =
     tie.close
     (tie.spec
-    read-plan-requires
+    read-archive-requires
     refusal-requires
     put-requires
     same-length

@@ -17,6 +17,14 @@ pub fn run(words: &str) -> String {
     run_bytes(&file(words))
 }
 
+pub fn archive(words: &str) -> String {
+    archive_bytes(&file(words))
+}
+
+pub fn archive_bytes(text: &[u8]) -> String {
+    String::from_utf8_lossy(&second::archive_text(text)).into_owned()
+}
+
 pub fn verdict_bytes(text: &[u8]) -> String {
     String::from_utf8_lossy(&second::verdict_text(text)).into_owned()
 }

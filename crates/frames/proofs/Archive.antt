@@ -1,0 +1,303 @@
+-- The reader of new plans beside that of the archive, whatever kinds they know. Assumes nothing.
+use Prim.Native.Nat.{ℕ, _+_, _≤_}
+use mathlib.Core.Path.{_≡_, refl, sym, ap, _∙_, subst}
+use mathlib.Core.Logic.{_⊎_, inl, inr, ⊎-elim}
+use mathlib.Core.Bool.{true, false}
+use mathlib.Core.List.{List, [], _∷_}
+use native.Mathlib.Omega.{arith}
+use lib.Dec.{leb}
+use lib.ListN.{length}
+use borrow.Author.Tests.{eq-eqb, ne-eqb, eqb-true}
+use Rattle.sets.specs.Tests.{_and_}
+use Rattle.sets.specs.Sets.{mask}
+use Rattle.sets.proofs.Bools.{clash, decide, pick-yes, pick-no}
+use Rattle.sets.proofs.Laws.{equal-or-not}
+use Rattle.plan.specs.Deaf.{deafSet}
+use Rattle.lines.specs.declared.Frame.{Frame}
+use Rattle.lines.specs.declared.Frame.the-variants.{Foreign, Unknown, Head, Link, FaultSet, Start, Message}
+use Rattle.lines.specs.Frames.{frameOf}
+use Rattle.frames.specs.declared.Stage.the-variants.{Links}
+use Rattle.frames.specs.declared.Progress.{Progress}
+use Rattle.frames.specs.declared.Reader.{Reader}
+use Rattle.frames.specs.Lines.{Line, ended, cut, linesFrom}
+use Rattle.frames.specs.Reading.{mostBytes, planKinds, runKinds, stageOf, isAt, nothingRead, noWords, causeIn, endsLinks, linksCause, endCause, after, wordsAfter, Reading, refusal, unless, told, reading, planReading, archiveReading, runReading}
+use Rattle.frames.specs.Archive.{Beside}
+use Rattle.frames.proofs.Unless.{unless-none, unless-some, unless-read}
+use Rattle.frames.proofs.EndLaws.{links-elsewhere, links-archived, links-heard, links-deaf, end-here, end-later, end-none}
+use Rattle.frames.proofs.Accepted.{head-accepted, link-accepted, fault-set-accepted, start-accepted, message-accepted, run-is}
+
+-- ---- what an accepted frame does to the stage
+
+-- from the bad set on, the plan stays
+later-frame : (p : Progress) (words : List ℕ) (frame : Frame) → 2 ≤ stageOf (p .stage) → causeIn p words frame ≡ 0
+    → (2 ≤ stageOf (after p frame .stage)) × (after p frame .plan ≡ p .plan)
+unfolding causeIn after
+later-frame p words Foreign s h = absurd (omega arith)
+later-frame p words Unknown s h = absurd (omega arith)
+later-frame p words (Head n source f) s h = absurd (omega (arith, head-accepted p words n source f h .0))
+later-frame p words (Link from to) s h = absurd (omega (arith, link-accepted p words from to h .0))
+later-frame p words (FaultSet x) s h = absurd (omega (arith, fault-set-accepted p words x h .0))
+later-frame p words (Start value rounds) s h = (omega arith, refl)
+later-frame p words (Message round from to value) s h = (s, refl)
+
+-- the links end with this frame
+abbrev Ends : Progress → Frame → Type 0
+Ends p frame = (isAt Links p ≡ true) × (endsLinks frame ≡ true)
+
+-- before that, the frame is a head or a link, or it is the bad set, and the links end with it
+early-frame : (p : Progress) (words : List ℕ) (frame : Frame) → stageOf (p .stage) ≤ 1 → causeIn p words frame ≡ 0
+    → (Ends p frame × (2 ≤ stageOf (after p frame .stage)) × (after p frame .plan ≡ p .plan)) ⊎ ((Ends p frame → ⊥) × (stageOf (after p frame .stage) ≡ 1))
+unfolding causeIn after endsLinks isAt
+early-frame p words Foreign s h = absurd (omega arith)
+early-frame p words Unknown s h = absurd (omega arith)
+early-frame p words (Head n source f) s h =
+    let z = head-accepted p words n source f h .0 in inr (λ e. let o = eqb-true (stageOf (p .stage)) 1 (e .0) in omega arith, refl)
+early-frame p words (Link from to) s h = inr (λ e. clash (e .1) refl, refl)
+early-frame p words (FaultSet x) s h =
+    inl ((eq-eqb (stageOf (p .stage)) 1 (fault-set-accepted p words x h .0), refl), omega arith, refl)
+early-frame p words (Start value rounds) s h = absurd (omega (arith, start-accepted p words value rounds h .0))
+early-frame p words (Message round from to value) s h = absurd (omega (arith, message-accepted p words round from to value h))
+
+-- ---- two readings that are one
+
+-- both are this one, which is refused, or in whose plan nobody is deaf
+beside-same : (archive new r : Reading) → archive ≡ r → new ≡ r → (r .number ≡ 0 → deafSet (r .progress .plan) ≡ 0) → Beside archive new
+beside-same archive new r a b h = record {
+  nobody-deaf = λ z d. b ∙ sym a;
+  somebody-deaf = λ z d. absurd (d (ap (λ (x : Reading). deafSet (x .progress .plan)) a ∙ h (sym (ap (λ (x : Reading). x .number) a) ∙ z)));
+  refused = λ n. inl (b ∙ sym a);
+}
+
+-- the new one is refused by 15, since in every plan that the archive might have read somebody is deaf
+beside-deaf : (archive new : Reading) → new ≡ refusal 15 0 → (archive .number ≡ 0 → deafSet (archive .progress .plan) ≡ 0 → ⊥) → Beside archive new
+beside-deaf archive new e h = record {
+  nobody-deaf = λ z d. absurd (h z d);
+  somebody-deaf = λ z d. e;
+  refused = λ n. inr e;
+}
+
+beside-as : (archive archive₁ new new₁ : Reading) → archive ≡ archive₁ → new ≡ new₁ → Beside archive₁ new₁ → Beside archive new
+beside-as archive archive₁ new new₁ a b h = subst (λ (x : Reading). Beside x new) (sym a) (subst (Beside archive₁) (sym b) h)
+
+module _ (kinds : ℕ) where
+  abbrev pub fresh : Reader
+  fresh = record { kinds = kinds; archive = false }
+
+  abbrev pub kept : Reader
+  kept = record { kinds = kinds; archive = true }
+
+  -- ---- where the links end
+
+  -- the archive looks at nothing there
+  kept-none : (p : Progress) (frame : Frame) → endCause kept p frame ≡ 0
+  kept-none p frame = end-none kept p frame (links-archived kept p refl)
+
+  fresh-deaf : (p : Progress) (frame : Frame) → Ends p frame → (deafSet (p .plan) ≡ 0 → ⊥) → endCause fresh p frame ≡ 15
+  fresh-deaf p frame e d = end-here fresh p frame (e .1) ∙ links-deaf fresh p (e .0) refl d
+
+  fresh-place : (p : Progress) (frame : Frame) → (Ends p frame × (deafSet (p .plan) ≡ 0 → ⊥)) ⊎ (endCause fresh p frame ≡ 0)
+  fresh-place p frame =
+      ⊎-elim
+      (λ a.
+      ⊎-elim
+      (λ b. ⊎-elim (λ z. inr (end-none fresh p frame (links-heard fresh p z))) (λ n. inl ((a, b), n)) (equal-or-not (deafSet (p .plan)) 0))
+      (λ b. inr (end-later fresh p frame b)) (decide (endsLinks frame)))
+      (λ a. inr (end-none fresh p frame (links-elsewhere fresh p a))) (decide (isAt Links p))
+
+  -- a line where they are not refused
+  module _ (reader : Reader) (p : Progress) (words : List ℕ) (k : ℕ) (line : List ℕ) (rest : List Line) where
+    abbrev told-next : Reading
+    told-next = told reader (after p (frameOf (reader .kinds) line)) (wordsAfter p words (frameOf (reader .kinds) line)) (k + 1) rest
+
+    line-goes : endCause reader p (frameOf (reader .kinds) line) ≡ 0
+        → told reader p words k (ended line ∷ rest) ≡ unless (causeIn p words (frameOf (reader .kinds) line)) k told-next
+    unfolding told
+    line-goes e = unless-none (endCause reader p (frameOf (reader .kinds) line)) 0 _ e
+
+  -- so its reading goes on with every line whose frame is accepted, and to the end
+  pub kept-line : (p : Progress) (words : List ℕ) (k : ℕ) (line : List ℕ) (rest : List Line) (frame : Frame) → frameOf kinds line ≡ frame
+      → causeIn p words frame ≡ 0 → told kept p words k (ended line ∷ rest) ≡ told kept (after p frame) (wordsAfter p words frame) (k + 1) rest
+  kept-line p words k line rest frame f z =
+      line-goes kept p words k line rest (kept-none p (frameOf kinds line))
+      ∙ unless-none (causeIn p words (frameOf kinds line)) k _ (ap (causeIn p words) f ∙ z)
+      ∙ ap (λ (x : Frame). told kept (after p x) (wordsAfter p words x) (k + 1) rest) f
+
+  pub kept-end : (p : Progress) (words : List ℕ) (k : ℕ) → told kept p words k [] ≡ record { number = 0; line = 0; progress = p; words = words }
+  unfolding told
+  kept-end p words k = unless-none (linksCause kept p) 0 _ (links-archived kept p refl)
+
+  -- ---- after them: both readers read the same, and the plan stays
+
+  module _ (p : Progress) (s : 2 ≤ stageOf (p .stage)) where
+    elsewhere : isAt Links p ≡ false
+    unfolding isAt
+    elsewhere = ne-eqb (stageOf (p .stage)) 1 (λ e. omega arith)
+
+    fresh-later : (frame : Frame) → endCause fresh p frame ≡ 0
+    fresh-later frame = end-none fresh p frame (links-elsewhere fresh p elsewhere)
+
+  later-same : (p : Progress) (words : List ℕ) (k : ℕ) (lines : List Line) → 2 ≤ stageOf (p .stage) → told fresh p words k lines ≡ told kept p words k lines
+  unfolding told
+  later-same p words k [] s =
+      unless-none (linksCause fresh p) 0 _ (links-elsewhere fresh p (elsewhere p s)) ∙ sym (kept-end p words k)
+  later-same p words k (cut line ∷ rest) s = refl
+  later-same p words k (ended line ∷ rest) s =
+      line-goes fresh p words k line rest (fresh-later p s (frameOf kinds line))
+      ∙ ⊎-elim
+      (λ z.
+      ap (unless (causeIn p words (frameOf kinds line)) k)
+      (later-same (after p (frameOf kinds line)) (wordsAfter p words (frameOf kinds line)) (k + 1) rest (later-frame p words (frameOf kinds line) s z .0)))
+      (λ n. unless-some (causeIn p words (frameOf kinds line)) k _ n ∙ sym (unless-some (causeIn p words (frameOf kinds line)) k _ n))
+      (equal-or-not (causeIn p words (frameOf kinds line)) 0)
+      ∙ sym (line-goes kept p words k line rest (kept-none p (frameOf kinds line)))
+
+  later-plan : (p : Progress) (words : List ℕ) (k : ℕ) (lines : List Line) → 2 ≤ stageOf (p .stage)
+      → told kept p words k lines .number ≡ 0 → told kept p words k lines .progress .plan ≡ p .plan
+  unfolding told
+  later-plan p words k [] s = unless-read (linksCause kept p) 0 _ (λ (r : Reading). r .progress .plan ≡ p .plan) (λ c z. refl)
+  later-plan p words k (cut line ∷ rest) s = λ z. absurd (omega arith)
+  later-plan p words k (ended line ∷ rest) s =
+      unless-read (endCause kept p (frameOf kinds line)) 0 _ (λ (r : Reading). r .progress .plan ≡ p .plan)
+      (λ e.
+      unless-read (causeIn p words (frameOf kinds line)) k _ (λ (r : Reading). r .progress .plan ≡ p .plan)
+      (λ c z.
+      let l = later-frame p words (frameOf kinds line) s c in
+      later-plan (after p (frameOf kinds line)) (wordsAfter p words (frameOf kinds line)) (k + 1) rest (l .0) z ∙ l .1))
+
+  -- ---- before them
+
+  -- somebody is deaf where the links end: the archive may go on, and the plan stays
+  ended-deaf : (p : Progress) (words : List ℕ) (k : ℕ) (line : List ℕ) (rest : List Line) → stageOf (p .stage) ≤ 1
+      → Ends p (frameOf kinds line) → (deafSet (p .plan) ≡ 0 → ⊥)
+      → told kept p words k (ended line ∷ rest) .number ≡ 0 → deafSet (told kept p words k (ended line ∷ rest) .progress .plan) ≡ 0 → ⊥
+  unfolding told
+  ended-deaf p words k line rest s e d =
+      unless-read (endCause kept p (frameOf kinds line)) 0 _ (λ (r : Reading). deafSet (r .progress .plan) ≡ 0 → ⊥)
+      (λ o.
+      unless-read (causeIn p words (frameOf kinds line)) k _ (λ (r : Reading). deafSet (r .progress .plan) ≡ 0 → ⊥)
+      (λ c z y.
+      ⊎-elim
+      (λ l.
+      d
+      (sym
+      (ap deafSet
+      (later-plan (after p (frameOf kinds line)) (wordsAfter p words (frameOf kinds line)) (k + 1) rest (l .1) z ∙ l .2))
+      ∙ y))
+      (λ n. n .0 e) (early-frame p words (frameOf kinds line) s c)))
+
+  at-links : (p : Progress) → stageOf (p .stage) ≤ 1 → (stageOf (p .stage) ≡ 0 → deafSet (p .plan) ≡ 0) → (deafSet (p .plan) ≡ 0 → ⊥) → isAt Links p ≡ true
+  unfolding isAt
+  at-links p s i n = ⊎-elim (λ z. absurd (n (i z))) (λ m. eq-eqb (stageOf (p .stage)) 1 (omega arith)) (equal-or-not (stageOf (p .stage)) 0)
+
+  -- the file ends
+  early-end : (p : Progress) (words : List ℕ) (k : ℕ) → stageOf (p .stage) ≤ 1 → (stageOf (p .stage) ≡ 0 → deafSet (p .plan) ≡ 0)
+      → Beside (told kept p words k []) (told fresh p words k [])
+  unfolding told
+  early-end p words k s i =
+      ⊎-elim
+      (λ z. beside-same _ _ _ (kept-end p words k) (unless-none (linksCause fresh p) 0 _ (links-heard fresh p z)) (λ o. z))
+      (λ n.
+      let c = links-deaf fresh p (at-links p s i n) refl n in
+      beside-deaf _ _ (unless-some (linksCause fresh p) 0 _ (λ z. omega arith) ∙ ap (λ (x : ℕ). refusal x 0) c)
+      (λ z y. n (sym (ap (λ (r : Reading). deafSet (r .progress .plan)) (kept-end p words k)) ∙ y)))
+      (equal-or-not (deafSet (p .plan)) 0)
+
+  -- a line, and what follows it
+  module _ (p : Progress) (words : List ℕ) (k : ℕ) (line : List ℕ) (rest : List Line) (s : stageOf (p .stage) ≤ 1) where
+    abbrev frame : Frame
+    frame = frameOf kinds line
+
+    abbrev archived : Reading
+    archived = told kept (after p frame) (wordsAfter p words frame) (k + 1) rest
+
+    abbrev renewed : Reading
+    renewed = told fresh (after p frame) (wordsAfter p words frame) (k + 1) rest
+
+    abbrev Here : Type 0
+    Here = Beside (told kept p words k (ended line ∷ rest)) (told fresh p words k (ended line ∷ rest))
+
+    early-refused : Ends p frame → (deafSet (p .plan) ≡ 0 → ⊥) → Here
+    unfolding told
+    early-refused e d =
+        let c = fresh-deaf p frame e d in
+        beside-deaf _ _ (unless-some (endCause fresh p frame) 0 _ (λ z. omega arith) ∙ ap (λ (x : ℕ). refusal x 0) c)
+        (ended-deaf p words k line rest s e d)
+
+    module _ (o : endCause fresh p frame ≡ 0) where
+      kept-goes : told kept p words k (ended line ∷ rest) ≡ unless (causeIn p words frame) k archived
+      kept-goes = line-goes kept p words k line rest (kept-none p frame)
+
+      fresh-goes : told fresh p words k (ended line ∷ rest) ≡ unless (causeIn p words frame) k renewed
+      fresh-goes = line-goes fresh p words k line rest o
+
+      early-wrong : (causeIn p words frame ≡ 0 → ⊥) → Here
+      early-wrong n =
+          beside-same _ _ (refusal (causeIn p words frame) k) (kept-goes ∙ unless-some _ k _ n) (fresh-goes ∙ unless-some _ k _ n) (λ z. absurd (n z))
+
+      -- the links end with it, and nobody is deaf
+      early-ended : Ends p frame × (2 ≤ stageOf (after p frame .stage)) × (after p frame .plan ≡ p .plan) → Beside archived renewed
+      early-ended l =
+          beside-same _ _ archived refl (later-same (after p frame) (wordsAfter p words frame) (k + 1) rest (l .1))
+          (λ z.
+          ap deafSet (later-plan (after p frame) (wordsAfter p words frame) (k + 1) rest (l .1) z ∙ l .2)
+          ∙ ⊎-elim (λ y. y) (λ n. let f = fresh-deaf p frame (l .0) n in absurd (omega arith)) (equal-or-not (deafSet (p .plan)) 0))
+
+      early-right : (stageOf (after p frame .stage) ≡ 1 → Beside archived renewed) → causeIn p words frame ≡ 0 → Here
+      early-right next c =
+          beside-as _ archived _ renewed (kept-goes ∙ unless-none _ k _ c) (fresh-goes ∙ unless-none _ k _ c)
+          (⊎-elim early-ended (λ n. next (n .1)) (early-frame p words frame s c))
+
+    early-line : (stageOf (after p frame .stage) ≡ 1 → Beside archived renewed) → Here
+    early-line next =
+        ⊎-elim (λ b. early-refused (b .0) (b .1))
+        (λ o. ⊎-elim (early-right o next) (early-wrong o) (equal-or-not (causeIn p words frame) 0)) (fresh-place p frame)
+
+  early : (p : Progress) (words : List ℕ) (k : ℕ) (lines : List Line) → stageOf (p .stage) ≤ 1 → (stageOf (p .stage) ≡ 0 → deafSet (p .plan) ≡ 0)
+      → Beside (told kept p words k lines) (told fresh p words k lines)
+  unfolding told
+  early p words k [] s i = early-end p words k s i
+  early p words k (cut line ∷ rest) s i = beside-same _ _ (refusal 1 k) refl refl (λ z. absurd (omega arith))
+  early p words k (ended line ∷ rest) s i =
+      early-line p words k line rest s
+      (λ e. early (after p (frameOf kinds line)) (wordsAfter p words (frameOf kinds line)) (k + 1) rest (omega arith) (λ z. absurd (omega arith)))
+
+  -- ---- the file
+
+  pub reading-beside : (text : List ℕ) → Beside (reading kept text) (reading fresh text)
+  unfolding reading deafSet mask
+  reading-beside text =
+      ⊎-elim
+      (λ t.
+      beside-as _ _ _ _ (pick-yes _ _ _ t) (pick-yes _ _ _ t)
+      (early nothingRead noWords 1 (linesFrom [] text) (omega arith) (λ z. refl)))
+      (λ t. beside-same _ _ (refusal 1 0) (pick-no _ _ _ t) (pick-no _ _ _ t) (λ z. absurd (omega arith)))
+      (decide (leb 1 (length text) and leb (length text) mostBytes))
+
+pub beside : (text : List ℕ) → Beside (archiveReading text) (planReading text)
+unfolding planReading archiveReading
+beside text = reading-beside planKinds text
+
+-- ---- what the new reader accepts, the archive does: it is the same, and nobody in it is deaf
+
+module _ (archive new : Reading) (b : Beside archive new) (z : new .number ≡ 0) where
+  accepted-same : (archive .number ≡ 0) × (deafSet (archive .progress .plan) ≡ 0) × (new ≡ archive)
+  accepted-same =
+      ⊎-elim
+      (λ a.
+      ⊎-elim (λ d. (a, d, b .nobody-deaf a d)) (λ n. absurd (no-fifteen (b .somebody-deaf a n))) (equal-or-not (deafSet (archive .progress .plan)) 0))
+      (λ n. ⊎-elim (λ e. absurd (n (sym (ap (λ (r : Reading). r .number) e) ∙ z))) (λ e. absurd (no-fifteen e)) (b .refused n))
+      (equal-or-not (archive .number) 0)
+    where
+      no-fifteen : new ≡ refusal 15 0 → ⊥
+      no-fifteen e = let f : new .number ≡ 15 = ap (λ (r : Reading). r .number) e in omega arith
+
+  accepted-hears : deafSet (new .progress .plan) ≡ 0
+  accepted-hears = ap (λ (r : Reading). deafSet (r .progress .plan)) (accepted-same .2) ∙ accepted-same .1
+
+pub plan-hears : (text : List ℕ) → planReading text .number ≡ 0 → deafSet (planReading text .progress .plan) ≡ 0
+plan-hears text z = accepted-hears _ _ (beside text) z
+
+pub run-hears : (text : List ℕ) → runReading text .number ≡ 0 → deafSet (runReading text .progress .plan) ≡ 0
+run-hears text z =
+    let e = run-is text z in
+    ap (λ (r : Reading). deafSet (r .progress .plan)) e ∙ accepted-hears _ _ (reading-beside runKinds text) (sym (ap (λ (r : Reading). r .number) e) ∙ z)

@@ -1,0 +1,203 @@
+//! Files about the place where the links end: what stands there, on the line before, or after it.
+
+use crate::damage::{plant, FOREIGN};
+use crate::draft::{
+    bad_set_line, head_line, join, link_line, run_draft, start_line, word_line, Manner,
+};
+use crate::faults::Fault;
+use crate::generate::Kind;
+use crate::output::digits;
+use crate::plan::Plan;
+use crate::plans::{deafen, deep_plan, hear_at_source, strong_plan, thin_plan, weak_plan};
+use crate::rng::Rng;
+
+type Lines = Vec<Vec<u8>>;
+
+/// What stands at the place, or where the cause is on the line before, or what comes after.
+#[derive(Clone, Copy, Debug, PartialEq, Eq)]
+pub enum There {
+    RightBadSet,
+    BadSetMember,
+    BadSetBound,
+    Start,
+    Word,
+    SameHead,
+    WrongHead,
+    UnknownKind,
+    WrongLength,
+    Foreign,
+    OddDigits,
+    Empty,
+    Cut,
+    End,
+    EndAfterBadSet,
+    LinkAfter,
+    LinkEndBefore,
+    LinkTwiceBefore,
+    LinkTextBefore,
+    LinkLengthBefore,
+    LinkCut,
+    NoHeadBefore,
+}
+
+pub const THERE: [There; 22] = [
+    There::RightBadSet,
+    There::BadSetMember,
+    There::BadSetBound,
+    There::Start,
+    There::Word,
+    There::SameHead,
+    There::WrongHead,
+    There::UnknownKind,
+    There::WrongLength,
+    There::Foreign,
+    There::OddDigits,
+    There::Empty,
+    There::Cut,
+    There::End,
+    There::EndAfterBadSet,
+    There::LinkAfter,
+    There::LinkEndBefore,
+    There::LinkTwiceBefore,
+    There::LinkTextBefore,
+    There::LinkLengthBefore,
+    There::LinkCut,
+    There::NoHeadBefore,
+];
+
+/// A file with this at the place, and a plan that is deaf or not.
+pub fn placed(rng: &mut Rng, kind: Kind, there: There, deaf: bool) -> Vec<u8> {
+    let mut plan = small_plan(rng, deaf);
+    if there == There::BadSetBound {
+        plan.f = 0;
+    }
+    let rounds = rng.pick(&[None, Some(2), Some(40)]);
+    let draft = run_draft(rng, plan, rounds, Manner::Wild);
+    let mut lines = draft.lines.clone();
+    match there {
+        There::BadSetMember => drop(plant(rng, kind, &draft, &mut lines, 7)),
+        There::BadSetBound => drop(plant(rng, kind, &draft, &mut lines, 8)),
+        There::Start if rng.chance(50) => drop(plant(rng, kind, &draft, &mut lines, 9)),
+        _ => {}
+    }
+    let mut rest = lines.split_off(1 + draft.plan.links.len());
+    rng.shuffle(&mut lines[1..]);
+    change_links(rng, &draft.plan, &mut lines, there);
+    change_rest(rng, &draft.plan, &mut rest, there);
+    lines.extend(rest);
+    let mut text = join(&lines);
+    if matches!(there, There::Cut | There::LinkCut) {
+        text.pop();
+    }
+    text
+}
+
+/// Few terminals, of which one is heard beside the source, so that no cause is out of reach.
+fn small_plan(rng: &mut Rng, deaf: bool) -> Plan {
+    let n = rng.between(2, 6);
+    let make = rng.pick(&[
+        strong_plan as fn(&mut Rng, u32) -> Plan,
+        weak_plan,
+        deep_plan,
+        thin_plan,
+    ]);
+    let mut plan = make(rng, n);
+    if rng.chance(50) {
+        hear_at_source(rng, &mut plan);
+    }
+    if deaf {
+        deafen(rng, &mut plan);
+    }
+    if plan.links.iter().all(|link| link.0 == plan.source) {
+        let other = (plan.source + rng.between(1, n - 1)) % n;
+        plan.links.insert((other, plan.source));
+    }
+    plan
+}
+
+/// The line before the place, where that one has a cause.
+fn change_links(rng: &mut Rng, plan: &Plan, lines: &mut Lines, there: There) {
+    let known = lines[1 + rng.below(lines.len() - 1)].clone();
+    let inside = rng.between(0, plan.n - 1);
+    match there {
+        There::LinkEndBefore => {
+            let outside = rng.pick(&[inside, plan.n, 255]);
+            let ends = rng.pick(&[(inside, outside), (outside, inside)]);
+            lines.push(link_line(ends.0, ends.1));
+        }
+        There::LinkTwiceBefore => lines.push(known),
+        There::LinkTextBefore => {
+            let mut line = known;
+            line[1 + rng.below(5)] = rng.pick(&FOREIGN);
+            line.truncate(rng.pick(&[5, 6, 6]));
+            lines.push(line);
+        }
+        There::LinkLengthBefore => {
+            let tail = rng.pick(&[&b""[..], b"00", b"0001"]);
+            lines.push([&known[..4], tail, tail].concat());
+        }
+        There::LinkCut => lines.push(late_link(rng, plan)),
+        There::NoHeadBefore => {
+            let first = [known, bad_set_line(0), start_line(7, None)];
+            lines.insert(0, first[rng.below(3)].clone());
+        }
+        _ => {}
+    }
+}
+
+/// What follows the links; with no change it is a right bad set, a start and words.
+fn change_rest(rng: &mut Rng, plan: &Plan, rest: &mut Lines, there: There) {
+    match there {
+        There::Start => drop(rest.remove(0)),
+        There::Word => {
+            let zero = rng.pick(&[0, 1]);
+            rest.insert(0, word_line(zero, 0, 1, 9 * zero as u16));
+        }
+        There::SameHead => rest.insert(0, head_line(plan)),
+        There::WrongHead => {
+            let wrong = rng.pick(&[b"01000000", b"01ffffff", b"01150000"]);
+            rest.insert(0, wrong.to_vec());
+        }
+        There::UnknownKind => {
+            let kind = rng.pick(&[0, 6, 7, 16, 18, 129, 255]);
+            rest.insert(0, digits(&[kind, 0, 1, 0][..rng.below(4) + 1]));
+        }
+        There::WrongLength => wrong_length(rng, &mut rest[0]),
+        There::Foreign => {
+            let at = rng.below(rest[0].len());
+            rest[0][at] = rng.pick(&FOREIGN);
+        }
+        There::OddDigits => drop(rest[0].pop()),
+        There::Empty => rest.insert(0, Vec::new()),
+        There::Cut => {
+            let last = [rest[0].clone(), head_line(plan), start_line(7, None)];
+            *rest = vec![last[rng.below(3)].clone()];
+        }
+        There::End | There::LinkCut => rest.clear(),
+        There::EndAfterBadSet => rest.truncate(1),
+        There::LinkAfter => {
+            if rng.chance(50) {
+                rest[0] = head_line(plan);
+            }
+            rest.insert(1, late_link(rng, plan));
+        }
+        _ => {}
+    }
+}
+
+/// The line gets too long or too short, under its own kind or another.
+fn wrong_length(rng: &mut Rng, line: &mut Vec<u8>) {
+    match rng.below(3) {
+        0 => line.truncate(rng.pick(&[2, 6])),
+        1 => line.extend(b"00"),
+        _ => *line = digits(&[rng.pick(&[1, 3, 4, 5]), 2, 0, 0, 0][..rng.pick(&[1, 2, 5])]),
+    }
+}
+
+/// The link that a deaf terminal lacks; any other where nobody is deaf.
+fn late_link(rng: &mut Rng, plan: &Plan) -> Vec<u8> {
+    let any = (plan.source + 1) % plan.n;
+    let hearer = plan.deaf(Fault::None).first().copied().unwrap_or(any);
+    let sender = (hearer + rng.between(1, plan.n - 1)) % plan.n;
+    link_line(sender, hearer)
+}
