@@ -58,7 +58,7 @@ early-frame p words (FaultSet x) s h =
 early-frame p words (Start value rounds) s h = absurd (omega (arith, start-accepted p words value rounds h .0))
 early-frame p words (Message round from to value) s h = absurd (omega (arith, message-accepted p words round from to value h))
 
--- ---- two readings that are one
+-- ---- two readings of one file
 
 -- both are this one, which is refused, or in whose plan nobody is deaf
 beside-same : (archive new r : Reading) → archive ≡ r → new ≡ r → (r .number ≡ 0 → deafSet (r .progress .plan) ≡ 0) → Beside archive new
@@ -80,6 +80,7 @@ beside-as : (archive archive₁ new new₁ : Reading) → archive ≡ archive₁
 beside-as archive archive₁ new new₁ a b h = subst (λ (x : Reading). Beside x new) (sym a) (subst (Beside archive₁) (sym b) h)
 
 module _ (kinds : ℕ) where
+  -- the readers that know these kinds: of new plans, and of plans that are kept in the archive
   abbrev pub fresh : Reader
   fresh = record { kinds = kinds; archive = false }
 
@@ -114,7 +115,7 @@ module _ (kinds : ℕ) where
     unfolding told
     line-goes e = unless-none (endCause reader p (frameOf (reader .kinds) line)) 0 _ e
 
-  -- so its reading goes on with every line whose frame is accepted, and to the end
+  -- so the archive's reading goes on with every line whose frame is accepted, and to the end
   pub kept-line : (p : Progress) (words : List ℕ) (k : ℕ) (line : List ℕ) (rest : List Line) (frame : Frame) → frameOf kinds line ≡ frame
       → causeIn p words frame ≡ 0 → told kept p words k (ended line ∷ rest) ≡ told kept (after p frame) (wordsAfter p words frame) (k + 1) rest
   kept-line p words k line rest frame f z =

@@ -101,7 +101,7 @@ fn refusal(number: u8, line: u16) -> FileRead
 }
 
 // Where the pass over a file's bytes stands: what is known, the line's number and its first byte; and
-// the cause that refused the line before, 0 for none.
+// the cause that refused the line before, 0 for none. Where the links are refused the number is 0.
 struct Cursor {
     progress: Progress,
     line: u16,
@@ -109,7 +109,8 @@ struct Cursor {
     cause: u8,
 }
 
-// The byte at i: it ends a line, whose frame is told, or it is one more of the line.
+// The byte at i: it ends a line, where the links may end too and whose frame is then told, or it is
+// one more of the line.
 fn pass(reader: Reader, text: &[u8], words: &mut [u16], at: Cursor, i: usize) -> Cursor
     requires { ⌜ Going reader (now text) (now words) at i × (i < length (now text)) × (length (now text) ≤ mostBytes) ⌝ }
     ensures { λ r. ⌜ (r .cause ≡ 0 → Going reader (now (text .entry)) (now (words .exit)) r (i + 1)) ⌝ }
@@ -172,11 +173,11 @@ fn read_lines(reader: Reader, text: &[u8], words: &mut [u16]) -> FileRead
     if at.from < i {
         return refusal(1, at.line);
     }
-    let progress = at.progress;
-    let end = ends::links_cause(reader, progress);
+    let end = ends::links_cause(reader, at.progress);
     if end != 0 {
         return refusal(end, 0);
     }
+    let progress = at.progress;
     FileRead {
         number: 0,
         line: 0,

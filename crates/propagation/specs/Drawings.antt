@@ -1,5 +1,5 @@
 -- The drawings A to J of document 01, and its remark on f (n - 1 is read, n is refused), as rows of one table: a question, and the answer that the
--- document gives. Assumes nothing.
+-- document gives. B is judged as a plan record; as a file it is the archive's (crates/verdict_output/specs/DrawingB.antt). Assumes nothing.
 use Prim.Native.Nat.{ℕ, _+_, _^_}
 use mathlib.Core.Bool.{Bool, false}
 use mathlib.Core.List.{List, [], _∷_, _++_}

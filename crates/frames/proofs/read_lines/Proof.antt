@@ -57,19 +57,19 @@ returns-2 c = let l = c .before .before .before .before .loop in
     (λ z. omega arith)
 
 links-cause-requires : tie.Need-links-cause-requires Inv-loop μ-loop
-links-cause-requires c κs = c .before .before .before .before .loop .inv .twenty
+links-cause-requires c κs = c .before .before .before .loop .inv .twenty
 
 refusal-requires-4 : tie.Need-refusal-requires-4 Inv-loop μ-loop
 refusal-requires-4 c κs = search needs
 
 same-length-3 : tie.Need-same-length-3 Inv-loop μ-loop
-same-length-3 c = c .before .before .before .before .before .before .before .loop .inv .places ∙ sym (no-words _ (c .before .before .before .before .before .before .before .before .before .before .before .before .pre .2))
+same-length-3 c = c .before .before .before .before .before .before .loop .inv .places ∙ sym (no-words _ (c .before .before .before .before .before .before .before .before .before .before .before .pre .2))
 
 returns-3 : tie.Need-returns-3 Inv-loop μ-loop
-returns-3 c = let l = c .before .before .before .before .before .before .before .loop in
-    let a = c .before .before .before .before .before .before .before .before .before .before .before .before .args in
+returns-3 c = let l = c .before .before .before .before .before .before .loop in
+    let a = c .before .before .before .before .before .before .before .before .before .before .before .args in
     file-refused _ _ _ _ _ (c .refusal4 .ensures)
-    (sym (l .inv .same) ∙ ends-refused (a .reader) (a .text .now) (l .at .progress) (l .words) (l .at .line) (l .at .from) (l .i) (c .before .before .before .before .before .before .loop-test .left) (c .before .before .before .before .if2 .left) _ (c .before .before .links-cause .ensures) (c .before .if3 .taken))
+    (sym (l .inv .same) ∙ ends-refused (a .reader) (a .text .now) (l .at .progress) (l .words) (l .at .line) (l .at .from) (l .i) (c .before .before .before .before .before .loop-test .left) (c .before .before .before .if2 .left) _ (c .before .before .links-cause .ensures) (c .before .if3 .taken))
     (c .before .if3 .taken)
 
 same-length-4 : tie.Need-same-length-4 Inv-loop μ-loop
@@ -79,7 +79,7 @@ returns-4 : tie.Need-returns-4 Inv-loop μ-loop
 returns-4 c = let l = c .before .before .before .before .before .before .loop in
     let a = c .before .before .before .before .before .before .before .before .before .before .before .args in
     file-told _ _ _ _ refl
-    (sym (l .inv .same) ∙ ends-told (a .reader) (a .text .now) (l .at .progress) (l .words) (l .at .line) (l .at .from) (l .i) (c .before .before .before .before .before .loop-test .left) (c .before .before .before .if2 .left) _ (c .before .links-cause .ensures) (c .if3 .left))
+    (sym (l .inv .same) ∙ ends-told (a .reader) (a .text .now) (l .at .progress) (l .words) (l .at .line) (l .at .from) (l .i) (c .before .before .before .before .before .loop-test .left) (c .before .before .before .if2 .left) _ (c .before .before .links-cause .ensures) (c .before .if3 .left))
 
 pub read-lines-spec : {M : Type 1} → statement M
 read-lines-spec =
