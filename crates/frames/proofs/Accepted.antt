@@ -200,15 +200,10 @@ module _ (reader : Reader) (p : Progress) (words : List ℕ) (k : ℕ) (line : L
   abbrev next : Reading
   next = told reader (after p frame) (wordsAfter p words frame) (k + 1) rest
 
-  pub line-passed : (Q : Reading → Type 0) → (endCause reader p frame ≡ 0 → causeIn p words frame ≡ 0 → next .number ≡ 0 → Q next)
-      → told reader p words k (ended line ∷ rest) .number ≡ 0 → Q (told reader p words k (ended line ∷ rest))
-  unfolding told
-  line-passed Q f =
-      unless-read (endCause reader p frame) 0 _ Q (λ a. unless-read (causeIn p words frame) k next Q (f a))
-
   pub line-read : (Q : Reading → Type 0) → (causeIn p words frame ≡ 0 → next .number ≡ 0 → Q next)
       → told reader p words k (ended line ∷ rest) .number ≡ 0 → Q (told reader p words k (ended line ∷ rest))
-  line-read Q f = line-passed Q (λ a. f)
+  unfolding told
+  line-read Q f = unless-read (endCause reader p frame) 0 _ Q (λ a. unless-read (causeIn p words frame) k next Q f)
 
 -- at its end nothing refuses the links either
 pub end-read : (reader : Reader) (p : Progress) (words : List ℕ) (k : ℕ) (Q : Reading → Type 0)
@@ -227,23 +222,37 @@ text-read reader text Q f =
     (told reader nothingRead noWords 1 (linesFrom [] text)) (refusal 1 0)
     (λ t. f (leb-true 1 (length text) (and-l _ _ t))) (λ t z. absurd (omega arith))
 
-module _ (I : Progress → Type 0)
-    (kept : (p : Progress) (words : List ℕ) (frame : Frame) → (stageOf (p .stage) ≡ 0) ⊎ I p → causeIn p words frame ≡ 0 → I (after p frame)) where
-  told-keeps : (reader : Reader) (p : Progress) (words : List ℕ) (k : ℕ) (lines : List Line) → (stageOf (p .stage) ≡ 0) ⊎ I p → (lines ≡ [] → I p)
-      → told reader p words k lines .number ≡ 0 → I (told reader p words k lines .progress)
+-- what every accepted frame keeps, an accepted file keeps
+module _ (I : Progress → Type 0) (kept : (p : Progress) (words : List ℕ) (frame : Frame) → I p → causeIn p words frame ≡ 0 → I (after p frame)) where
+  pub told-keeps : (reader : Reader) (p : Progress) (words : List ℕ) (k : ℕ) (lines : List Line) → I p → told reader p words k lines .number ≡ 0
+      → I (told reader p words k lines .progress)
   unfolding told
-  told-keeps reader p words k [] i e = end-read reader p words k (λ (r : Reading). I (r .progress)) (λ c. e refl)
-  told-keeps reader p words k (cut line ∷ rest) i e = λ z. absurd (omega arith)
-  told-keeps reader p words k (ended line ∷ rest) i e =
+  told-keeps reader p words k [] i = end-read reader p words k (λ (r : Reading). I (r .progress)) (λ c. i)
+  told-keeps reader p words k (cut line ∷ rest) i = λ z. absurd (omega arith)
+  told-keeps reader p words k (ended line ∷ rest) i =
       line-read reader p words k line rest (λ (r : Reading). I (r .progress))
       (λ c.
-      let j = kept p words (frameOf (reader .kinds) line) i c in
-      told-keeps reader (after p (frameOf (reader .kinds) line)) (wordsAfter p words (frameOf (reader .kinds) line)) (k + 1) rest (inr j) (λ n. j))
+      told-keeps reader (after p (frameOf (reader .kinds) line)) (wordsAfter p words (frameOf (reader .kinds) line)) (k + 1) rest
+      (kept p words (frameOf (reader .kinds) line) i c))
+
+-- and what the first one brings about too
+module _ (I : Progress → Type 0)
+    (kept : (p : Progress) (words : List ℕ) (frame : Frame) → (stageOf (p .stage) ≡ 0) ⊎ I p → causeIn p words frame ≡ 0 → I (after p frame)) where
+  told-brings : (reader : Reader) (words : List ℕ) (lines : List Line) → (lines ≡ [] → ⊥) → told reader nothingRead words 1 lines .number ≡ 0
+      → I (told reader nothingRead words 1 lines .progress)
+  unfolding told
+  told-brings reader words [] n = λ z. absurd (n refl)
+  told-brings reader words (cut line ∷ rest) n = λ z. absurd (omega arith)
+  told-brings reader words (ended line ∷ rest) n =
+      line-read reader nothingRead words 1 line rest (λ (r : Reading). I (r .progress))
+      (λ c.
+      told-keeps I (λ p w f i. kept p w f (inr i)) reader (after nothingRead (frameOf (reader .kinds) line))
+      (wordsAfter nothingRead words (frameOf (reader .kinds) line)) (1 + 1) rest (kept nothingRead words (frameOf (reader .kinds) line) (inl refl) c))
 
   pub reading-keeps : (reader : Reader) (text : List ℕ) → reading reader text .number ≡ 0 → I (reading reader text .progress)
   reading-keeps reader text =
       text-read reader text (λ (r : Reading). I (r .progress))
-      (λ one. told-keeps reader nothingRead noWords 1 (linesFrom [] text) (inl refl) (λ e. absurd (some-line [] text (omega arith) e)))
+      (λ one. told-brings reader noWords (linesFrom [] text) (some-line [] text (omega arith)))
 
 -- ---- what is known of each stage
 

@@ -22,9 +22,9 @@ use Rattle.frames.specs.declared.Reader.{Reader}
 use Rattle.frames.specs.Lines.{Line, ended, cut, linesFrom}
 use Rattle.frames.specs.Reading.{mostBytes, planKinds, runKinds, stageOf, isAt, nothingRead, noWords, causeIn, endsLinks, linksCause, endCause, after, wordsAfter, Reading, refusal, unless, told, reading, planReading, archiveReading, runReading}
 use Rattle.frames.specs.Archive.{Beside}
-use Rattle.frames.proofs.Unless.{unless-none, unless-some, unless-read}
+use Rattle.frames.proofs.Unless.{unless-none, unless-some}
 use Rattle.frames.proofs.EndLaws.{links-elsewhere, links-archived, links-heard, links-deaf, end-here, end-later, end-none}
-use Rattle.frames.proofs.Accepted.{head-accepted, link-accepted, fault-set-accepted, start-accepted, message-accepted, run-is}
+use Rattle.frames.proofs.Accepted.{head-accepted, link-accepted, fault-set-accepted, start-accepted, message-accepted, line-read, told-keeps, run-is}
 
 -- ---- what an accepted frame does to the stage
 
@@ -154,16 +154,9 @@ module _ (kinds : ℕ) where
 
   later-plan : (p : Progress) (words : List ℕ) (k : ℕ) (lines : List Line) → 2 ≤ stageOf (p .stage)
       → told kept p words k lines .number ≡ 0 → told kept p words k lines .progress .plan ≡ p .plan
-  unfolding told
-  later-plan p words k [] s = unless-read (linksCause kept p) 0 _ (λ (r : Reading). r .progress .plan ≡ p .plan) (λ c z. refl)
-  later-plan p words k (cut line ∷ rest) s = λ z. absurd (omega arith)
-  later-plan p words k (ended line ∷ rest) s =
-      unless-read (endCause kept p (frameOf kinds line)) 0 _ (λ (r : Reading). r .progress .plan ≡ p .plan)
-      (λ e.
-      unless-read (causeIn p words (frameOf kinds line)) k _ (λ (r : Reading). r .progress .plan ≡ p .plan)
-      (λ c z.
-      let l = later-frame p words (frameOf kinds line) s c in
-      later-plan (after p (frameOf kinds line)) (wordsAfter p words (frameOf kinds line)) (k + 1) rest (l .0) z ∙ l .1))
+  later-plan p words k lines s z =
+      told-keeps (λ (q : Progress). (2 ≤ stageOf (q .stage)) × (q .plan ≡ p .plan))
+      (λ q w f i c. let l = later-frame q w f (i .0) c in (l .0, l .1 ∙ i .1)) kept p words k lines (s, refl) z .1
 
   -- ---- before them
 
@@ -171,11 +164,8 @@ module _ (kinds : ℕ) where
   ended-deaf : (p : Progress) (words : List ℕ) (k : ℕ) (line : List ℕ) (rest : List Line) → stageOf (p .stage) ≤ 1
       → Ends p (frameOf kinds line) → (deafSet (p .plan) ≡ 0 → ⊥)
       → told kept p words k (ended line ∷ rest) .number ≡ 0 → deafSet (told kept p words k (ended line ∷ rest) .progress .plan) ≡ 0 → ⊥
-  unfolding told
   ended-deaf p words k line rest s e d =
-      unless-read (endCause kept p (frameOf kinds line)) 0 _ (λ (r : Reading). deafSet (r .progress .plan) ≡ 0 → ⊥)
-      (λ o.
-      unless-read (causeIn p words (frameOf kinds line)) k _ (λ (r : Reading). deafSet (r .progress .plan) ≡ 0 → ⊥)
+      line-read kept p words k line rest (λ (r : Reading). deafSet (r .progress .plan) ≡ 0 → ⊥)
       (λ c z y.
       ⊎-elim
       (λ l.
@@ -184,7 +174,7 @@ module _ (kinds : ℕ) where
       (ap deafSet
       (later-plan (after p (frameOf kinds line)) (wordsAfter p words (frameOf kinds line)) (k + 1) rest (l .1) z ∙ l .2))
       ∙ y))
-      (λ n. n .0 e) (early-frame p words (frameOf kinds line) s c)))
+      (λ n. n .0 e) (early-frame p words (frameOf kinds line) s c))
 
   at-links : (p : Progress) → stageOf (p .stage) ≤ 1 → (stageOf (p .stage) ≡ 0 → deafSet (p .plan) ≡ 0) → (deafSet (p .plan) ≡ 0 → ⊥) → isAt Links p ≡ true
   unfolding isAt

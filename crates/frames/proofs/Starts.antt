@@ -13,7 +13,7 @@ use Rattle.frames.specs.declared.Reader.{Reader}
 use Rattle.frames.specs.Lines.{Line, ended, cut, linesFrom}
 use Rattle.frames.specs.Reading.{runKinds, runReader, stageOf, roundsOf, nothingRead, noWords, causeIn, after, wordsAfter, Reading, told, reading, runReading}
 use Rattle.frames.specs.Tells.{Tells}
-use Rattle.frames.proofs.Accepted.{head-accepted, link-accepted, fault-set-accepted, start-accepted, line-read, end-read, text-read, run-is}
+use Rattle.frames.proofs.Accepted.{head-accepted, link-accepted, fault-set-accepted, start-accepted, line-read, told-keeps, text-read, run-is}
 
 -- ---- after the start
 
@@ -30,16 +30,8 @@ frame-stays p words (Message round from to value) s h = refl
 
 told-stays : (reader : Reader) (p : Progress) (words : List ℕ) (k : ℕ) (lines : List Line) → stageOf (p .stage) ≡ 3
     → told reader p words k lines .number ≡ 0 → told reader p words k lines .progress ≡ p
-unfolding told
-told-stays reader p words k [] s = end-read reader p words k (λ (r : Reading). r .progress ≡ p) (λ c. refl)
-told-stays reader p words k (cut line ∷ rest) s = λ z. absurd (omega arith)
-told-stays reader p words k (ended line ∷ rest) s =
-    line-read reader p words k line rest (λ (r : Reading). r .progress ≡ p)
-    (λ c z.
-    let same = frame-stays p words (frameOf (reader .kinds) line) s c in
-    told-stays reader (after p (frameOf (reader .kinds) line)) (wordsAfter p words (frameOf (reader .kinds) line)) (k + 1) rest (ap (λ (q : Progress). stageOf (q .stage)) same ∙ s)
-    z
-    ∙ same)
+told-stays reader p words k lines s =
+    told-keeps (λ (q : Progress). q ≡ p) (λ q w f e c. frame-stays q w f (ap (λ (x : Progress). stageOf (x .stage)) e ∙ s) c ∙ e) reader p words k lines refl
 
 -- ---- the start itself
 

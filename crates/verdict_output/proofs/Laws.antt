@@ -1,4 +1,4 @@
--- A list of 23 bytes has room for every verdict. Assumes nothing.
+-- A list of 23 bytes has room for every verdict, whoever has read the plan. Assumes nothing.
 use Prim.Native.Nat.{ℕ, _≤_}
 use mathlib.Core.Path.{_≡_}
 use mathlib.Core.List.{List}
@@ -8,10 +8,9 @@ use lib.ListN.{length}
 use Rattle.sets.proofs.Bools.{pick-case}
 use Rattle.closure.specs.Answer.{Answer, answerOf}
 use Rattle.frames.specs.declared.FileRead.{FileRead}
-use Rattle.frames.specs.Reading.{planReading, archiveReading, fileRead}
 use Rattle.output.specs.OnFile.{refusalLine, answerOn}
 use Rattle.output.proofs.Laws.{refusal-length, on-length, whole-text}
-use Rattle.verdict_output.specs.Verdict.{verdictLine, answerText, verdictOn, verdictText, archiveText}
+use Rattle.verdict_output.specs.Verdict.{verdictLine, answerText, verdictOn}
 use Rattle.verdict_output.proofs.LineLaws.{verdict-length}
 
 answer-length : (a : Answer) → length (answerText a) ≤ 23
@@ -24,16 +23,6 @@ verdict-short : (read : FileRead) → length (verdictOn read) ≤ 23
 unfolding verdictOn
 verdict-short read = on-length read _ 23 (omega arith) (λ z. answer-length (answerOf (read .progress .plan)))
 
-pub verdict-fits : (file : List ℕ) (room : ℕ) → 23 ≤ room
-    → answerOn (fileRead (planReading file)) (verdictText file) room
-    ≡ record { number = planReading file .number; line = planReading file .line; len = length (verdictText file) }
-unfolding verdictText
-verdict-fits file room h =
-    whole-text (fileRead (planReading file)) (verdictText file) room (omega (arith, verdict-short (fileRead (planReading file))))
-
-pub archive-fits : (file : List ℕ) (room : ℕ) → 23 ≤ room
-    → answerOn (fileRead (archiveReading file)) (archiveText file) room
-    ≡ record { number = archiveReading file .number; line = archiveReading file .line; len = length (archiveText file) }
-unfolding archiveText
-archive-fits file room h =
-    whole-text (fileRead (archiveReading file)) (archiveText file) room (omega (arith, verdict-short (fileRead (archiveReading file))))
+pub verdict-fits : (read : FileRead) (room : ℕ) → 23 ≤ room
+    → answerOn read (verdictOn read) room ≡ record { number = read .number; line = read .line; len = length (verdictOn read) }
+verdict-fits read room h = whole-text read (verdictOn read) room (omega (arith, verdict-short read))

@@ -216,10 +216,11 @@ text-length p =
     let l : length (linkLines p 400 0) ≤ 2800 = links-length p 400 0 in
     (omega arith, omega arith)
 
--- by the archive
+-- what is read of a text that has this plan alone
 abbrev pub asRead : Plan → Reading
 asRead p = record { number = 0; line = 0; progress = record { stage = Links; plan = p; faulty = 0; value = 0; rounds = 0 }; words = noWords }
 
+-- by the archive
 module _ (p : Plan) (e : causeOf p ≡ 0) (t : length (p .rows) ≡ 20) where
   pub read-back : archiveReading (planText p) ≡ asRead p
   unfolding archiveReading reading

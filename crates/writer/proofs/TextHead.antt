@@ -11,7 +11,7 @@ use Rattle.frames.specs.declared.Progress.{Progress}
 use Rattle.frames.specs.declared.Reader.{Reader}
 use Rattle.frames.specs.Lines.{Line, ended, cut, linesFrom}
 use Rattle.frames.specs.Reading.{stageOf, nothingRead, noWords, causeIn, linked, after, wordsAfter, Reading, told, reading}
-use Rattle.frames.proofs.Accepted.{head-accepted, link-accepted, fault-set-accepted, start-accepted, message-accepted, frame-stage, some-line, line-read, end-read, text-read}
+use Rattle.frames.proofs.Accepted.{head-accepted, link-accepted, fault-set-accepted, start-accepted, message-accepted, frame-stage, some-line, line-read, told-keeps, text-read}
 use Rattle.writer.specs.RoundTrip.{Begins}
 
 abbrev headOf : Plan → Frame
@@ -43,14 +43,9 @@ head-kept p words (Message round from to value) s h = refl
 
 told-head : (reader : Reader) (p : Progress) (words : List ℕ) (k : ℕ) (lines : List Line) → (stageOf (p .stage) ≡ 0 → ⊥)
     → told reader p words k lines .number ≡ 0 → headOf (told reader p words k lines .progress .plan) ≡ headOf (p .plan)
-unfolding told
-told-head reader p words k [] s = end-read reader p words k (λ (r : Reading). headOf (r .progress .plan) ≡ headOf (p .plan)) (λ c. refl)
-told-head reader p words k (cut line ∷ rest) s = λ z. absurd (omega arith)
-told-head reader p words k (ended line ∷ rest) s =
-    line-read reader p words k line rest (λ (r : Reading). headOf (r .progress .plan) ≡ headOf (p .plan))
-    (λ c z.
-    told-head reader (after p (frameOf (reader .kinds) line)) (wordsAfter p words (frameOf (reader .kinds) line)) (k + 1) rest (frame-stage p words (frameOf (reader .kinds) line) c) z
-    ∙ head-kept p words (frameOf (reader .kinds) line) s c)
+told-head reader p words k lines s z =
+    told-keeps (λ (q : Progress). (stageOf (q .stage) ≡ 0 → ⊥) × (headOf (q .plan) ≡ headOf (p .plan)))
+    (λ q w f i c. (frame-stage q w f c, head-kept q w f (i .0) c ∙ i .1)) reader p words k lines (s, refl) z .1
 
 told-begins : (reader : Reader) (words : List ℕ) (lines : List Line) → (lines ≡ [] → ⊥)
     → told reader nothingRead words 1 lines .number ≡ 0 → Begins (reader .kinds) (told reader nothingRead words 1 lines .progress .plan) lines
