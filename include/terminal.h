@@ -3,14 +3,14 @@
  * The functions are in libfirmware.a ('rt staticlib firmware'), for x86-64 with the System V calling
  * convention. They are proved: for any bytes that are handed in they end, touch no memory but their
  * arguments, and answer as the words below say. They use no heap and no function from outside. Records and
- * answers go by value, so a step has several of them on the stack: just under 11 KiB in all, measured. The
+ * answers go by value, so a step has several of them on the stack: just under 15 KiB in all, measured. The
  * caller's compiler may copy them by a call of memcpy, as clang does: a board without a C library then has to
  * supply that, for its own code and not for the archive.
  *
  * A round of a board, of which there are HULMAYEK_ROUNDS at most:
  *   1. transmit hulmayek_says(record) to all neighbours; 0 is silence, nothing is sent
  *   2. collect what each neighbour transmitted in this round: said[j] from terminal j, 0 for nothing
- *   3. record = hulmayek_step(.., record, said, n).after
+ *   3. record = hulmayek_step(.., record, said, n).after, or hulmayek_group_step(..) where the plan has groups
  * So a terminal speaks once, in the round after the one that it took in, and the source in round 1.
  * examples/board.c plays this.
  *
@@ -35,11 +35,12 @@ extern "C" {
 
 /* The layout of the types below and the meaning of the functions. An archive of another layout returns
  * another number from hulmayek_layout(): compare once, at the start. */
-#define HULMAYEK_LAYOUT 2
+#define HULMAYEK_LAYOUT 3
 
-/* The most terminals of a site, and the most rounds that a record plays. */
+/* The most terminals of a site, the most rounds that a record plays, and the most groups of a plan. */
 #define HULMAYEK_TERMINALS 20
 #define HULMAYEK_ROUNDS 40
+#define HULMAYEK_GROUPS 16
 
 /* `taken` of a record. */
 #define HULMAYEK_WAITING 0
@@ -51,6 +52,7 @@ extern "C" {
 #define HULMAYEK_WRONG_LINK 5
 #define HULMAYEK_WRONG_LENGTH 12
 #define HULMAYEK_WRONG_RECORD 13
+#define HULMAYEK_WRONG_GROUPS 17
 
 /* A note: what a terminal has noted of one other.
  *   count   how many values it has noted, at most one a round
@@ -81,6 +83,8 @@ typedef struct {
  *           first that applies in this order:
  *            HULMAYEK_WRONG_RANGE   n is not 2 to 20, or source or f is not below n
  *            HULMAYEK_WRONG_LINK    `heard` has a bit at or above n, or the terminal's own
+ *            HULMAYEK_WRONG_GROUPS  only hulmayek_group_step: count is not 1 to 16, a group has a bit at or
+ *                                   above n or the source's, or a place from count on is not 0
  *            HULMAYEK_WRONG_RECORD  the record cannot be stepped: 40 rounds played, own not below n, the
  *                                   source waiting, taken later than its round, taken with value 0, more
  *                                   values of a terminal that it hears than rounds played
@@ -88,7 +92,7 @@ typedef struct {
  *            HULMAYEK_WRONG_LENGTH  the list is not n words long
  *
  * HULMAYEK_WRONG_RECORD with before.round == HULMAYEK_ROUNDS is the end of the play: a record that was only
- * ever stepped by hulmayek_step reaches that round and no later one, and keeps its layout. With any other
+ * ever stepped by the functions below reaches that round and no later one, and keeps its layout. With any other
  * round the record is broken, or own is not below n.
  *
  * A value that stands twice in a note, or 0 among a note's values, is not refused: the terminal counts once for
@@ -98,6 +102,16 @@ typedef struct {
     uint8_t number;
     hulmayek_record after;
 } hulmayek_answer;
+
+/* The groups of a plan that lists groups in the place of f: 72 bytes. A group is a set of boards that can fail
+ * together, as those that share a supply; whoever is bad on the site is in one and the same group. A board may
+ * be in several groups or in none, and a group may be empty.
+ *   count   how many groups there are, 1 to HULMAYEK_GROUPS
+ *   groups  bit j of groups[i] says that terminal j is in group i; groups[count] and those after it are 0 */
+typedef struct {
+    size_t count;
+    uint32_t groups[HULMAYEK_GROUPS];
+} hulmayek_groups;
 
 /* The record of a terminal that is switched on: waiting, round 0, nothing heard. */
 hulmayek_record hulmayek_start(void);
@@ -121,6 +135,12 @@ hulmayek_record hulmayek_source_start(uint16_t value);
  * One that has taken a layout keeps it, and only its round changes. */
 hulmayek_answer hulmayek_step(size_t n, size_t source, size_t f, size_t own, uint32_t heard,
                               hulmayek_record before, const uint16_t *said, size_t said_len);
+
+/* The same on a site whose plan lists groups. What differs is 2.: the terminal takes the smallest value that
+ * stands in the notes of terminals that it hears who are not all in one group: for each group one of them is
+ * outside it. So two boards that share a supply are never enough, and one board that is in no group is. */
+hulmayek_answer hulmayek_group_step(size_t n, size_t source, hulmayek_groups groups, size_t own, uint32_t heard,
+                                    hulmayek_record before, const uint16_t *said, size_t said_len);
 
 /* What the terminal transmits to all its neighbours in the round after record.round: its value if it took in
  * that round (record.at == record.round), else 0, which is silence. It is asked of the record before the step of
@@ -150,6 +170,9 @@ HULMAYEK_SAME("notes", offsetof(hulmayek_record, notes) == 6);
 HULMAYEK_SAME("answer", sizeof(hulmayek_answer) == 1648);
 HULMAYEK_SAME("number", offsetof(hulmayek_answer, number) == 0);
 HULMAYEK_SAME("after", offsetof(hulmayek_answer, after) == 2);
+HULMAYEK_SAME("groups", sizeof(hulmayek_groups) == 72);
+HULMAYEK_SAME("how many groups", offsetof(hulmayek_groups, count) == 0);
+HULMAYEK_SAME("group by group", offsetof(hulmayek_groups, groups) == 8);
 HULMAYEK_SAME("size_t", sizeof(size_t) == 8);
 
 #endif

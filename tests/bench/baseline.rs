@@ -1,7 +1,9 @@
 // The search of crates/partition/src (search.rt, bound.rt, branch.rt) in plain Rust: the same
 // functions, the same tests in the same order. tests/bench/run compiles it by `rustc -O` and
 // compares instruction counts. It reads an accepted plan file on standard input and refuses nothing.
-// hunt.rs looks for plans that are bad for it.
+// groups.rs has the search for groups; hunt.rs looks for plans with a bound that are bad for it.
+mod groups;
+
 use std::io::{Read, Write};
 use std::sync::atomic::{AtomicU64, Ordering::Relaxed};
 
@@ -13,6 +15,8 @@ pub struct Plan {
     pub n: usize,
     pub source: usize,
     pub f: usize,
+    pub listed: usize,
+    pub groups: [u32; 16],
     pub rows: [u32; 20],
 }
 
@@ -31,10 +35,17 @@ pub fn over(rows: &[u32; 20], f: u32, a: u32) -> u32 {
     found
 }
 
+fn hearing(p: &Plan, a: u32) -> u32 {
+    if p.f == 255 {
+        return groups::fitting_none(&p.rows, &p.groups, a);
+    }
+    over(&p.rows, p.f as u32, a)
+}
+
 fn spread(p: &Plan, s: u32, wall: u32) -> u32 {
     let mut l = s;
     loop {
-        let next = l | (over(&p.rows, p.f as u32, l) & !wall);
+        let next = l | (hearing(p, l) & !wall);
         if next == l {
             return l;
         }
@@ -155,7 +166,11 @@ fn inside(p: &Plan, hearers: u32, inn: u32, out: u32, known: u32, best: u32) -> 
 
 pub fn search(p: &Plan, hearers: u32) -> Best {
     let source = 1 << p.source;
-    let best = inside(p, hearers, 0, source, source | hearers, 21 << 20);
+    let best = if p.f == 255 {
+        groups::least(p, hearers)
+    } else {
+        inside(p, hearers, 0, source, source | hearers, 21 << 20)
+    };
     Best {
         members: (best >> 20) as usize,
         set: best & 0xfffff,
@@ -176,6 +191,8 @@ pub fn read(text: &[u8]) -> Plan {
         n: 0,
         source: 0,
         f: 0,
+        listed: 0,
+        groups: [0; 16],
         rows: [0; 20],
     };
     let mut line = [0u8; 4];
@@ -190,6 +207,9 @@ pub fn read(text: &[u8]) -> Plan {
         let [kind, x, y, z] = line;
         if kind == 1 {
             (p.n, p.source, p.f) = (x as usize, y as usize, z as usize);
+        } else if kind == 7 {
+            p.groups[p.listed] = u32::from_be_bytes([0, x, y, z]);
+            p.listed += 1;
         } else {
             p.rows[y as usize] |= 1 << x;
         }

@@ -1,8 +1,11 @@
-/* Recorded calls, one a line of small digits, each answered by a line: n, source, f, own (two bytes each),
- * heard (4), the record, then what was said, two bytes each. A record is taken, at, value (2), round, and 20
- * rows: the count, how many places follow, and these, two bytes each; all other places hold 0. An answer is the
- * number and the record, in each row the places up to the last that is not 0. With the argument 'stack' it
- * prints instead how many bytes of stack a step takes that looks at as many values as a record can hold. */
+/* Recorded calls, one a line of small digits, each answered by a line: n and source (two bytes each), the bound,
+ * own (2), heard (4), the record, then what was said, two bytes each. A bound is a byte, 0 for f and 1 for groups,
+ * then f or how many groups there are (2), how many places follow (one byte) and these, four bytes each; all other
+ * places hold 0. With f there is none, since hulmayek_step is told none. A record is taken, at, value (2), round,
+ * and 20 rows: the count, how many places follow, and these, two bytes each; all other places hold 0. An answer is
+ * the number and the record, in each row the places up to the last that is not 0. With the argument 'stack' it
+ * prints instead how many bytes of stack a step takes that looks at as many values as a record can hold, the more
+ * of the two functions. */
 #define _GNU_SOURCE
 #include "terminal.h"
 
@@ -11,28 +14,32 @@
 #include <ucontext.h>
 
 enum {
-    HEAD = 12,
+    HEAD = 14 + 4 * HULMAYEK_GROUPS,
     ROW = 2 + 2 * HULMAYEK_ROUNDS,
     RECORD = 5 + HULMAYEK_TERMINALS * ROW,
-    SHORTEST = HEAD + 5 + 2 * HULMAYEK_TERMINALS,
     MOST = 64,
     PAINT = 0xa5
 };
 
+/* The bytes of a line, how many there are, and how many were read. */
 static unsigned char body[HEAD + RECORD + 2 * MOST];
+static size_t length, at;
 
-static unsigned pair(size_t i) {
-    return body[i] * 256u + body[i + 1];
+/* The next bytes as a number; 0 past the end, which shows in `at`. */
+static uint32_t take(size_t bytes) {
+    uint32_t number = 0;
+    for (size_t i = 0; i < bytes; i++, at++) number = number << 8 | (at < length ? body[at] : 0u);
+    return number;
 }
 
-/* The bytes of a line, or -1 at the end of the input. */
+/* Whether there is another line. */
 static int read_line(void) {
     static char line[2 * sizeof body + 2];
-    int n = 0;
     unsigned byte;
-    if (!fgets(line, sizeof line, stdin)) return -1;
-    while (n < (int)sizeof body && sscanf(line + 2 * n, "%2x", &byte) == 1) body[n++] = (unsigned char)byte;
-    return n;
+    length = at = 0;
+    if (!fgets(line, sizeof line, stdin)) return 0;
+    while (length < sizeof body && sscanf(line + 2 * length, "%2x", &byte) == 1) body[length++] = (unsigned char)byte;
+    return 1;
 }
 
 static void print_row(const hulmayek_note *row) {
@@ -52,33 +59,58 @@ static void print(const hulmayek_answer *a) {
 /* Records, damaged ones too, that say another word than document 01 has them say. */
 static unsigned wrong_words = 0;
 
-/* The record of a call, and the place after it; 0 where a row is none. */
-static size_t read_record(hulmayek_record *r) {
-    size_t at = HEAD + 5;
-    *r = (hulmayek_record){.taken = body[12], .at = body[13], .value = (uint16_t)pair(14), .round = body[16]};
-    for (size_t j = 0; j < HULMAYEK_TERMINALS; j++) {
-        hulmayek_note *row = &r->notes[j];
-        size_t places = body[at + 1];
-        if (places > HULMAYEK_ROUNDS) return 0;
-        row->count = body[at];
-        for (size_t i = 0; i < places; i++) row->values[i] = (uint16_t)pair(at + 2 + 2 * i);
-        at += 2 + 2 * places;
-    }
-    return at;
+/* What a call has before its record. */
+typedef struct {
+    size_t n, source, kind, own;
+    hulmayek_groups bound;
+    uint32_t heard;
+} place;
+
+/* Whether a place is read: f has no groups, and there are sixteen at most. */
+static int read_place(place *p) {
+    *p = (place){.n = take(2)};
+    p->source = take(2);
+    p->kind = take(1);
+    p->bound.count = take(2);
+    size_t places = take(1);
+    if (p->kind > 1 || places > (p->kind == 0 ? 0 : HULMAYEK_GROUPS)) return 0;
+    for (size_t i = 0; i < places; i++) p->bound.groups[i] = take(4);
+    p->own = take(2);
+    p->heard = take(4);
+    return 1;
 }
 
-/* Whether a line of n bytes is a call; it is then played and answered. */
-static int call(size_t n) {
+/* Whether a record is read: no row has more than forty places. */
+static int read_record(hulmayek_record *r) {
+    *r = (hulmayek_record){.taken = (uint8_t)take(1)};
+    r->at = (uint8_t)take(1);
+    r->value = (uint16_t)take(2);
+    r->round = (uint8_t)take(1);
+    for (size_t j = 0; j < HULMAYEK_TERMINALS; j++) {
+        r->notes[j].count = (uint8_t)take(1);
+        size_t places = take(1);
+        if (places > HULMAYEK_ROUNDS) return 0;
+        for (size_t i = 0; i < places; i++) r->notes[j].values[i] = (uint16_t)take(2);
+    }
+    return 1;
+}
+
+static hulmayek_answer step(place p, hulmayek_record r, const uint16_t *said, size_t count) {
+    if (p.kind == 0) return hulmayek_step(p.n, p.source, p.bound.count, p.own, p.heard, r, said, count);
+    return hulmayek_group_step(p.n, p.source, p.bound, p.own, p.heard, r, said, count);
+}
+
+/* Whether a line is a call; it is then played and answered. */
+static int call(void) {
+    place p;
     hulmayek_record r;
     uint16_t said[MOST];
-    size_t from = read_record(&r);
-    if (from == 0 || from > n) return 0;
-    size_t count = (n - from) / 2;
-    uint32_t heard = ((uint32_t)pair(8) << 16) | pair(10);
+    if (!read_place(&p) || !read_record(&r) || at > length) return 0;
+    size_t count = (length - at) / 2;
     if (count > MOST) return 0;
-    for (size_t j = 0; j < count; j++) said[j] = (uint16_t)pair(from + 2 * j);
+    for (size_t j = 0; j < count; j++) said[j] = (uint16_t)take(2);
     if (hulmayek_says(r) != (r.taken == 1 && r.at == r.round ? r.value : 0)) wrong_words++;
-    hulmayek_answer a = hulmayek_step(pair(0), pair(2), pair(4), pair(6), heard, r, said, count);
+    hulmayek_answer a = step(p, r, said, count);
     print(&a);
     return 1;
 }
@@ -96,6 +128,11 @@ static void one_step(void) {
     full = a.after;
 }
 
+static void one_group_step(void) {
+    hulmayek_answer a = hulmayek_group_step(20, 0, (hulmayek_groups){2, {0x3e, 0x7c0}}, 19, 0x7fffe, full, words, 20);
+    full = a.after;
+}
+
 /* A record before its last round, with as many values as it can have, no two of them the same, and a new word
  * of each neighbour. */
 static void fill(void) {
@@ -109,9 +146,10 @@ static void fill(void) {
     }
 }
 
-/* How deep a function goes on a stack of its own, painted before. */
+/* How deep a function goes on a stack of its own, painted before; it steps a full record. */
 static size_t depth(void (*run)(void)) {
     size_t left = 0;
+    fill();
     memset(stack, PAINT, sizeof stack);
     getcontext(&there);
     there.uc_stack.ss_sp = stack;
@@ -123,14 +161,22 @@ static size_t depth(void (*run)(void)) {
     return sizeof stack - left;
 }
 
+/* The same, 0 where the round was not played. */
+static size_t stepped(void (*run)(void)) {
+    size_t deep = depth(run);
+    return full.round == HULMAYEK_ROUNDS && full.notes[18].count == HULMAYEK_ROUNDS ? deep : 0;
+}
+
 int main(int count, char **arguments) {
     if (count == 2 && strcmp(arguments[1], "stack") == 0) {
-        fill();
-        printf("%zu\n", depth(one_step) - depth(nothing));
-        return full.round != HULMAYEK_ROUNDS || full.notes[18].count != HULMAYEK_ROUNDS;
+        size_t none = depth(nothing);
+        size_t most = stepped(one_step);
+        size_t by_groups = stepped(one_group_step);
+        printf("%zu\n", (most > by_groups ? most : by_groups) - none);
+        return most == 0 || by_groups == 0;
     }
-    for (int n = read_line(); n >= 0; n = read_line()) {
-        if (n < SHORTEST || !call((size_t)n)) {
+    while (read_line()) {
+        if (!call()) {
             fputs("calls: a line that is no call\n", stderr);
             return 2;
         }

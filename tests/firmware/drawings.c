@@ -1,18 +1,6 @@
 /* Drawings C and E of document 01, played terminal by terminal, the rule of document 02 on every value that a
  * neighbour has said, and calls that are refused. */
-#include "terminal.h"
-
-#include <stdio.h>
-#include <string.h>
-
-static int failures = 0;
-
-static void expect(int right, const char *what) {
-    if (!right) {
-        printf("not so: %s\n", what);
-        failures++;
-    }
-}
+#include "checks.h"
 
 /* A site: heard[b] is the set that b hears; the terminals of the set `silent` say nothing. */
 typedef struct {
@@ -102,16 +90,6 @@ static void every_value(void) {
     r = hulmayek_start();
     for (uint16_t round = 1; round <= HULMAYEK_ROUNDS; round++) r = third(r, 100 + round, 7);
     expect(r.taken == 0 && r.notes[1].count == 40 && r.notes[1].values[39] == 140, "forty values of a neighbour");
-}
-
-/* The same record, all but the padding. */
-static int same(const hulmayek_record *a, const hulmayek_record *b) {
-    if (a->taken != b->taken || a->at != b->at || a->value != b->value || a->round != b->round) return 0;
-    for (size_t j = 0; j < HULMAYEK_TERMINALS; j++) {
-        if (a->notes[j].count != b->notes[j].count) return 0;
-        if (memcmp(a->notes[j].values, b->notes[j].values, sizeof a->notes[j].values) != 0) return 0;
-    }
-    return 1;
 }
 
 /* The number, and the record as it went in. */

@@ -24,8 +24,16 @@ struct Answer {
     after: Record,
 }
 
+/// The groups of a plan that has groups in the place of f: the first `count`; the others are 0.
+#[repr(C)]
+#[derive(Clone, Copy, Debug, PartialEq, Eq)]
+pub struct Groups {
+    pub count: usize,
+    pub groups: [u32; 16],
+}
+
 // What the archive was built for.
-const _: () = assert!(size_of::<Note>() == 82);
+const _: () = assert!(size_of::<Note>() == 82 && size_of::<Groups>() == 72);
 const _: () = assert!(size_of::<Record>() == 1646 && size_of::<Answer>() == 1648);
 
 extern "C" {
@@ -41,19 +49,36 @@ extern "C" {
         said: *const u16,
         said_len: usize,
     ) -> Answer;
+    fn hulmayek_group_step(
+        n: usize,
+        source: usize,
+        groups: Groups,
+        own: usize,
+        heard: u32,
+        before: Record,
+        said: *const u16,
+        said_len: usize,
+    ) -> Answer;
     fn hulmayek_says(record: Record) -> u16;
     fn hulmayek_layout() -> u32;
 }
 
 /// What this wrapper was written for; another archive is not to be used with it.
-pub const LAYOUT: u32 = 2;
+pub const LAYOUT: u32 = 3;
+
+/// Who may be bad together: at most so many of those that a terminal hears, or some of one group.
+#[derive(Clone, Copy)]
+pub enum Bound {
+    Most(usize),
+    Groups(Groups),
+}
 
 /// Where a terminal stands on its site.
 #[derive(Clone, Copy)]
 pub struct Place {
     pub n: usize,
     pub source: usize,
-    pub f: usize,
+    pub bound: Bound,
     pub own: usize,
     /// Bit j: it hears terminal j.
     pub heard: u32,
@@ -85,13 +110,20 @@ pub fn step(place: Place, before: Record, said: &[u16]) -> Result<Record, u8> {
     let Place {
         n,
         source,
-        f,
+        bound,
         own,
         heard,
     } = place;
+    let (words, len) = (said.as_ptr(), said.len());
     // SAFETY: a slice's pointer and length are true, and nobody writes while it is lent.
-    let answer =
-        unsafe { hulmayek_step(n, source, f, own, heard, before, said.as_ptr(), said.len()) };
+    let answer = unsafe {
+        match bound {
+            Bound::Most(f) => hulmayek_step(n, source, f, own, heard, before, words, len),
+            Bound::Groups(groups) => {
+                hulmayek_group_step(n, source, groups, own, heard, before, words, len)
+            }
+        }
+    };
     match answer.number {
         0 => Ok(answer.after),
         number => Err(number),
@@ -104,7 +136,7 @@ fn main() {
     let second = Place {
         n: 3,
         source: 0,
-        f: 0,
+        bound: Bound::Most(0),
         own: 1,
         heard: 1,
     };
@@ -131,7 +163,8 @@ fn main() {
     );
     assert_eq!(step(second, one, &[0; 2]), Err(12));
     every_value_counts();
-    println!("drawing C and a spoiled first word in drawing E from Rust: as the documents have it");
+    shared_supply();
+    println!("drawing C, a spoiled first word in drawing E and groups in F from Rust: as the documents have it");
 }
 
 /// Terminal 3 of drawing E hears a spoiled word of 1 first, and the good one a round later.
@@ -139,7 +172,7 @@ fn every_value_counts() {
     let fourth = Place {
         n: 4,
         source: 0,
-        f: 1,
+        bound: Bound::Most(1),
         own: 3,
         heard: 6,
     };
@@ -151,4 +184,31 @@ fn every_value_counts() {
     let mut broken = spoiled;
     broken.notes[2].count = 2;
     assert_eq!(step(fourth, broken, &[0; 4]), Err(13));
+}
+
+/// Terminal 4 of drawing F hears 1 and 2, which share a supply, and 3.
+fn shared_supply() {
+    let mut groups = Groups {
+        count: 2,
+        groups: [0; 16],
+    };
+    groups.groups[0] = 6;
+    groups.groups[1] = 8;
+    let fifth = Place {
+        n: 5,
+        source: 0,
+        bound: Bound::Groups(groups),
+        own: 4,
+        heard: 14,
+    };
+    let after = step(fifth, start(), &[0, 7, 7, 0, 0]).expect("round 1 of terminal 4");
+    assert_eq!((after.taken, after.notes[1].count), (0, 1));
+    let after = step(fifth, after, &[0, 0, 0, 7, 0]).expect("round 2 of terminal 4");
+    assert_eq!((after.taken, after.at, after.value), (1, 2, 7));
+    groups.groups[2] = 8;
+    let past = Place {
+        bound: Bound::Groups(groups),
+        ..fifth
+    };
+    assert_eq!(step(past, after, &[0; 5]), Err(17));
 }

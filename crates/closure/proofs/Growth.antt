@@ -8,7 +8,7 @@ use lib.Dec.{eqb}
 use borrow.Author.Tests.{eqb-true, eq-eqb}
 use Rattle.sets.specs.Tests.{_or_}
 use Rattle.sets.specs.Sets.{mem, count}
-use Rattle.sets.proofs.Bools.{clash, and-l, and-r, and-i, or-l, or-r, or-e, not-i, not-e}
+use Rattle.sets.proofs.Bools.{clash, and-l, and-r, and-i, or-l, or-r, or-e, not-i, not-e, no-by}
 use Rattle.sets.proofs.Laws.{mask-lt, mem-mask, mem-below, mem-zero, count-le, count-more, subset-fewer}
 use Rattle.plan.specs.declared.Plan.{Plan}
 use Rattle.plan.specs.Plan.{hears}
@@ -150,3 +150,14 @@ module _ (p : Plan) (faulty : ℕ) where
   -- n - 1 turns reach all that any number of turns reaches
   pub reached-all : p .source < p .n → (k b : ℕ) → mem b (reachedAfter p faulty k) ≡ true → mem b (reached p faulty) ≡ true
   reached-all l k b h = after-least (reached p faulty) (reached-source l) (reached-closed l) k b h
+
+-- the more are faulty, the fewer does a notice reach
+pub reached-shrinks : (p : Plan) → p .source < p .n → (a b : ℕ) → ((i : ℕ) → mem i a ≡ true → mem i b ≡ true)
+    → (c : ℕ) → mem c (reached p b) ≡ true → mem c (reached p a) ≡ true
+reached-shrinks p k a b sub = reached-least p b (reached p a) (reached-source p a k) joined
+  where
+    joined : (d : ℕ) → d < p .n → joins p b (reached p a) d ≡ true → mem d (reached p a) ≡ true
+    joined d l j =
+        let good : mem d a ≡ false = no-by (λ m. clash (sub d m) (joins-good p b (reached p a) d j)) in
+        reached-closed p a k d l
+        (⊎-elim (joins-source p a (reached p a) d good) (joins-enough p a (reached p a) d good) (joins-why p b (reached p a) d j))

@@ -8,7 +8,7 @@ use Rattle.plan.specs.declared.Plan.{Plan}
 use Rattle.plan.specs.Plan.{hears}
 use Rattle.closure.specs.FaultSet.{hearsEnough}
 
--- a terminal outside the fault set joins if it hears the source, or hears at least f + 1 members of the reached set
+-- a terminal outside the fault set joins if it hears the source, or hears enough members of the reached set: at least f + 1, or some who fit in no group
 unfoldable pub joins : Plan → (faulty reached : Set) (b : Terminal) → Bool
 joins p faulty reached b = not (mem b faulty) and (hears p b (p .source) or hearsEnough p b reached)
 

@@ -56,7 +56,7 @@ pub record Fails (p : Plan) (v : Verdict) : Type 0 where
   pub least : (s : ℕ) → defeats p s ≡ true → Ahead p (v .f) s
 
 -- the witness check: F, L, R are a partition of the terminals, the source is in L, R is non-empty, F is a fault set, no member of R hears the source,
--- and none hears f + 1 members of L
+-- and none hears enough members of L
 unfoldable pub isPartition : (n : ℕ) (f l r : Set) → Bool
 isPartition n f l r =
     within n f and within n l and within n r and all n (λ b. eqb (bit (mem b f) + bit (mem b l) + bit (mem b r)) 1)

@@ -1,109 +1,36 @@
 -- What an accepted file tells: its plan is sound, its bad set is one of the plan, its value and rounds are in range. Assumes nothing.
-use Prim.Native.Nat.{ℕ, _+_, _^_, _≤_, _<_}
+use Prim.Native.Nat.{ℕ, _+_, _≤_, _<_}
 use mathlib.Core.Path.{_≡_, refl, sym, ap, _∙_}
 use mathlib.Core.Logic.{_⊎_, inl, inr, ⊎-elim}
 use mathlib.Core.Bool.{Bool, true, false, not}
 use mathlib.Core.List.{List, [], _∷_, _++_}
-use native.Mathlib.Nat.{lt-of-lt-of-le}
 use native.Mathlib.Omega.{arith}
-use lib.Dec.{eqb, leb, ltb}
-use lib.ListN.{length, getD, set, replicate, length-append, length-set, length-replicate, getD-replicate}
-use lib.Pow.{pow-mono, pow-pos}
-use lib.Seq.{getD-set-same, getD-set-other}
-use borrow.Author.Tests.{eq-eqb, ne-eqb, eqb-true, eqb-false, lt-ltb, leb-true, leb-false}
+use lib.Dec.{eqb, leb}
+use lib.ListN.{length, length-append}
+use borrow.Author.Tests.{eq-eqb, ne-eqb, eqb-true, eqb-false, ltb-true, leb-true, leb-false}
 use Rattle.sets.specs.Tests.{_and_, _or_}
 use Rattle.sets.specs.Causes.{_gives_, firstCause}
-use Rattle.sets.specs.Sets.{mem, mask, with, within}
-use Rattle.sets.proofs.Bools.{clash, and-l, and-i, and-yes, or-no, not-i, not-no, pick-yes, pick-case}
+use Rattle.sets.proofs.Bools.{clash, decide, and-l, and-r, and-yes, or-l, or-r, or-e, not-i, not-no, pick-case}
 use Rattle.sets.proofs.Causes.{cause-here, cause-none}
-use Rattle.sets.proofs.Operations.{mem-with}
-use Rattle.sets.proofs.Laws.{equal-or-not, below-or-not, mem-zero, mem-above, set-ext, mask-lt, mem-mask, mem-mask-above, all-at, all-i}
-use Rattle.quorum.specs.Quorum.{inRange, hearsSoundly}
+use Rattle.sets.proofs.Laws.{equal-or-not, below-or-not}
+use Rattle.quorum.specs.Quorum.{mostGroups, listed, inRange, others}
 use Rattle.quorum.specs.Words.{startSound}
-use Rattle.plan.specs.declared.Plan.{Plan}
-use Rattle.plan.specs.Plan.{heardBy, hears, rowSound, linksSound, causeOf}
-use Rattle.plan.proofs.Laws.{Sound, sound, tests, tested}
+use Rattle.plan.specs.Plan.{hears, causeOf}
 use Rattle.faults.specs.Check.{faultCauseOf}
+use Rattle.faults.proofs.Laws.{fault-sound}
 use Rattle.lines.specs.declared.Rounds.{Rounds}
 use Rattle.lines.specs.declared.Frame.{Frame}
-use Rattle.lines.specs.declared.Frame.the-variants.{Foreign, Unknown, Head, Link, FaultSet, Start, Message}
+use Rattle.lines.specs.declared.Frame.the-variants.{Foreign, Unknown, Head, Link, Group, FaultSet, Start, Message}
 use Rattle.lines.specs.Frames.{frameOf}
 use Rattle.frames.specs.declared.Stage.{Stage}
 use Rattle.frames.specs.declared.Stage.the-variants.{Nothing, Links, Faults, Words}
 use Rattle.frames.specs.declared.Progress.{Progress}
 use Rattle.frames.specs.declared.Reader.{Reader}
 use Rattle.frames.specs.Lines.{Line, ended, cut, lastLine, linesFrom}
-use Rattle.frames.specs.Reading.{mostBytes, planReader, runReader, archiveReader, stageOf, isAt, roundsOf, nothingRead, noWords, headCause, linkCause, faultSetCause, startCause, messageCause, causeIn, linksCause, endCause, linked, after, wordsAfter, Reading, refusal, told, reading, whole, planReading, archiveReading, runReading}
+use Rattle.frames.specs.Reading.{mostBytes, planReader, runReader, archiveReader, stageOf, isAt, inPlan, kindRead, lists, roundsOf, nothingRead, noWords, headCause, linkCause, groupCause, faultSetCause, startCause, messageCause, causeIn, linksCause, endCause, after, wordsAfter, Reading, refusal, told, reading, whole, planReading, archiveReading, runReading}
 use Rattle.frames.proofs.Unless.{unless-read, unless-refused}
-
--- a plan that the check finds sound, with its 20 rows
-abbrev pub Whole : Plan → Type 0
-Whole p = (causeOf p ≡ 0) × (length (p .rows) ≡ 20)
-
-plan-sound : (p : Plan) → inRange (p .n) (p .source) (p .f) ≡ true → linksSound p ≡ true → causeOf p ≡ 0
-plan-sound p r l = tested p r l
-
--- ---- the head: no links yet
-
-zero-sound : (n b : ℕ) → rowSound n b 0 ≡ true
-unfolding rowSound hearsSoundly within
-zero-sound n b =
-    pick-case (λ (t : Bool). t ≡ true) (ltb b n) (ltb 0 (2 ^ n) and not (mem b 0)) (eqb 0 0)
-    (λ h. and-i _ _ (lt-ltb 0 (2 ^ n) (pow-pos n)) (not-i (mem-zero b))) (λ h. refl)
-
-head-whole : (n source f : ℕ) → inRange n source f ≡ true → Whole (record { n = n; source = source; f = f; rows = replicate 20 0 })
-unfolding linksSound heardBy
-head-whole n source f r = (
-  plan-sound (record { n = n; source = source; f = f; rows = replicate 20 0 }) r
-      (all-i 20 (λ b. rowSound n b (getD (replicate 20 0) b 0)) (λ b h. ap (rowSound n b) (getD-replicate {A = ℕ} 20 b 0 0 h) ∙ zero-sound n b)),
-  length-replicate {A = ℕ} 20 0,
-)
-
--- ---- one link more
-
--- a set of n terminals with one of them more, in a wider word
-with-narrow : (w n s i : ℕ) → n ≤ w → s < 2 ^ n → i < n → with w s i < 2 ^ n
-unfolding with
-with-narrow w n s i h k l =
-    rw (set-ext w (mask w (λ j. mem j s or eqb j i)) (mask n (λ j. mem j s or eqb j i)) (mask-lt w (λ j. mem j s or eqb j i))
-    (lt-of-lt-of-le (mask-lt n (λ j. mem j s or eqb j i)) (pow-mono h)) (λ j m. mem-mask w j (λ j. mem j s or eqb j i) m ∙ sym (go j (below-or-not j n))))
-    (mask-lt n (λ j. mem j s or eqb j i))
-  where
-    go : (j : ℕ) → (j < n) ⊎ (n ≤ j) → mem j (mask n (λ j. mem j s or eqb j i)) ≡ mem j s or eqb j i
-    go j (inl m) = mem-mask n j (λ j. mem j s or eqb j i) m
-    go j (inr m) =
-        mem-mask-above n j (λ j. mem j s or eqb j i) m ∙ sym (or-no _ _ (mem-above n j s k m) (ne-eqb j i (λ e. omega arith)))
-
-module _ (p : Plan) (w : Whole p) (from to : ℕ) (f : from < p .n) (t : to < p .n) (d : from ≡ to → ⊥) where
-  s : Sound p
-  s = sound p (w .0)
-
-  row-kept : rowSound (p .n) to (with 32 (heardBy p to) from) ≡ true
-  unfolding rowSound hearsSoundly within hears
-  row-kept =
-      let n : p .n ≤ 20 = s .twenty in
-      pick-yes _ _ _ (lt-ltb to (p .n) t)
-      ∙ and-i _ _ (lt-ltb _ (2 ^ p .n) (with-narrow 32 (p .n) (heardBy p to) from (omega arith) (s .row-below to t) f))
-      (not-i (mem-with 32 (heardBy p to) from to (omega arith) ∙ or-no _ _ (s .heard-other to t) (ne-eqb to from (λ e. d (sym e)))))
-
-  rows-kept : (b : ℕ) → b < 20 → (b ≡ to) ⊎ (b ≡ to → ⊥) → rowSound (p .n) b (heardBy (linked p from to) b) ≡ true
-  unfolding linked heardBy linksSound
-  rows-kept b h (inl e) =
-      let there : to < length (p .rows) = omega (arith, s .twenty, w .1) in
-      ap (λ (i : ℕ). rowSound (p .n) i (getD (set (p .rows) to (with 32 (getD (p .rows) to 0) from)) i 0)) e
-      ∙ ap (rowSound (p .n) to) (getD-set-same (p .rows) to (with 32 (getD (p .rows) to 0) from) 0 there)
-      ∙ row-kept
-  rows-kept b h (inr n) =
-      ap (rowSound (p .n) b) (getD-set-other (p .rows) to b (with 32 (getD (p .rows) to 0) from) 0 n)
-      ∙ all-at 20 (λ b. rowSound (p .n) b (getD (p .rows) b 0)) (tests p (w .0) .1) b h
-
-  link-whole : Whole (linked p from to)
-  unfolding linked linksSound
-  link-whole = (
-    plan-sound (linked p from to) (tests p (w .0) .0)
-        (all-i 20 (λ b. rowSound (p .n) b (heardBy (linked p from to) b)) (λ b h. rows-kept b h (equal-or-not b to))),
-    length-set (p .rows) to (with 32 (heardBy p to) from) ∙ w .1,
-  )
+use Rattle.frames.proofs.EndLaws.{links-listed}
+use Rattle.frames.proofs.Built.{Built, Whole, built-whole, built-twenty, head-built, link-built, group-built}
 
 -- ---- an accepted frame
 
@@ -111,6 +38,20 @@ or-none : (a b : Bool) → a or b ≡ false → (a ≡ false) × (b ≡ false)
 unfolding _or_
 or-none true b h = clash refl h
 or-none false b h = (refl, h)
+
+-- the two stages of a plan's lines after its head
+module _ (p : Progress) where
+  pub plan-stage : inPlan p ≡ true → (1 ≤ stageOf (p .stage)) × (stageOf (p .stage) ≤ 2)
+  unfolding inPlan isAt
+  plan-stage h =
+      ⊎-elim (λ a. let e = eqb-true (stageOf (p .stage)) 1 a in (omega arith, omega arith))
+      (λ a. let e = eqb-true (stageOf (p .stage)) 2 a in (omega arith, omega arith)) (or-e _ _ h)
+
+  pub stage-plan : 1 ≤ stageOf (p .stage) → stageOf (p .stage) ≤ 2 → inPlan p ≡ true
+  unfolding inPlan isAt
+  stage-plan a b =
+      ⊎-elim (λ e. or-l _ _ (eq-eqb (stageOf (p .stage)) 1 e)) (λ n. or-r _ _ (eq-eqb (stageOf (p .stage)) 2 (omega arith)))
+      (equal-or-not (stageOf (p .stage)) 1)
 
 -- a row whose number is a cause of its own
 row-none : (cause : ℕ) → firstCause (not (eqb cause 0) gives cause ∷ []) ≡ 0 → cause ≡ 0
@@ -121,7 +62,7 @@ module _ (p : Progress) (words : List ℕ) where
   unfolding isAt
   at-stage stage h = eqb-true _ _ (not-no _ h)
 
-  pub head-accepted : (n source f : ℕ) → causeIn p words (Head n source f) ≡ 0 → (stageOf (p .stage) ≡ 0) × (inRange n source f ≡ true)
+  pub head-accepted : (n source f : ℕ) → causeIn p words (Head n source f) ≡ 0 → (stageOf (p .stage) ≡ 0) × (inRange n source (kindRead f) ≡ true)
   unfolding causeIn headCause
   head-accepted n source f h =
       let a = cause-none _ 3 _ (λ z. omega arith) h in
@@ -139,21 +80,35 @@ module _ (p : Progress) (words : List ℕ) where
       let e = or-none _ _ (d .1) in
       (at-stage Links (a .0), leb-false (p .plan .n) from (d .0), leb-false (p .plan .n) to (e .0), eqb-false from to (e .1), c .0)
 
-  pub fault-set-accepted : (s : ℕ) → causeIn p words (FaultSet s) ≡ 0 → (stageOf (p .stage) ≡ 1) × (faultCauseOf (p .plan) s ≡ 0)
+  pub group-accepted : (s : ℕ) → causeIn p words (Group s) ≡ 0
+      → (1 ≤ stageOf (p .stage)) × (stageOf (p .stage) ≤ 2) × (lists (p .plan .bound .kind) ≡ true) × (listed (p .plan .bound .kind) < mostGroups)
+      × (others (p .plan .n) (p .plan .source) s ≡ true)
+  unfolding causeIn groupCause
+  group-accepted s h =
+      let a = cause-none _ 3 _ (λ z. omega arith) h in
+      let b = cause-none _ 17 _ (λ z. omega arith) (a .1) in
+      let c = not-no _ (a .0) in
+      let d = not-no _ (b .0) in
+      let e = plan-stage p (and-l _ _ c) in
+      (e .0, e .1, and-r _ _ c, ltb-true (listed (p .plan .bound .kind)) mostGroups (and-l _ _ d), and-r _ _ d)
+
+  pub fault-set-accepted : (s : ℕ) → causeIn p words (FaultSet s) ≡ 0
+      → (1 ≤ stageOf (p .stage)) × (stageOf (p .stage) ≤ 2) × (faultCauseOf (p .plan) s ≡ 0)
   unfolding causeIn faultSetCause
   fault-set-accepted s h =
       let a = cause-none _ 3 _ (λ z. omega arith) h in
-      (at-stage Links (a .0), row-none (faultCauseOf (p .plan) s) (a .1))
+      let e = plan-stage p (not-no _ (a .0)) in
+      (e .0, e .1, row-none (faultCauseOf (p .plan) s) (a .1))
 
   pub start-accepted : (value : ℕ) (rounds : Rounds) → causeIn p words (Start value rounds) ≡ 0
-      → (stageOf (p .stage) ≡ 2) × (startSound value (roundsOf (p .plan .n) rounds) ≡ true)
+      → (stageOf (p .stage) ≡ 3) × (startSound value (roundsOf (p .plan .n) rounds) ≡ true)
   unfolding causeIn startCause
   start-accepted value rounds h =
       let a = cause-none _ 3 _ (λ z. omega arith) h in
       let b = cause-none _ 9 _ (λ z. omega arith) (a .1) in
       (at-stage Faults (a .0), not-no _ (b .0))
 
-  pub message-accepted : (round from to value : ℕ) → causeIn p words (Message round from to value) ≡ 0 → stageOf (p .stage) ≡ 3
+  pub message-accepted : (round from to value : ℕ) → causeIn p words (Message round from to value) ≡ 0 → stageOf (p .stage) ≡ 4
   unfolding causeIn messageCause
   message-accepted round from to value h = at-stage Words (cause-none _ 3 _ (λ z. omega arith) h .0)
 
@@ -164,22 +119,26 @@ module _ (p : Progress) (words : List ℕ) where
   frame-stage Unknown h z = omega arith
   frame-stage (Head n source f) h z = omega arith
   frame-stage (Link from to) h z = omega arith
+  frame-stage (Group s) h z = omega arith
   frame-stage (FaultSet s) h z = omega arith
   frame-stage (Start value rounds) h z = omega arith
   frame-stage (Message round from to value) h z = omega (arith, message-accepted round from to value h)
 
-  -- what is known once something was read is a whole plan
-  pub frame-whole : (frame : Frame) → ((stageOf (p .stage) ≡ 0 → ⊥) → Whole (p .plan)) → causeIn p words frame ≡ 0 → Whole (after p frame .plan)
+  -- what is known once something was read is a plan, but that a group may be missing
+  pub frame-built : (frame : Frame) → ((stageOf (p .stage) ≡ 0 → ⊥) → Built (p .plan)) → causeIn p words frame ≡ 0 → Built (after p frame .plan)
   unfolding causeIn after
-  frame-whole Foreign i h = absurd (omega arith)
-  frame-whole Unknown i h = absurd (omega arith)
-  frame-whole (Head n source f) i h = head-whole n source f (head-accepted n source f h .1)
-  frame-whole (Link from to) i h =
+  frame-built Foreign i h = absurd (omega arith)
+  frame-built Unknown i h = absurd (omega arith)
+  frame-built (Head n source f) i h = head-built n source f (head-accepted n source f h .1)
+  frame-built (Link from to) i h =
       let c = link-accepted from to h in
-      link-whole (p .plan) (i (λ z. omega (arith, c .0))) from to (c .1) (c .2) (c .3)
-  frame-whole (FaultSet s) i h = i (λ z. omega (arith, fault-set-accepted s h .0))
-  frame-whole (Start value rounds) i h = i (λ z. omega (arith, start-accepted value rounds h .0))
-  frame-whole (Message round from to value) i h = i (λ z. omega (arith, message-accepted round from to value h))
+      link-built (p .plan) (i (λ z. omega (arith, c .0))) from to (c .1) (c .2) (c .3)
+  frame-built (Group s) i h =
+      let c = group-accepted s h in
+      group-built (p .plan) (i (λ z. omega (arith, c .0))) s (c .3) (c .4)
+  frame-built (FaultSet s) i h = i (λ z. omega (arith, fault-set-accepted s h .0))
+  frame-built (Start value rounds) i h = i (λ z. omega (arith, start-accepted value rounds h .0))
+  frame-built (Message round from to value) i h = i (λ z. omega (arith, message-accepted round from to value h))
 
 -- ---- the lines: what every accepted frame leaves, after the first and after a later one, an accepted file leaves
 
@@ -254,14 +213,28 @@ module _ (I : Progress → Type 0)
       text-read reader text (λ (r : Reading). I (r .progress))
       (λ one. told-brings reader noWords (linesFrom [] text) (some-line [] text (omega arith)))
 
+-- where it ends nothing refuses the links
+pub told-ends : (reader : Reader) (p : Progress) (words : List ℕ) (k : ℕ) (lines : List Line) → told reader p words k lines .number ≡ 0
+    → linksCause reader (told reader p words k lines .progress) ≡ 0
+unfolding told
+told-ends reader p words k [] = end-read reader p words k (λ (r : Reading). linksCause reader (r .progress) ≡ 0) (λ c. c)
+told-ends reader p words k (cut line ∷ rest) = λ z. absurd (omega arith)
+told-ends reader p words k (ended line ∷ rest) =
+    line-read reader p words k line rest (λ (r : Reading). linksCause reader (r .progress) ≡ 0)
+    (λ c. told-ends reader (after p (frameOf (reader .kinds) line)) (wordsAfter p words (frameOf (reader .kinds) line)) (k + 1) rest)
+
+pub reading-ends : (reader : Reader) (text : List ℕ) → reading reader text .number ≡ 0 → linksCause reader (reading reader text .progress) ≡ 0
+reading-ends reader text =
+    text-read reader text (λ (r : Reading). linksCause reader (r .progress) ≡ 0) (λ one. told-ends reader nothingRead noWords 1 (linesFrom [] text))
+
 -- ---- what is known of each stage
 
--- once a line was read: a whole plan; from stage 2 a bad set of it; at stage 3 a value and 0 to 40 rounds
+-- once a line was read: a plan, but that a group may be missing; from stage 3 a bad set of it; at stage 4 a value and 0 to 40 rounds
 pub record Known (p : Progress) : Type 0 where
   pub begun : stageOf (p .stage) ≡ 0 → ⊥
-  pub plan-whole : Whole (p .plan)
-  pub bad-set : 2 ≤ stageOf (p .stage) → faultCauseOf (p .plan) (p .faulty) ≡ 0
-  pub in-range : stageOf (p .stage) ≡ 3 → startSound (p .value) (p .rounds) ≡ true
+  pub plan-built : Built (p .plan)
+  pub bad-set : 3 ≤ stageOf (p .stage) → faultCauseOf (p .plan) (p .faulty) ≡ 0
+  pub in-range : stageOf (p .stage) ≡ 4 → startSound (p .value) (p .rounds) ≡ true
 
 module _ (p : Progress) (words : List ℕ) where
   -- what was known at a stage that is not 0
@@ -269,26 +242,28 @@ module _ (p : Progress) (words : List ℕ) where
   was (inl s) n = absurd (n s)
   was (inr i) n = i
 
-  frame-bad-set : (frame : Frame) → (stageOf (p .stage) ≡ 0) ⊎ Known p → causeIn p words frame ≡ 0 → 2 ≤ stageOf (after p frame .stage)
+  frame-bad-set : (frame : Frame) → (stageOf (p .stage) ≡ 0) ⊎ Known p → causeIn p words frame ≡ 0 → 3 ≤ stageOf (after p frame .stage)
       → faultCauseOf (after p frame .plan) (after p frame .faulty) ≡ 0
   unfolding causeIn after
   frame-bad-set Foreign i h l = absurd (omega arith)
   frame-bad-set Unknown i h l = absurd (omega arith)
   frame-bad-set (Head n source f) i h l = absurd (omega arith)
   frame-bad-set (Link from to) i h l = absurd (omega arith)
-  frame-bad-set (FaultSet s) i h l = fault-set-accepted p words s h .1
+  frame-bad-set (Group s) i h l = absurd (omega arith)
+  frame-bad-set (FaultSet s) i h l = fault-set-accepted p words s h .2
   frame-bad-set (Start value rounds) i h l =
       let s = start-accepted p words value rounds h .0 in was i (λ z. omega arith) .bad-set (omega arith)
   frame-bad-set (Message round from to value) i h l =
       let s = message-accepted p words round from to value h in was i (λ z. omega arith) .bad-set (omega arith)
 
-  frame-in-range : (frame : Frame) → (stageOf (p .stage) ≡ 0) ⊎ Known p → causeIn p words frame ≡ 0 → stageOf (after p frame .stage) ≡ 3
+  frame-in-range : (frame : Frame) → (stageOf (p .stage) ≡ 0) ⊎ Known p → causeIn p words frame ≡ 0 → stageOf (after p frame .stage) ≡ 4
       → startSound (after p frame .value) (after p frame .rounds) ≡ true
   unfolding causeIn after
   frame-in-range Foreign i h l = absurd (omega arith)
   frame-in-range Unknown i h l = absurd (omega arith)
   frame-in-range (Head n source f) i h l = absurd (omega arith)
   frame-in-range (Link from to) i h l = absurd (omega arith)
+  frame-in-range (Group s) i h l = absurd (omega arith)
   frame-in-range (FaultSet s) i h l = absurd (omega arith)
   frame-in-range (Start value rounds) i h l = start-accepted p words value rounds h .1
   frame-in-range (Message round from to value) i h l = was i (λ z. omega arith) .in-range l
@@ -296,13 +271,32 @@ module _ (p : Progress) (words : List ℕ) where
   frame-known : (frame : Frame) → (stageOf (p .stage) ≡ 0) ⊎ Known p → causeIn p words frame ≡ 0 → Known (after p frame)
   frame-known frame i h = record {
     begun = frame-stage p words frame h;
-    plan-whole = frame-whole p words frame (λ n. was i n .plan-whole) h;
+    plan-built = frame-built p words frame (λ n. was i n .plan-built) h;
     bad-set = frame-bad-set frame i h;
     in-range = frame-in-range frame i h;
   }
 
 pub reading-known : (reader : Reader) (text : List ℕ) → reading reader text .number ≡ 0 → Known (reading reader text .progress)
 reading-known = reading-keeps Known frame-known
+
+-- no group is missing: that was looked at where the links end, with the bad set or at the end of the file
+module _ (reader : Reader) (p : Progress) (k : Known p) (e : linksCause reader p ≡ 0) where
+  later-stage : inPlan p ≡ false → 3 ≤ stageOf (p .stage)
+  later-stage h =
+      ⊎-elim (λ b. b)
+      (λ b. ⊎-elim (λ a. clash (stage-plan p (omega arith) b) h) (λ a. absurd (k .begun (omega arith))) (below-or-not 0 (stageOf (p .stage))))
+      (below-or-not 2 (stageOf (p .stage)))
+
+  known-whole : Whole (p .plan)
+  known-whole =
+      ⊎-elim (λ h. built-whole (p .plan) (k .plan-built) (links-listed reader p h e))
+      (λ h.
+      let b = k .plan-built in
+      (fault-sound (p .plan) (p .faulty) (k .bad-set (later-stage h)) .0, b .rows-length, b .groups-length))
+      (decide (inPlan p))
+
+pub reading-whole : (reader : Reader) (text : List ℕ) → reading reader text .number ≡ 0 → Whole (reading reader text .progress .plan)
+reading-whole reader text z = known-whole reader _ (reading-known reader text z) (reading-ends reader text z)
 
 -- ---- a refused file: nothing is known of it
 
@@ -326,27 +320,27 @@ reading-refused reader text =
 -- whatever was read has at most 20 terminals
 pub reading-twenty : (reader : Reader) (text : List ℕ) → reading reader text .progress .plan .n ≤ 20
 reading-twenty reader text =
-    ⊎-elim (λ z. sound _ (reading-known reader text z .plan-whole .0) .twenty)
+    ⊎-elim (λ z. built-twenty _ (reading-known reader text z .plan-built))
     (λ n. let e = ap (λ (p : Progress). p .plan .n) (reading-refused reader text n) in omega arith) (equal-or-not (reading reader text .number) 0)
 
 -- ---- an accepted plan file, and an accepted run file
 
 pub accepted-sound : (text : List ℕ) → planReading text .number ≡ 0 → Whole (planReading text .progress .plan)
 unfolding planReading
-accepted-sound text h = reading-known planReader text h .plan-whole
+accepted-sound text h = reading-whole planReader text h
 
 pub archived-sound : (text : List ℕ) → archiveReading text .number ≡ 0 → Whole (archiveReading text .progress .plan)
 unfolding archiveReading
-archived-sound text h = reading-known archiveReader text h .plan-whole
+archived-sound text h = reading-whole archiveReader text h
 
 -- a run file that is accepted has reached the last stage
-whole-stage : (r : Reading) → whole r .number ≡ 0 → (whole r ≡ r) × (stageOf (r .progress .stage) ≡ 3)
+whole-stage : (r : Reading) → whole r .number ≡ 0 → (whole r ≡ r) × (stageOf (r .progress .stage) ≡ 4)
 unfolding whole isAt
 whole-stage r =
-    pick-case (λ (x : Reading). x .number ≡ 0 → (x ≡ r) × (stageOf (r .progress .stage) ≡ 3))
+    pick-case (λ (x : Reading). x .number ≡ 0 → (x ≡ r) × (stageOf (r .progress .stage) ≡ 4))
     (eqb (r .number) 0 and not (isAt Words (r .progress))) (refusal 3 0) r
     (λ t z. absurd (omega arith))
-    (λ t z. (refl, eqb-true (stageOf (r .progress .stage)) 3 (not-no _ (sym (and-yes _ _ (eq-eqb (r .number) 0 z)) ∙ t))))
+    (λ t z. (refl, eqb-true (stageOf (r .progress .stage)) 4 (not-no _ (sym (and-yes _ _ (eq-eqb (r .number) 0 z)) ∙ t))))
 
 pub run-is : (text : List ℕ) → runReading text .number ≡ 0 → runReading text ≡ reading runReader text
 unfolding runReading
@@ -359,6 +353,7 @@ pub run-accepted : (text : List ℕ) → runReading text .number ≡ 0
 unfolding runReading
 run-accepted text h =
     let w = whole-stage (reading runReader text) h in
-    let k = reading-known runReader text (sym (ap (λ (r : Reading). r .number) (w .0)) ∙ h) in
-    let s : stageOf (reading runReader text .progress .stage) ≡ 3 = w .1 in
-    rw (w .0) (k .plan-whole .0, k .bad-set (omega arith), k .in-range s)
+    let z = sym (ap (λ (r : Reading). r .number) (w .0)) ∙ h in
+    let k = reading-known runReader text z in
+    let s : stageOf (reading runReader text .progress .stage) ≡ 4 = w .1 in
+    rw (w .0) (reading-whole runReader text z .0, k .bad-set (omega arith), k .in-range s)

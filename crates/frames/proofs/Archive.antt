@@ -7,54 +7,54 @@ use mathlib.Core.List.{List, [], _∷_}
 use native.Mathlib.Omega.{arith}
 use lib.Dec.{leb}
 use lib.ListN.{length}
-use borrow.Author.Tests.{eq-eqb, ne-eqb, eqb-true}
 use Rattle.sets.specs.Tests.{_and_}
 use Rattle.sets.specs.Sets.{mask}
-use Rattle.sets.proofs.Bools.{clash, decide, pick-yes, pick-no}
+use Rattle.sets.proofs.Bools.{clash, decide, no-by, not-yes, pick-yes, pick-no}
 use Rattle.sets.proofs.Laws.{equal-or-not}
 use Rattle.plan.specs.Deaf.{deafSet}
 use Rattle.lines.specs.declared.Frame.{Frame}
-use Rattle.lines.specs.declared.Frame.the-variants.{Foreign, Unknown, Head, Link, FaultSet, Start, Message}
+use Rattle.lines.specs.declared.Frame.the-variants.{Foreign, Unknown, Head, Link, Group, FaultSet, Start, Message}
 use Rattle.lines.specs.Frames.{frameOf}
-use Rattle.frames.specs.declared.Stage.the-variants.{Links}
 use Rattle.frames.specs.declared.Progress.{Progress}
 use Rattle.frames.specs.declared.Reader.{Reader}
 use Rattle.frames.specs.Lines.{Line, ended, cut, linesFrom}
-use Rattle.frames.specs.Reading.{mostBytes, planKinds, runKinds, stageOf, isAt, nothingRead, noWords, causeIn, endsLinks, linksCause, endCause, after, wordsAfter, Reading, refusal, unless, told, reading, planReading, archiveReading, runReading}
+use Rattle.frames.specs.Reading.{mostBytes, planKinds, runKinds, stageOf, inPlan, listsNone, nothingRead, noWords, causeIn, endsLinks, linksCause, endCause, after, wordsAfter, Reading, refusal, unless, told, reading, planReading, archiveReading, runReading}
 use Rattle.frames.specs.Archive.{Beside}
-use Rattle.frames.proofs.Unless.{unless-none, unless-some}
-use Rattle.frames.proofs.EndLaws.{links-elsewhere, links-archived, links-heard, links-deaf, end-here, end-later, end-none}
-use Rattle.frames.proofs.Accepted.{head-accepted, link-accepted, fault-set-accepted, start-accepted, message-accepted, line-read, told-keeps, run-is}
+use Rattle.frames.proofs.Unless.{unless-none, unless-some, unless-read}
+use Rattle.frames.proofs.EndLaws.{links-elsewhere, links-none, links-archived, links-heard, links-deaf, end-here, end-later, end-none}
+use Rattle.frames.proofs.Accepted.{plan-stage, stage-plan, head-accepted, link-accepted, group-accepted, fault-set-accepted, start-accepted, message-accepted, frame-stage, line-read, told-keeps, run-is}
 
 -- ---- what an accepted frame does to the stage
 
 -- from the bad set on, the plan stays
-later-frame : (p : Progress) (words : List ℕ) (frame : Frame) → 2 ≤ stageOf (p .stage) → causeIn p words frame ≡ 0
-    → (2 ≤ stageOf (after p frame .stage)) × (after p frame .plan ≡ p .plan)
+later-frame : (p : Progress) (words : List ℕ) (frame : Frame) → 3 ≤ stageOf (p .stage) → causeIn p words frame ≡ 0
+    → (3 ≤ stageOf (after p frame .stage)) × (after p frame .plan ≡ p .plan)
 unfolding causeIn after
 later-frame p words Foreign s h = absurd (omega arith)
 later-frame p words Unknown s h = absurd (omega arith)
 later-frame p words (Head n source f) s h = absurd (omega (arith, head-accepted p words n source f h .0))
 later-frame p words (Link from to) s h = absurd (omega (arith, link-accepted p words from to h .0))
-later-frame p words (FaultSet x) s h = absurd (omega (arith, fault-set-accepted p words x h .0))
+later-frame p words (Group x) s h = absurd (omega (arith, group-accepted p words x h .1))
+later-frame p words (FaultSet x) s h = absurd (omega (arith, fault-set-accepted p words x h .1))
 later-frame p words (Start value rounds) s h = (omega arith, refl)
 later-frame p words (Message round from to value) s h = (s, refl)
 
 -- the links end with this frame
 abbrev Ends : Progress → Frame → Type 0
-Ends p frame = (isAt Links p ≡ true) × (endsLinks frame ≡ true)
+Ends p frame = (inPlan p ≡ true) × (endsLinks (p .plan .bound .kind) frame ≡ true)
 
--- before that, the frame is a head or a link, or it is the bad set, and the links end with it
-early-frame : (p : Progress) (words : List ℕ) (frame : Frame) → stageOf (p .stage) ≤ 1 → causeIn p words frame ≡ 0
-    → (Ends p frame × (2 ≤ stageOf (after p frame .stage)) × (after p frame .plan ≡ p .plan)) ⊎ ((Ends p frame → ⊥) × (stageOf (after p frame .stage) ≡ 1))
-unfolding causeIn after endsLinks isAt
+-- before that, the frame is a head, a link or a group, or it is the bad set, and the links end with it
+early-frame : (p : Progress) (words : List ℕ) (frame : Frame) → stageOf (p .stage) ≤ 2 → causeIn p words frame ≡ 0
+    → (Ends p frame × (3 ≤ stageOf (after p frame .stage)) × (after p frame .plan ≡ p .plan)) ⊎ ((Ends p frame → ⊥) × (stageOf (after p frame .stage) ≤ 2))
+unfolding causeIn after endsLinks
 early-frame p words Foreign s h = absurd (omega arith)
 early-frame p words Unknown s h = absurd (omega arith)
 early-frame p words (Head n source f) s h =
-    let z = head-accepted p words n source f h .0 in inr (λ e. let o = eqb-true (stageOf (p .stage)) 1 (e .0) in omega arith, refl)
-early-frame p words (Link from to) s h = inr (λ e. clash (e .1) refl, refl)
+    let z = head-accepted p words n source f h .0 in inr (λ e. let o = plan-stage p (e .0) .0 in omega arith, omega arith)
+early-frame p words (Link from to) s h = inr (λ e. clash (e .1) refl, omega arith)
+early-frame p words (Group x) s h = inr (λ e. clash (e .1) (not-yes (group-accepted p words x h .2)), omega arith)
 early-frame p words (FaultSet x) s h =
-    inl ((eq-eqb (stageOf (p .stage)) 1 (fault-set-accepted p words x h .0), refl), omega arith, refl)
+    let a = fault-set-accepted p words x h in inl ((stage-plan p (a .0) (a .1), refl), omega arith, refl)
 early-frame p words (Start value rounds) s h = absurd (omega (arith, start-accepted p words value rounds h .0))
 early-frame p words (Message round from to value) s h = absurd (omega (arith, message-accepted p words round from to value h))
 
@@ -89,21 +89,48 @@ module _ (kinds : ℕ) where
 
   -- ---- where the links end
 
-  -- the archive looks at nothing there
-  kept-none : (p : Progress) (frame : Frame) → endCause kept p frame ≡ 0
-  kept-none p frame = end-none kept p frame (links-archived kept p refl)
+  -- what the readers find there: no group, both; a deaf terminal, the new reader only; or nothing
+  record Missing (p : Progress) (frame : Frame) : Type 0 where
+    of-fresh : endCause fresh p frame ≡ 17
+    of-kept : endCause kept p frame ≡ 17
 
-  fresh-deaf : (p : Progress) (frame : Frame) → Ends p frame → (deafSet (p .plan) ≡ 0 → ⊥) → endCause fresh p frame ≡ 15
-  fresh-deaf p frame e d = end-here fresh p frame (e .1) ∙ links-deaf fresh p (e .0) refl d
+  record Deaf (p : Progress) (frame : Frame) : Type 0 where
+    ends : Ends p frame
+    somebody : deafSet (p .plan) ≡ 0 → ⊥
+    of-fresh : endCause fresh p frame ≡ 15
 
-  fresh-place : (p : Progress) (frame : Frame) → (Ends p frame × (deafSet (p .plan) ≡ 0 → ⊥)) ⊎ (endCause fresh p frame ≡ 0)
-  fresh-place p frame =
-      ⊎-elim
-      (λ a.
-      ⊎-elim
-      (λ b. ⊎-elim (λ z. inr (end-none fresh p frame (links-heard fresh p z))) (λ n. inl ((a, b), n)) (equal-or-not (deafSet (p .plan)) 0))
-      (λ b. inr (end-later fresh p frame b)) (decide (endsLinks frame)))
-      (λ a. inr (end-none fresh p frame (links-elsewhere fresh p a))) (decide (isAt Links p))
+  record Passed (p : Progress) (frame : Frame) : Type 0 where
+    heard : Ends p frame → deafSet (p .plan) ≡ 0
+    of-fresh : endCause fresh p frame ≡ 0
+    of-kept : endCause kept p frame ≡ 0
+
+  place : (p : Progress) (frame : Frame) → Missing p frame ⊎ Deaf p frame ⊎ Passed p frame
+  place p frame = go (decide (inPlan p)) (decide (endsLinks (p .plan .bound .kind) frame)) (decide (listsNone (p .plan .bound .kind))) (equal-or-not (deafSet (p .plan)) 0)
+    where
+      go : (inPlan p ≡ true) ⊎ (inPlan p ≡ false) → (endsLinks (p .plan .bound .kind) frame ≡ true) ⊎ (endsLinks (p .plan .bound .kind) frame ≡ false)
+          → (listsNone (p .plan .bound .kind) ≡ true) ⊎ (listsNone (p .plan .bound .kind) ≡ false)
+          → (deafSet (p .plan) ≡ 0) ⊎ (deafSet (p .plan) ≡ 0 → ⊥) → Missing p frame ⊎ Deaf p frame ⊎ Passed p frame
+      go (inr a) b l d = inr (inr (record {
+        heard = λ e. clash (e .0) a;
+        of-fresh = end-none fresh p frame (links-elsewhere fresh p a);
+        of-kept = end-none kept p frame (links-elsewhere kept p a);
+      }))
+      go (inl a) (inr b) l d =
+          inr (inr (record { heard = λ e. clash (e .1) b; of-fresh = end-later fresh p frame b; of-kept = end-later kept p frame b }))
+      go (inl a) (inl b) (inl l) d = inl (record {
+        of-fresh = end-here fresh p frame b ∙ links-none fresh p a l;
+        of-kept = end-here kept p frame b ∙ links-none kept p a l;
+      })
+      go (inl a) (inl b) (inr l) (inr n) = inr (inl (record {
+        ends = (a, b);
+        somebody = n;
+        of-fresh = end-here fresh p frame b ∙ links-deaf fresh p l a refl n;
+      }))
+      go (inl a) (inl b) (inr l) (inl z) = inr (inr (record {
+        heard = λ e. z;
+        of-fresh = end-none fresh p frame (links-heard fresh p l z);
+        of-kept = end-none kept p frame (links-heard kept p l z);
+      }))
 
   -- a line where they are not refused
   module _ (reader : Reader) (p : Progress) (words : List ℕ) (k : ℕ) (line : List ℕ) (rest : List Line) where
@@ -115,53 +142,55 @@ module _ (kinds : ℕ) where
     unfolding told
     line-goes e = unless-none (endCause reader p (frameOf (reader .kinds) line)) 0 _ e
 
-  -- so the archive's reading goes on with every line whose frame is accepted, and to the end
+  -- so the archive's reading goes on with every line whose frame is accepted, and to the end, where no group is missing
   pub kept-line : (p : Progress) (words : List ℕ) (k : ℕ) (line : List ℕ) (rest : List Line) (frame : Frame) → frameOf kinds line ≡ frame
-      → causeIn p words frame ≡ 0 → told kept p words k (ended line ∷ rest) ≡ told kept (after p frame) (wordsAfter p words frame) (k + 1) rest
-  kept-line p words k line rest frame f z =
-      line-goes kept p words k line rest (kept-none p (frameOf kinds line))
+      → endCause kept p frame ≡ 0 → causeIn p words frame ≡ 0
+      → told kept p words k (ended line ∷ rest) ≡ told kept (after p frame) (wordsAfter p words frame) (k + 1) rest
+  kept-line p words k line rest frame f o z =
+      line-goes kept p words k line rest (ap (endCause kept p) f ∙ o)
       ∙ unless-none (causeIn p words (frameOf kinds line)) k _ (ap (causeIn p words) f ∙ z)
       ∙ ap (λ (x : Frame). told kept (after p x) (wordsAfter p words x) (k + 1) rest) f
 
-  pub kept-end : (p : Progress) (words : List ℕ) (k : ℕ) → told kept p words k [] ≡ record { number = 0; line = 0; progress = p; words = words }
+  pub kept-end : (p : Progress) (words : List ℕ) (k : ℕ) → listsNone (p .plan .bound .kind) ≡ false
+      → told kept p words k [] ≡ record { number = 0; line = 0; progress = p; words = words }
   unfolding told
-  kept-end p words k = unless-none (linksCause kept p) 0 _ (links-archived kept p refl)
+  kept-end p words k l = unless-none (linksCause kept p) 0 _ (links-archived kept p l refl)
 
   -- ---- after them: both readers read the same, and the plan stays
 
-  module _ (p : Progress) (s : 2 ≤ stageOf (p .stage)) where
-    elsewhere : isAt Links p ≡ false
-    unfolding isAt
-    elsewhere = ne-eqb (stageOf (p .stage)) 1 (λ e. omega arith)
+  module _ (p : Progress) (s : 3 ≤ stageOf (p .stage)) where
+    elsewhere : inPlan p ≡ false
+    elsewhere = no-by (λ h. let o = plan-stage p h .1 in omega arith)
 
-    fresh-later : (frame : Frame) → endCause fresh p frame ≡ 0
-    fresh-later frame = end-none fresh p frame (links-elsewhere fresh p elsewhere)
+    later-none : (reader : Reader) (frame : Frame) → endCause reader p frame ≡ 0
+    later-none reader frame = end-none reader p frame (links-elsewhere reader p elsewhere)
 
-  later-same : (p : Progress) (words : List ℕ) (k : ℕ) (lines : List Line) → 2 ≤ stageOf (p .stage) → told fresh p words k lines ≡ told kept p words k lines
+  later-same : (p : Progress) (words : List ℕ) (k : ℕ) (lines : List Line) → 3 ≤ stageOf (p .stage) → told fresh p words k lines ≡ told kept p words k lines
   unfolding told
   later-same p words k [] s =
-      unless-none (linksCause fresh p) 0 _ (links-elsewhere fresh p (elsewhere p s)) ∙ sym (kept-end p words k)
+      unless-none (linksCause fresh p) 0 _ (links-elsewhere fresh p (elsewhere p s))
+      ∙ sym (unless-none (linksCause kept p) 0 _ (links-elsewhere kept p (elsewhere p s)))
   later-same p words k (cut line ∷ rest) s = refl
   later-same p words k (ended line ∷ rest) s =
-      line-goes fresh p words k line rest (fresh-later p s (frameOf kinds line))
+      line-goes fresh p words k line rest (later-none p s fresh (frameOf kinds line))
       ∙ ⊎-elim
       (λ z.
       ap (unless (causeIn p words (frameOf kinds line)) k)
       (later-same (after p (frameOf kinds line)) (wordsAfter p words (frameOf kinds line)) (k + 1) rest (later-frame p words (frameOf kinds line) s z .0)))
       (λ n. unless-some (causeIn p words (frameOf kinds line)) k _ n ∙ sym (unless-some (causeIn p words (frameOf kinds line)) k _ n))
       (equal-or-not (causeIn p words (frameOf kinds line)) 0)
-      ∙ sym (line-goes kept p words k line rest (kept-none p (frameOf kinds line)))
+      ∙ sym (line-goes kept p words k line rest (later-none p s kept (frameOf kinds line)))
 
-  later-plan : (p : Progress) (words : List ℕ) (k : ℕ) (lines : List Line) → 2 ≤ stageOf (p .stage)
+  later-plan : (p : Progress) (words : List ℕ) (k : ℕ) (lines : List Line) → 3 ≤ stageOf (p .stage)
       → told kept p words k lines .number ≡ 0 → told kept p words k lines .progress .plan ≡ p .plan
   later-plan p words k lines s z =
-      told-keeps (λ (q : Progress). (2 ≤ stageOf (q .stage)) × (q .plan ≡ p .plan))
+      told-keeps (λ (q : Progress). (3 ≤ stageOf (q .stage)) × (q .plan ≡ p .plan))
       (λ q w f i c. let l = later-frame q w f (i .0) c in (l .0, l .1 ∙ i .1)) kept p words k lines (s, refl) z .1
 
   -- ---- before them
 
   -- somebody is deaf where the links end: the archive may go on, and the plan stays
-  ended-deaf : (p : Progress) (words : List ℕ) (k : ℕ) (line : List ℕ) (rest : List Line) → stageOf (p .stage) ≤ 1
+  ended-deaf : (p : Progress) (words : List ℕ) (k : ℕ) (line : List ℕ) (rest : List Line) → stageOf (p .stage) ≤ 2
       → Ends p (frameOf kinds line) → (deafSet (p .plan) ≡ 0 → ⊥)
       → told kept p words k (ended line ∷ rest) .number ≡ 0 → deafSet (told kept p words k (ended line ∷ rest) .progress .plan) ≡ 0 → ⊥
   ended-deaf p words k line rest s e d =
@@ -176,25 +205,37 @@ module _ (kinds : ℕ) where
       ∙ y))
       (λ n. n .0 e) (early-frame p words (frameOf kinds line) s c))
 
-  at-links : (p : Progress) → stageOf (p .stage) ≤ 1 → (stageOf (p .stage) ≡ 0 → deafSet (p .plan) ≡ 0) → (deafSet (p .plan) ≡ 0 → ⊥) → isAt Links p ≡ true
-  unfolding isAt
-  at-links p s i n = ⊎-elim (λ z. absurd (n (i z))) (λ m. eq-eqb (stageOf (p .stage)) 1 (omega arith)) (equal-or-not (stageOf (p .stage)) 0)
+  -- the file ends: before the head, or where the links end
+  module _ (p : Progress) (words : List ℕ) (k : ℕ) where
+    abbrev all-read : Reading
+    all-read = record { number = 0; line = 0; progress = p; words = words }
 
-  -- the file ends
-  early-end : (p : Progress) (words : List ℕ) (k : ℕ) → stageOf (p .stage) ≤ 1 → (stageOf (p .stage) ≡ 0 → deafSet (p .plan) ≡ 0)
-      → Beside (told kept p words k []) (told fresh p words k [])
-  unfolding told
-  early-end p words k s i =
-      ⊎-elim
-      (λ z. beside-same _ _ _ (kept-end p words k) (unless-none (linksCause fresh p) 0 _ (links-heard fresh p z)) (λ o. z))
-      (λ n.
-      let c = links-deaf fresh p (at-links p s i n) refl n in
-      beside-deaf _ _ (unless-some (linksCause fresh p) 0 _ (λ z. omega arith) ∙ ap (λ (x : ℕ). refusal x 0) c)
-      (λ z y. n (sym (ap (λ (r : Reading). deafSet (r .progress .plan)) (kept-end p words k)) ∙ y)))
-      (equal-or-not (deafSet (p .plan)) 0)
+    end-same : (c : ℕ) → linksCause kept p ≡ c → linksCause fresh p ≡ c → (c ≡ 0 → deafSet (p .plan) ≡ 0) → Beside (told kept p words k []) (told fresh p words k [])
+    unfolding told
+    end-same c a b h =
+        beside-same _ _ (unless c 0 all-read) (ap (λ (x : ℕ). unless x 0 all-read) a) (ap (λ (x : ℕ). unless x 0 all-read) b)
+        (unless-read c 0 all-read (λ (r : Reading). deafSet (r .progress .plan) ≡ 0) (λ z o. h z))
+
+    end-deaf : linksCause kept p ≡ 0 → linksCause fresh p ≡ 15 → (deafSet (p .plan) ≡ 0 → ⊥) → Beside (told kept p words k []) (told fresh p words k [])
+    unfolding told
+    end-deaf a b n =
+        beside-deaf _ _ (unless-some (linksCause fresh p) 0 _ (λ z. omega arith) ∙ ap (λ (x : ℕ). refusal x 0) b)
+        (λ z y. n (sym (ap (λ (r : Reading). deafSet (r .progress .plan)) (unless-none (linksCause kept p) 0 all-read a)) ∙ y))
+
+    early-end : stageOf (p .stage) ≤ 2 → (stageOf (p .stage) ≡ 0 → deafSet (p .plan) ≡ 0) → Beside (told kept p words k []) (told fresh p words k [])
+    early-end s i = go (decide (inPlan p)) (decide (listsNone (p .plan .bound .kind))) (equal-or-not (deafSet (p .plan)) 0)
+      where
+        go : (inPlan p ≡ true) ⊎ (inPlan p ≡ false) → (listsNone (p .plan .bound .kind) ≡ true) ⊎ (listsNone (p .plan .bound .kind) ≡ false)
+            → (deafSet (p .plan) ≡ 0) ⊎ (deafSet (p .plan) ≡ 0 → ⊥) → Beside (told kept p words k []) (told fresh p words k [])
+        go (inr a) l d =
+            end-same 0 (links-elsewhere kept p a) (links-elsewhere fresh p a)
+            (λ z. i (⊎-elim (λ y. y) (λ n. clash (stage-plan p (omega arith) s) a) (equal-or-not (stageOf (p .stage)) 0)))
+        go (inl a) (inl l) d = end-same 17 (links-none kept p a l) (links-none fresh p a l) (λ z. absurd (omega arith))
+        go (inl a) (inr l) (inl z) = end-same 0 (links-heard kept p l z) (links-heard fresh p l z) (λ o. z)
+        go (inl a) (inr l) (inr n) = end-deaf (links-archived kept p l refl) (links-deaf fresh p l a refl n) n
 
   -- a line, and what follows it
-  module _ (p : Progress) (words : List ℕ) (k : ℕ) (line : List ℕ) (rest : List Line) (s : stageOf (p .stage) ≤ 1) where
+  module _ (p : Progress) (words : List ℕ) (k : ℕ) (line : List ℕ) (rest : List Line) (s : stageOf (p .stage) ≤ 2) where
     abbrev frame : Frame
     frame = frameOf kinds line
 
@@ -207,50 +248,57 @@ module _ (kinds : ℕ) where
     abbrev Here : Type 0
     Here = Beside (told kept p words k (ended line ∷ rest)) (told fresh p words k (ended line ∷ rest))
 
-    early-refused : Ends p frame → (deafSet (p .plan) ≡ 0 → ⊥) → Here
-    unfolding told
-    early-refused e d =
-        let c = fresh-deaf p frame e d in
-        beside-deaf _ _ (unless-some (endCause fresh p frame) 0 _ (λ z. omega arith) ∙ ap (λ (x : ℕ). refusal x 0) c)
-        (ended-deaf p words k line rest s e d)
+    abbrev Next : Type 0
+    Next = stageOf (after p frame .stage) ≤ 2 → (stageOf (after p frame .stage) ≡ 0 → ⊥) → Beside archived renewed
 
-    module _ (o : endCause fresh p frame ≡ 0) where
+    early-missing : Missing p frame → Here
+    unfolding told
+    early-missing m =
+        beside-same _ _ (refusal 17 0)
+        (unless-some (endCause kept p frame) 0 _ (λ z. omega (arith, m .of-kept)) ∙ ap (λ (x : ℕ). refusal x 0) (m .of-kept))
+        (unless-some (endCause fresh p frame) 0 _ (λ z. omega (arith, m .of-fresh)) ∙ ap (λ (x : ℕ). refusal x 0) (m .of-fresh))
+        (λ z. absurd (omega arith))
+
+    early-refused : Deaf p frame → Here
+    unfolding told
+    early-refused d =
+        beside-deaf _ _ (unless-some (endCause fresh p frame) 0 _ (λ z. omega (arith, d .of-fresh)) ∙ ap (λ (x : ℕ). refusal x 0) (d .of-fresh))
+        (ended-deaf p words k line rest s (d .ends) (d .somebody))
+
+    module _ (o : Passed p frame) where
       kept-goes : told kept p words k (ended line ∷ rest) ≡ unless (causeIn p words frame) k archived
-      kept-goes = line-goes kept p words k line rest (kept-none p frame)
+      kept-goes = line-goes kept p words k line rest (o .of-kept)
 
       fresh-goes : told fresh p words k (ended line ∷ rest) ≡ unless (causeIn p words frame) k renewed
-      fresh-goes = line-goes fresh p words k line rest o
+      fresh-goes = line-goes fresh p words k line rest (o .of-fresh)
 
       early-wrong : (causeIn p words frame ≡ 0 → ⊥) → Here
       early-wrong n =
           beside-same _ _ (refusal (causeIn p words frame) k) (kept-goes ∙ unless-some _ k _ n) (fresh-goes ∙ unless-some _ k _ n) (λ z. absurd (n z))
 
       -- the links end with it, and nobody is deaf
-      early-ended : Ends p frame × (2 ≤ stageOf (after p frame .stage)) × (after p frame .plan ≡ p .plan) → Beside archived renewed
+      early-ended : Ends p frame × (3 ≤ stageOf (after p frame .stage)) × (after p frame .plan ≡ p .plan) → Beside archived renewed
       early-ended l =
           beside-same _ _ archived refl (later-same (after p frame) (wordsAfter p words frame) (k + 1) rest (l .1))
-          (λ z.
-          ap deafSet (later-plan (after p frame) (wordsAfter p words frame) (k + 1) rest (l .1) z ∙ l .2)
-          ∙ ⊎-elim (λ y. y) (λ n. let f = fresh-deaf p frame (l .0) n in absurd (omega arith)) (equal-or-not (deafSet (p .plan)) 0))
+          (λ z. ap deafSet (later-plan (after p frame) (wordsAfter p words frame) (k + 1) rest (l .1) z ∙ l .2) ∙ o .heard (l .0))
 
-      early-right : (stageOf (after p frame .stage) ≡ 1 → Beside archived renewed) → causeIn p words frame ≡ 0 → Here
+      early-right : Next → causeIn p words frame ≡ 0 → Here
       early-right next c =
           beside-as _ archived _ renewed (kept-goes ∙ unless-none _ k _ c) (fresh-goes ∙ unless-none _ k _ c)
-          (⊎-elim early-ended (λ n. next (n .1)) (early-frame p words frame s c))
+          (⊎-elim early-ended (λ n. next (n .1) (frame-stage p words frame c)) (early-frame p words frame s c))
 
-    early-line : (stageOf (after p frame .stage) ≡ 1 → Beside archived renewed) → Here
+    early-line : Next → Here
     early-line next =
-        ⊎-elim (λ b. early-refused (b .0) (b .1))
-        (λ o. ⊎-elim (early-right o next) (early-wrong o) (equal-or-not (causeIn p words frame) 0)) (fresh-place p frame)
+        ⊎-elim early-missing (⊎-elim early-refused (λ o. ⊎-elim (early-right o next) (early-wrong o) (equal-or-not (causeIn p words frame) 0))) (place p frame)
 
-  early : (p : Progress) (words : List ℕ) (k : ℕ) (lines : List Line) → stageOf (p .stage) ≤ 1 → (stageOf (p .stage) ≡ 0 → deafSet (p .plan) ≡ 0)
+  early : (p : Progress) (words : List ℕ) (k : ℕ) (lines : List Line) → stageOf (p .stage) ≤ 2 → (stageOf (p .stage) ≡ 0 → deafSet (p .plan) ≡ 0)
       → Beside (told kept p words k lines) (told fresh p words k lines)
   unfolding told
   early p words k [] s i = early-end p words k s i
   early p words k (cut line ∷ rest) s i = beside-same _ _ (refusal 1 k) refl refl (λ z. absurd (omega arith))
   early p words k (ended line ∷ rest) s i =
       early-line p words k line rest s
-      (λ e. early (after p (frameOf kinds line)) (wordsAfter p words (frameOf kinds line)) (k + 1) rest (omega arith) (λ z. absurd (omega arith)))
+      (λ e b. early (after p (frameOf kinds line)) (wordsAfter p words (frameOf kinds line)) (k + 1) rest e (λ z. absurd (b z)))
 
   -- ---- the file
 

@@ -6,29 +6,30 @@ use mathlib.Core.List.{List, [], _∷_}
 use native.Mathlib.Omega.{arith}
 use Rattle.lines.specs.declared.Rounds.{Rounds}
 use Rattle.lines.specs.declared.Frame.{Frame}
-use Rattle.lines.specs.declared.Frame.the-variants.{Foreign, Unknown, Head, Link, FaultSet, Start, Message}
+use Rattle.lines.specs.declared.Frame.the-variants.{Foreign, Unknown, Head, Link, Group, FaultSet, Start, Message}
 use Rattle.lines.specs.Frames.{frameOf}
 use Rattle.frames.specs.declared.Progress.{Progress}
 use Rattle.frames.specs.declared.Reader.{Reader}
 use Rattle.frames.specs.Lines.{Line, ended, cut, linesFrom}
 use Rattle.frames.specs.Reading.{runKinds, runReader, stageOf, roundsOf, nothingRead, noWords, causeIn, after, wordsAfter, Reading, told, reading, runReading}
 use Rattle.frames.specs.Tells.{Tells}
-use Rattle.frames.proofs.Accepted.{head-accepted, link-accepted, fault-set-accepted, start-accepted, line-read, told-keeps, text-read, run-is}
+use Rattle.frames.proofs.Accepted.{head-accepted, link-accepted, group-accepted, fault-set-accepted, start-accepted, line-read, told-keeps, text-read, run-is}
 
 -- ---- after the start
 
 -- only a word is accepted there, and what is known stays
-frame-stays : (p : Progress) (words : List ℕ) (frame : Frame) → stageOf (p .stage) ≡ 3 → causeIn p words frame ≡ 0 → after p frame ≡ p
+frame-stays : (p : Progress) (words : List ℕ) (frame : Frame) → stageOf (p .stage) ≡ 4 → causeIn p words frame ≡ 0 → after p frame ≡ p
 unfolding after
 frame-stays p words Foreign s h = refl
 frame-stays p words Unknown s h = refl
 frame-stays p words (Head n source f) s h = absurd (omega (arith, head-accepted p words n source f h .0))
 frame-stays p words (Link from to) s h = absurd (omega (arith, link-accepted p words from to h .0))
-frame-stays p words (FaultSet x) s h = absurd (omega (arith, fault-set-accepted p words x h .0))
+frame-stays p words (Group x) s h = absurd (omega (arith, group-accepted p words x h .1))
+frame-stays p words (FaultSet x) s h = absurd (omega (arith, fault-set-accepted p words x h .1))
 frame-stays p words (Start value rounds) s h = absurd (omega (arith, start-accepted p words value rounds h .0))
 frame-stays p words (Message round from to value) s h = refl
 
-told-stays : (reader : Reader) (p : Progress) (words : List ℕ) (k : ℕ) (lines : List Line) → stageOf (p .stage) ≡ 3
+told-stays : (reader : Reader) (p : Progress) (words : List ℕ) (k : ℕ) (lines : List Line) → stageOf (p .stage) ≡ 4
     → told reader p words k lines .number ≡ 0 → told reader p words k lines .progress ≡ p
 told-stays reader p words k lines s =
     told-keeps (λ (q : Progress). q ≡ p) (λ q w f e c. frame-stays q w f (ap (λ (x : Progress). stageOf (x .stage)) e ∙ s) c ∙ e) reader p words k lines refl

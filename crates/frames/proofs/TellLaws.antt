@@ -1,4 +1,4 @@
--- What refuses a link, a bad set, a start or a word, and what an accepted frame keeps. Assumes nothing.
+-- What refuses a head, a link, a group, a bad set, a start or a word, and what an accepted frame keeps. Assumes nothing.
 use Prim.Native.Nat.{ℕ, _-_, _≤_, _<_}
 use mathlib.Core.Path.{_≡_, refl, sym, ap, _∙_}
 use mathlib.Core.Logic.{⊎-elim}
@@ -11,23 +11,48 @@ use borrow.Author.Tests.{eq-eqb, ne-eqb, lt-ltb, le-ltb, le-leb, lt-leb, leb-tru
 use Rattle.sets.specs.Tests.{_or_, pick}
 use Rattle.sets.specs.Causes.{_gives_, firstCause}
 use Rattle.sets.specs.Sets.{mem}
-use Rattle.sets.proofs.Bools.{and-l, and-r, and-yes, and-no-l, and-no-r, or-l, or-r, or-no, not-i, not-yes}
+use Rattle.sets.proofs.Bools.{and-l, and-r, and-i, and-yes, and-no-l, and-no-r, or-l, or-r, or-no, not-i, not-yes}
 use Rattle.sets.proofs.Causes.{cause-here, cause-later, cause-last, given-decides}
 use Rattle.sets.proofs.Laws.{equal-or-not}
-use Rattle.quorum.specs.Quorum.{mostTerminals, inRange}
+use Rattle.quorum.specs.declared.BoundKind.{BoundKind}
+use Rattle.quorum.specs.Quorum.{mostTerminals, mostGroups, noGroups, listed, inRange, others}
 use Rattle.quorum.specs.Words.{mostRounds, startSound, placeOf}
 use Rattle.quorum.proofs.Words.{start-parts}
+use Rattle.plan.specs.declared.Plan.{Plan}
 use Rattle.plan.specs.Plan.{hears}
 use Rattle.faults.specs.Check.{faultCauseOf}
 use Rattle.lines.specs.declared.Rounds.{Rounds}
 use Rattle.lines.specs.declared.Rounds.the-variants.{Left}
 use Rattle.lines.specs.declared.Frame.{Frame}
-use Rattle.lines.specs.declared.Frame.the-variants.{Foreign, Unknown, Head, Link, FaultSet, Start, Message}
-use Rattle.frames.specs.declared.Stage.the-variants.{Links, Faults, Words}
+use Rattle.lines.specs.declared.Frame.the-variants.{Foreign, Unknown, Head, Link, Group, FaultSet, Start, Message}
+use Rattle.frames.specs.declared.Stage.the-variants.{Nothing, Links, Grouped, Faults, Words}
 use Rattle.frames.specs.declared.Progress.{Progress}
 use Rattle.frames.specs.declared.told.Told.{Told}
-use Rattle.frames.specs.Reading.{isAt, roundsOf, linkCause, faultSetCause, startCause, isWord, messageCause, causeIn, linked, after, wordsAfter}
-use Rattle.frames.proofs.Accepted.{head-accepted, link-accepted, start-accepted}
+use Rattle.frames.specs.Reading.{isAt, inPlan, noLinks, kindRead, lists, roundsOf, headCause, linkCause, groupCause, faultSetCause, startCause, isWord, messageCause, causeIn, linked, grouped, after, wordsAfter}
+use Rattle.frames.proofs.Accepted.{head-accepted, link-accepted, group-accepted, start-accepted}
+
+-- ---- a head
+
+-- one in its place, by the bound that it was found to mean
+module _ (p : Progress) (n source f : ℕ) (kind : BoundKind) (e : kind ≡ kindRead f) where
+  pub head-next : record { stage = Links; plan = record { n = n; source = source; bound = record { kind = kind; groups = noGroups }; rows = noLinks }; faulty = 0; value = 0; rounds = 0 }
+      ≡ after p (Head n source f)
+  unfolding after
+  head-next i = record {
+    stage = Links;
+    plan = record { n = n; source = source; bound = record { kind = e i; groups = noGroups }; rows = noLinks };
+    faulty = 0;
+    value = 0;
+    rounds = 0;
+  }
+
+  pub head-right : isAt Nothing p ≡ true → inRange n source kind ≡ true → headCause p n source f ≡ 0
+  unfolding headCause
+  head-right stage h = cause-later _ _ _ (not-yes stage) ∙ cause-last _ _ (not-yes (sym (ap (inRange n source) e) ∙ h))
+
+  pub head-wrong : isAt Nothing p ≡ true → inRange n source kind ≡ false → headCause p n source f ≡ 4
+  unfolding headCause
+  head-wrong stage h = cause-later _ _ _ (not-yes stage) ∙ cause-here _ _ _ (not-i (sym (ap (inRange n source) e) ∙ h))
 
 -- ---- a link
 
@@ -63,9 +88,46 @@ module _ (p : Progress) (from to : ℕ) (stage : isAt Links p ≡ true) where
     pub link-new : hears (p .plan) to from ≡ false → linkCause p from to ≡ 0
     link-new h = link-sound ∙ cause-last _ _ h
 
+-- ---- a group
+
+-- an accepted group is at most the sixteenth
+pub group-room : (p : Progress) (s : ℕ) → groupCause p s ≡ 0 → listed (p .plan .bound .kind) < mostGroups
+unfolding causeIn
+group-room p s h = group-accepted p [] s h .3
+
+module _ (p : Progress) (s : ℕ) where
+  pub group-late : inPlan p ≡ false → groupCause p s ≡ 3
+  unfolding groupCause
+  group-late h = cause-here _ _ _ (not-i (and-no-l _ _ h))
+
+  pub group-unlisted : lists (p .plan .bound .kind) ≡ false → groupCause p s ≡ 3
+  unfolding groupCause
+  group-unlisted h = cause-here _ _ _ (not-i (and-no-r _ _ h))
+
+  -- an accepted one, by the plan that was made of it
+  pub group-next : (plan : Plan) → plan ≡ grouped (p .plan) s → record { stage = Grouped; plan = plan; faulty = 0; value = 0; rounds = 0 } ≡ after p (Group s)
+  unfolding after
+  group-next plan e i = record { stage = Grouped; plan = e i; faulty = 0; value = 0; rounds = 0 }
+
+  module _ (stage : inPlan p ≡ true) (l : lists (p .plan .bound .kind) ≡ true) where
+    pub group-over : mostGroups ≤ listed (p .plan .bound .kind) → groupCause p s ≡ 17
+    unfolding groupCause
+    group-over h =
+        cause-later _ _ _ (not-yes (and-i _ _ stage l)) ∙ cause-here _ _ _ (not-i (and-no-l _ _ (le-ltb (listed (p .plan .bound .kind)) mostGroups h)))
+
+    pub group-wrong : others (p .plan .n) (p .plan .source) s ≡ false → groupCause p s ≡ 17
+    unfolding groupCause
+    group-wrong h = cause-later _ _ _ (not-yes (and-i _ _ stage l)) ∙ cause-here _ _ _ (not-i (and-no-r _ _ h))
+
+    pub group-right : listed (p .plan .bound .kind) < mostGroups → others (p .plan .n) (p .plan .source) s ≡ true → groupCause p s ≡ 0
+    unfolding groupCause
+    group-right h o =
+        cause-later _ _ _ (not-yes (and-i _ _ stage l))
+        ∙ cause-last _ _ (not-yes (and-i _ _ (lt-ltb (listed (p .plan .bound .kind)) mostGroups h) o))
+
 -- ---- a bad set
 
-pub fault-set-at : (p : Progress) (s : ℕ) → isAt Links p ≡ true → faultSetCause p s ≡ faultCauseOf (p .plan) s
+pub fault-set-at : (p : Progress) (s : ℕ) → inPlan p ≡ true → faultSetCause p s ≡ faultCauseOf (p .plan) s
 unfolding faultSetCause
 fault-set-at p s stage =
     cause-later _ _ _ (not-yes stage)
@@ -175,11 +237,12 @@ either false words = refl
 -- an accepted frame leaves at most 20 terminals and 40 rounds
 module _ (p : Progress) (words : List ℕ) (twenty : p .plan .n ≤ mostTerminals) (forty : p .rounds ≤ mostRounds) where
   kept : (frame : Frame) → causeIn p words frame ≡ 0 → (after p frame .plan .n ≤ mostTerminals) × (after p frame .rounds ≤ mostRounds)
-  unfolding inRange after linked
+  unfolding inRange after linked grouped
   kept Foreign h = (twenty, forty)
   kept Unknown h = (twenty, forty)
   kept (Head n source f) h = (leb-true n 20 (and-l _ _ (and-r _ _ (head-accepted p words n source f h .1))), omega arith)
   kept (Link from to) h = (twenty, omega arith)
+  kept (Group s) h = (twenty, omega arith)
   kept (FaultSet s) h = (twenty, omega arith)
   kept (Start value rounds) h = (twenty, start-parts _ _ (start-accepted p words value rounds h .1) .1)
   kept (Message round from to value) h = (twenty, forty)

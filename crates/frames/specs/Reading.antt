@@ -1,4 +1,5 @@
--- A file read line by line: what each frame does, and the causes for which it is refused (document 01, the table of causes). Assumes nothing.
+-- A file read line by line: what each frame does, and the causes for which it is refused (document 01, the table of causes, with document 02's).
+-- Assumes nothing.
 use Prim.Native.Nat.{ℕ, _+_, _-_, _^_}
 use mathlib.Core.Bool.{Bool, true, false, not}
 use mathlib.Core.List.{List, [], _∷_}
@@ -7,7 +8,9 @@ use lib.ListN.{length, getD, set, replicate}
 use Rattle.sets.specs.Tests.{_and_, _or_, pick}
 use Rattle.sets.specs.Causes.{_gives_, firstCause, given}
 use Rattle.sets.specs.Sets.{Terminal, Set, mem, with}
-use Rattle.quorum.specs.Quorum.{mostTerminals, inRange}
+use Rattle.quorum.specs.declared.BoundKind.{BoundKind}
+use Rattle.quorum.specs.declared.BoundKind.the-variants.{Most, Groups}
+use Rattle.quorum.specs.Quorum.{mostTerminals, mostGroups, noGroups, atMost, listed, inRange, others}
 use Rattle.quorum.specs.Words.{mostWords, startSound, placeOf}
 use Rattle.plan.specs.declared.Plan.{Plan}
 use Rattle.plan.specs.Plan.{heardBy, hears}
@@ -16,10 +19,10 @@ use Rattle.faults.specs.Check.{faultCauseOf}
 use Rattle.lines.specs.declared.Rounds.{Rounds}
 use Rattle.lines.specs.declared.Rounds.the-variants.{Given, Left}
 use Rattle.lines.specs.declared.Frame.{Frame}
-use Rattle.lines.specs.declared.Frame.the-variants.{Foreign, Unknown, Head, Link, FaultSet, Start, Message}
+use Rattle.lines.specs.declared.Frame.the-variants.{Foreign, Unknown, Head, Link, Group, FaultSet, Start, Message}
 use Rattle.lines.specs.Frames.{frameOf, numberOf}
 use Rattle.frames.specs.declared.Stage.{Stage}
-use Rattle.frames.specs.declared.Stage.the-variants.{Nothing, Links, Faults, Words}
+use Rattle.frames.specs.declared.Stage.the-variants.{Nothing, Links, Grouped, Faults, Words}
 use Rattle.frames.specs.declared.Progress.{Progress}
 use Rattle.frames.specs.declared.FileRead.{FileRead}
 use Rattle.frames.specs.declared.ArchiveRead.{ArchiveRead}
@@ -32,12 +35,12 @@ use Rattle.frames.specs.Lines.{Line, ended, cut, linesFrom}
 abbrev pub mostBytes : ℕ
 mostBytes = 24576
 
--- plan files have the kinds 01 and 02, run files all five
+-- plan files have the kinds 01, 02 and 07, run files 03 to 05 too
 abbrev pub planKinds : Set
-planKinds = 2 ^ 1 + 2 ^ 2
+planKinds = 2 ^ 1 + 2 ^ 2 + 2 ^ 7
 
 abbrev pub runKinds : Set
-runKinds = 2 ^ 1 + 2 ^ 2 + 2 ^ 3 + 2 ^ 4 + 2 ^ 5
+runKinds = 2 ^ 1 + 2 ^ 2 + 2 ^ 3 + 2 ^ 4 + 2 ^ 5 + 2 ^ 7
 
 -- the readers of new plans and of runs, and that of the archive, which opens plans with a deaf terminal too (document 02, P6)
 abbrev pub planReader : Reader
@@ -51,21 +54,26 @@ archiveReader = record { kinds = planKinds; archive = true }
 
 -- ---- what is known after some lines
 
--- the stages in their order: nothing; the head and perhaps links; the bad set too; the start too and perhaps words
+-- the stages in their order: nothing; the head and perhaps links; groups too; the bad set too; the start too and perhaps words
 abbrev pub stageOf : Stage → ℕ
 stageOf Nothing = 0
 stageOf Links = 1
-stageOf Faults = 2
-stageOf Words = 3
+stageOf Grouped = 2
+stageOf Faults = 3
+stageOf Words = 4
 
 unfoldable pub isAt : Stage → Progress → Bool
 isAt stage p = eqb (stageOf (p .stage)) (stageOf stage)
+
+-- after the head, and while nothing but links and groups has followed
+unfoldable pub inPlan : Progress → Bool
+inPlan p = isAt Links p or isAt Grouped p
 
 abbrev pub noLinks : List ℕ
 noLinks = replicate mostTerminals 0
 
 abbrev pub noPlan : Plan
-noPlan = record { n = 0; source = 0; f = 0; rows = noLinks }
+noPlan = record { n = 0; source = 0; bound = atMost 0; rows = noLinks }
 
 abbrev pub nothingRead : Progress
 nothingRead = record { stage = Nothing; plan = noPlan; faulty = 0; value = 0; rounds = 0 }
@@ -73,6 +81,19 @@ nothingRead = record { stage = Nothing; plan = noPlan; faulty = 0; value = 0; ro
 -- the liars' words, each at its place
 abbrev pub noWords : List ℕ
 noWords = replicate mostWords 0
+
+-- the head's last byte: f, or ff where groups are listed instead (document 02, P10)
+unfoldable pub kindRead : (f : ℕ) → BoundKind
+kindRead f = pick (eqb f 255) (Groups 0) (Most f)
+
+-- groups are listed, not f; and none has been so far
+abbrev pub lists : BoundKind → Bool
+lists (Most f) = false
+lists (Groups count) = true
+
+abbrev pub listsNone : BoundKind → Bool
+listsNone (Most f) = false
+listsNone (Groups count) = eqb count 0
 
 -- the rounds that a start frame means on n terminals: those of its rounds byte, and without it n - 1 (document 02, P2)
 abbrev pub roundsOf : (n : ℕ) → Rounds → ℕ
@@ -82,15 +103,23 @@ roundsOf n Left = n - 1
 -- ---- the number of the first cause that refuses a frame, 0 for none
 
 unfoldable pub headCause : Progress → (n : ℕ) (source : Terminal) (f : ℕ) → ℕ
-headCause p n source f = firstCause (not (isAt Nothing p) gives 3 ∷ not (inRange n source f) gives 4 ∷ [])
+headCause p n source f = firstCause (not (isAt Nothing p) gives 3 ∷ not (inRange n source (kindRead f)) gives 4 ∷ [])
 
 unfoldable pub linkCause : Progress → (from to : Terminal) → ℕ
 linkCause p from to =
     firstCause (not (isAt Links p) gives 3 ∷ (leb (p .plan .n) from or leb (p .plan .n) to or eqb from to) gives 5 ∷ hears (p .plan) to from gives 6 ∷ [])
 
+-- 17: it is the seventeenth, or names the source or a number at or above n
+unfoldable pub groupCause : Progress → (s : Set) → ℕ
+groupCause p s =
+    firstCause
+    (not (inPlan p and lists (p .plan .bound .kind)) gives 3
+    ∷ not (ltb (listed (p .plan .bound .kind)) mostGroups and others (p .plan .n) (p .plan .source) s) gives 17
+    ∷ [])
+
 -- 7 and 8 are those of a library call
 unfoldable pub faultSetCause : Progress → (s : Set) → ℕ
-faultSetCause p s = firstCause (not (isAt Links p) gives 3 ∷ given (faultCauseOf (p .plan) s) ∷ [])
+faultSetCause p s = firstCause (not (inPlan p) gives 3 ∷ given (faultCauseOf (p .plan) s) ∷ [])
 
 unfoldable pub startCause : Progress → (value : ℕ) → Rounds → ℕ
 startCause p value rounds =
@@ -115,47 +144,64 @@ causeIn p words Foreign = numberOf Foreign
 causeIn p words Unknown = numberOf Unknown
 causeIn p words (Head n source f) = headCause p n source f
 causeIn p words (Link from to) = linkCause p from to
+causeIn p words (Group s) = groupCause p s
 causeIn p words (FaultSet s) = faultSetCause p s
 causeIn p words (Start value rounds) = startCause p value rounds
 causeIn p words (Message round from to value) = messageCause p words round from to value
 
--- ---- where the links end (document 02, P6): at the first line after the head that passes 1 and 2 and is not a link, or else at the end of the file
+-- ---- where the links end (document 02, P6 and P10): at the first line after the head that passes 1 and 2 and is not a link, nor, where groups are
+-- listed, a group; or else at the end of the file
 
--- a line with this frame passes 1 and 2 and is not a link
-unfoldable pub endsLinks : Frame → Bool
-endsLinks Foreign = false
-endsLinks Unknown = false
-endsLinks (Head n source f) = true
-endsLinks (Link from to) = false
-endsLinks (FaultSet s) = true
-endsLinks (Start value rounds) = true
-endsLinks (Message round from to value) = true
+-- a line with this frame passes 1 and 2 and is neither
+unfoldable pub endsLinks : BoundKind → Frame → Bool
+endsLinks kind Foreign = false
+endsLinks kind Unknown = false
+endsLinks kind (Head n source f) = true
+endsLinks kind (Link from to) = false
+endsLinks kind (Group s) = not (lists kind)
+endsLinks kind (FaultSet s) = true
+endsLinks kind (Start value rounds) = true
+endsLinks kind (Message round from to value) = true
 
--- the number of the first cause that is looked at there, 0 for none: after the head, and while nothing but links has followed
+-- the number of the first cause that is looked at there, 0 for none: no group, and a deaf terminal
 unfoldable pub linksCause : Reader → Progress → ℕ
-linksCause reader p = firstCause ((isAt Links p and not (reader .archive) and not (eqb (deafSet (p .plan)) 0)) gives 15 ∷ [])
+linksCause reader p =
+    firstCause
+    ((inPlan p and listsNone (p .plan .bound .kind)) gives 17
+    ∷ (inPlan p and not (reader .archive) and not (eqb (deafSet (p .plan)) 0)) gives 15
+    ∷ [])
 
 -- the same of a line, if the links end there
 unfoldable pub endCause : Reader → Progress → Frame → ℕ
-endCause reader p frame = pick (endsLinks frame) (linksCause reader p) 0
+endCause reader p frame = pick (endsLinks (p .plan .bound .kind) frame) (linksCause reader p) 0
 
 -- ---- what an accepted frame adds
 
 -- the plan with one link more: `to` hears `from`
 unfoldable pub linked : Plan → (from to : Terminal) → Plan
-linked p from to = record { n = p .n; source = p .source; f = p .f; rows = set (p .rows) to (with 32 (heardBy p to) from) }
+linked p from to = record { n = p .n; source = p .source; bound = p .bound; rows = set (p .rows) to (with 32 (heardBy p to) from) }
+
+-- and with one group more, after those that are listed
+unfoldable pub grouped : Plan → (s : Set) → Plan
+grouped p s = record {
+  n = p .n;
+  source = p .source;
+  bound = record { kind = Groups (listed (p .bound .kind) + 1); groups = set (p .bound .groups) (listed (p .bound .kind)) s };
+  rows = p .rows;
+}
 
 unfoldable pub after : Progress → Frame → Progress
 after p Foreign = p
 after p Unknown = p
 after p (Head n source f) = record {
   stage = Links;
-  plan = record { n = n; source = source; f = f; rows = noLinks };
+  plan = record { n = n; source = source; bound = record { kind = kindRead f; groups = noGroups }; rows = noLinks };
   faulty = 0;
   value = 0;
   rounds = 0;
 }
 after p (Link from to) = record { stage = Links; plan = linked (p .plan) from to; faulty = 0; value = 0; rounds = 0 }
+after p (Group s) = record { stage = Grouped; plan = grouped (p .plan) s; faulty = 0; value = 0; rounds = 0 }
 after p (FaultSet s) = record { stage = Faults; plan = p .plan; faulty = s; value = 0; rounds = 0 }
 after p (Start value rounds) = record {
   stage = Words;
@@ -171,6 +217,7 @@ wordsAfter p words Foreign = words
 wordsAfter p words Unknown = words
 wordsAfter p words (Head n source f) = words
 wordsAfter p words (Link from to) = words
+wordsAfter p words (Group s) = words
 wordsAfter p words (FaultSet s) = words
 wordsAfter p words (Start value rounds) = words
 wordsAfter p words (Message round from to value) = set words (placeOf (p .plan .n) round from to) value

@@ -1,9 +1,10 @@
--- That a file tells a frame: one of its lines is it. Assumes nothing.
+-- What a file tells: a frame, where one of its lines is it, and its groups in their order. Assumes nothing.
 use mathlib.Core.Path.{_≡_}
 use mathlib.Core.Logic.{_⊎_}
 use mathlib.Core.List.{List, [], _∷_}
 use Rattle.sets.specs.Sets.{Set}
 use Rattle.lines.specs.declared.Frame.{Frame}
+use Rattle.lines.specs.declared.Frame.the-variants.{Foreign, Unknown, Head, Link, Group, FaultSet, Start, Message}
 use Rattle.lines.specs.Frames.{frameOf}
 use Rattle.frames.specs.Lines.{Line, ended, cut}
 
@@ -12,3 +13,19 @@ abbrev pub Tells : (kinds : Set) → Frame → List Line → Type 0
 Tells kinds frame [] = ⊥
 Tells kinds frame (cut line ∷ rest) = Tells kinds frame rest
 Tells kinds frame (ended line ∷ rest) = (frameOf kinds line ≡ frame) ⊎ Tells kinds frame rest
+
+-- the groups that the lines tell, in their order
+abbrev pub groupBefore : Frame → List Set → List Set
+groupBefore Foreign rest = rest
+groupBefore Unknown rest = rest
+groupBefore (Head n source f) rest = rest
+groupBefore (Link from to) rest = rest
+groupBefore (Group s) rest = s ∷ rest
+groupBefore (FaultSet s) rest = rest
+groupBefore (Start value rounds) rest = rest
+groupBefore (Message round from to value) rest = rest
+
+abbrev pub groupsIn : (kinds : Set) → List Line → List Set
+groupsIn kinds [] = []
+groupsIn kinds (cut line ∷ rest) = groupsIn kinds rest
+groupsIn kinds (ended line ∷ rest) = groupBefore (frameOf kinds line) (groupsIn kinds rest)

@@ -6,19 +6,21 @@ mod told;
 ghost use mathlib.Core.Path.{_≡_};
 ghost use Prim.Native.Nat.{_+_, _<_, _≤_};
 ghost use lib.ListN.{length};
-ghost use Rattle.frames.specs.Reading.{mostBytes, stageOf, isAt, nothingRead, noWords, refusal, reading, planReading, archiveReading, fileRead, archiveRead, runFile, wordsRead};
+ghost use Rattle.frames.specs.Reading.{mostBytes, stageOf, isAt, inPlan, nothingRead, noWords, refusal, reading, planReading, archiveReading, fileRead, archiveRead, runFile, wordsRead};
 ghost use Rattle.frames.specs.Pass.{Going};
 use plan::Plan;
+use quorum::Bound;
+use quorum::BoundKind;
 
 // The bytes of a file, and the words of a run.
 const MOST_BYTES: usize = 24576;
 
 const MOST_WORDS: usize = 16000;
 
-// The kinds of a plan file, 01 and 02, and of a run file, 01 to 05: bit i for kind i.
-const PLAN_KINDS: u32 = 6;
+// The kinds of a plan file, 01, 02 and 07, and of a run file, 01 to 05 and 07: bit i for kind i.
+const PLAN_KINDS: u32 = 134;
 
-const RUN_KINDS: u32 = 62;
+const RUN_KINDS: u32 = 190;
 
 // What a reader opens: the kinds of frame that it knows, and whether plans with a deaf terminal too, as
 // that of the archive does.
@@ -27,11 +29,12 @@ pub struct Reader {
     pub archive: bool,
 }
 
-// How far a file was read: nothing; the head and perhaps links; the fault set too; the start too and
-// perhaps words.
+// How far a file was read: nothing; the head and perhaps links; groups too; the fault set too; the start
+// too and perhaps words.
 pub enum Stage {
     Nothing,
     Links,
+    Grouped,
     Faults,
     Words,
 }
@@ -66,8 +69,9 @@ fn order(stage: Stage) -> u8
     match stage {
         Stage::Nothing => 0,
         Stage::Links => 1,
-        Stage::Faults => 2,
-        Stage::Words => 3,
+        Stage::Grouped => 2,
+        Stage::Faults => 3,
+        Stage::Words => 4,
     }
 }
 
@@ -76,6 +80,16 @@ pub(crate) fn is_at(stage: Stage, p: Progress) -> bool
 {
     let now = p.stage;
     order(now) == order(stage)
+}
+
+// After the head, and while nothing but links and groups has followed.
+pub(crate) fn in_plan(p: Progress) -> bool
+    ensures { λ r. ⌜ r ≡ inPlan p ⌝ }
+{
+    if is_at(Stage::Links, p) {
+        return true;
+    }
+    is_at(Stage::Grouped, p)
 }
 
 // A refused file: its number and line, and only zeros beside them.
@@ -90,7 +104,10 @@ fn refusal(number: u8, line: u16) -> FileRead
             plan: Plan {
                 n: 0,
                 source: 0,
-                f: 0,
+                bound: Bound {
+                    kind: BoundKind::Most(0),
+                    groups: [0u32; 16],
+                },
                 rows: [0u32; 20],
             },
             faulty: 0,
@@ -199,7 +216,7 @@ fn read(reader: Reader, text: &[u8], words: &mut [u16]) -> FileRead
     read_lines(reader, text, words)
 }
 
-// The plan of a file with heads and links only, of which every terminal but the source hears somebody.
+// The plan of a file with head, links and groups only, of which every terminal but the source hears somebody.
 pub fn read_plan(text: &[u8]) -> FileRead
     ensures { λ r. ⌜ r ≡ fileRead (planReading (now (text .entry))) ⌝ }
 {

@@ -4,16 +4,19 @@ ghost use Prim.Native.Nat.{_<_, _≤_};
 ghost use lib.Dec.{eqb};
 ghost use lib.ListN.{length, set};
 ghost use Rattle.sets.specs.Tests.{pick};
-ghost use Rattle.lines.specs.declared.Frame.the-variants.{Head, Link, FaultSet, Start};
-ghost use Rattle.quorum.specs.Quorum.{mostTerminals};
+ghost use Rattle.lines.specs.declared.Frame.the-variants.{Head, Link, Group, FaultSet, Start};
+ghost use Rattle.quorum.specs.Quorum.{mostTerminals, mostGroups, listed};
 ghost use Rattle.quorum.specs.Words.{mostRounds, mostWords, placeOf};
-ghost use Rattle.frames.specs.Reading.{roundsOf, headCause, linkCause, faultSetCause, startCause, isWord, messageCause, causeIn, linked, after, wordsAfter};
+ghost use Rattle.frames.specs.Reading.{kindRead, lists, roundsOf, headCause, linkCause, groupCause, faultSetCause, startCause, isWord, messageCause, causeIn, linked, grouped, after, wordsAfter};
 use super::Progress;
 use super::Stage;
+use super::in_plan;
 use super::is_at;
 use lines::Frame;
 use lines::Rounds;
 use plan::Plan;
+use quorum::Bound;
+use quorum::BoundKind;
 
 // The cause that refuses a frame, 0 for none; and what is known after it where it is accepted.
 pub(crate) struct Told {
@@ -21,11 +24,22 @@ pub(crate) struct Told {
     pub progress: Progress,
 }
 
+// The head's last byte: f, or ff where groups are listed instead.
+fn kind_read(f: u8) -> BoundKind
+    ensures { λ r. ⌜ r ≡ kindRead f ⌝ }
+{
+    if f == 255 {
+        return BoundKind::Groups(0);
+    }
+    BoundKind::Most(f as usize)
+}
+
 fn head(p: Progress, n: u8, source: u8, f: u8) -> Told
     ensures { λ r. ⌜ (r .cause ≡ headCause p n source f) × (r .cause ≡ 0 → r .progress ≡ after p (Head n source f)) ⌝ }
 {
+    let kind = kind_read(f);
     if is_at(Stage::Nothing, p) {
-        if quorum::in_range(n as usize, source as usize, f as usize) {
+        if quorum::in_range(n as usize, source as usize, kind) {
             return Told {
                 cause: 0,
                 progress: Progress {
@@ -33,7 +47,10 @@ fn head(p: Progress, n: u8, source: u8, f: u8) -> Told
                     plan: Plan {
                         n: n as usize,
                         source: source as usize,
-                        f: f as usize,
+                        bound: Bound {
+                            kind: kind,
+                            groups: [0u32; 16],
+                        },
                         rows: [0u32; 20],
                     },
                     faulty: 0,
@@ -59,11 +76,12 @@ fn with_link(p: Plan, from: usize, to: usize) -> Plan
     ensures { λ r. ⌜ r ≡ linked p from to ⌝ }
 {
     let mut rows = p.rows;
+    let bound = p.bound;
     rows[to] = sets::with(rows[to], from);
     Plan {
         n: p.n,
         source: p.source,
-        f: p.f,
+        bound: bound,
         rows: rows,
     }
 }
@@ -116,11 +134,85 @@ fn link(p: Progress, from: usize, to: usize) -> Told
     }
 }
 
+// Groups are listed, not f.
+pub(crate) fn lists(kind: BoundKind) -> bool
+    ensures { λ r. ⌜ r ≡ lists kind ⌝ }
+{
+    match kind {
+        BoundKind::Most(_) => false,
+        BoundKind::Groups(_) => true,
+    }
+}
+
+// The plan with one group more, after those that are listed.
+fn with_group(p: Plan, s: u32) -> Plan
+    requires { ⌜ listed (p .bound .kind) < mostGroups ⌝ }
+    ensures { λ r. ⌜ r ≡ grouped p s ⌝ }
+{
+    let bound = p.bound;
+    let rows = p.rows;
+    let kind = bound.kind;
+    let count = quorum::listed(kind);
+    let mut groups = bound.groups;
+    groups[count] = s;
+    Plan {
+        n: p.n,
+        source: p.source,
+        bound: Bound {
+            kind: BoundKind::Groups(count + 1),
+            groups: groups,
+        },
+        rows: rows,
+    }
+}
+
+fn group_cause(p: Progress, s: u32) -> u8
+    ensures { λ r. ⌜ r ≡ groupCause p s ⌝ }
+{
+    let plan = p.plan;
+    let bound = plan.bound;
+    let kind = bound.kind;
+    if in_plan(p) {
+        if lists(kind) {
+            if quorum::listed(kind) < 16 {
+                if quorum::others(plan.n, plan.source, s) {
+                    return 0;
+                }
+            }
+            return 17;
+        }
+    }
+    3
+}
+
+fn group(p: Progress, s: u32) -> Told
+    ensures { λ r. ⌜ (r .cause ≡ groupCause p s) × (r .cause ≡ 0 → r .progress ≡ after p (Group s)) ⌝ }
+{
+    let plan = p.plan;
+    let cause = group_cause(p, s);
+    if cause != 0 {
+        return Told {
+            cause: cause,
+            progress: p,
+        };
+    }
+    Told {
+        cause: 0,
+        progress: Progress {
+            stage: Stage::Grouped,
+            plan: with_group(plan, s),
+            faulty: 0,
+            value: 0,
+            rounds: 0,
+        },
+    }
+}
+
 fn fault_set(p: Progress, s: u32) -> Told
     ensures { λ r. ⌜ (r .cause ≡ faultSetCause p s) × (r .cause ≡ 0 → r .progress ≡ after p (FaultSet s)) ⌝ }
 {
     let plan = p.plan;
-    if is_at(Stage::Links, p) {
+    if in_plan(p) {
         let cause = faults::number(faults::check_fault_set(plan, s));
         if cause != 0 {
             return Told {
@@ -263,6 +355,7 @@ pub(crate) fn tell(p: Progress, words: &mut [u16], frame: Frame) -> Told
         },
         Frame::Head(n, source, f) => head(p, n, source, f),
         Frame::Link(from, to) => link(p, from as usize, to as usize),
+        Frame::Group(s) => group(p, s),
         Frame::FaultSet(s) => fault_set(p, s),
         Frame::Start(value, rounds) => start(p, value, rounds),
         Frame::Message(round, from, to, value) => Told {

@@ -14,7 +14,7 @@ use Rattle.sets.proofs.Tables.{table-length, table-is}
 use Rattle.lines.specs.declared.Frame.{Frame}
 use Rattle.lines.specs.declared.Frame.the-variants.{Foreign, Unknown}
 use Rattle.lines.specs.Bytes.{wellFormed, byteAt, bytesOf}
-use Rattle.lines.specs.Frames.{headOf, linkOf, faultSetOf, startOf, messageOf, kindOf, knownFrame, frameOf}
+use Rattle.lines.specs.Frames.{headOf, linkOf, groupOf, faultSetOf, startOf, messageOf, kindOf, knownFrame, frameOf}
 
 pub formed-length : (line : List ℕ) → wellFormed line ≡ true → 1 < length line
 unfolding wellFormed
@@ -40,12 +40,13 @@ module _ (bytes : List ℕ) (long : 6 < length bytes) where
   longer k frame rest h e = pick-no _ _ _ (ne-eqb (length bytes) k (λ z. omega arith)) ∙ e
 
   kind-unknown : (kind : ℕ) → kindOf kind bytes ≡ Unknown
-  unfolding kindOf headOf linkOf faultSetOf startOf messageOf
+  unfolding kindOf headOf linkOf groupOf faultSetOf startOf messageOf
   kind-unknown kind =
-      both-unknown _ _ _ (longer 4 _ _ (omega arith) refl)
-      (both-unknown _ _ _ (longer 3 _ _ (omega arith) refl)
-      (both-unknown _ _ _ (longer 4 _ _ (omega arith) refl)
-      (both-unknown _ _ _ (longer 4 _ _ (omega arith) (longer 3 _ _ (omega arith) refl)) (both-unknown _ _ _ (longer 6 _ _ (omega arith) refl) refl))))
+      both-unknown _ _ _ (longer _ _ _ (omega arith) refl)
+      (both-unknown _ _ _ (longer _ _ _ (omega arith) refl)
+      (both-unknown _ _ _ (longer _ _ _ (omega arith) refl)
+      (both-unknown _ _ _ (longer _ _ _ (omega arith) (longer _ _ _ (omega arith) refl))
+      (both-unknown _ _ _ (longer _ _ _ (omega arith) refl) (both-unknown _ _ _ (longer _ _ _ (omega arith) refl) refl)))))
 
   long-unknown : (kinds : ℕ) → knownFrame kinds bytes ≡ Unknown
   unfolding knownFrame

@@ -4,7 +4,7 @@ ghost use mathlib.Core.Bool.{true};
 ghost use Prim.Native.Nat.{ℕ, _+_, _<_};
 ghost use lib.ListN.{length, getD};
 ghost use Rattle.lines.specs.Bytes.{byteAt, wellFormed};
-ghost use Rattle.lines.specs.Frames.{pairAt, tripleAt, headOf, linkOf, faultSetOf, startOf, messageOf, kindOf, knownFrame, frameOf};
+ghost use Rattle.lines.specs.Frames.{pairAt, tripleAt, headOf, linkOf, groupOf, faultSetOf, startOf, messageOf, kindOf, knownFrame, frameOf};
 use digits::Digit;
 
 // What a line says. Foreign is no whole number of hexadecimal bytes; Unknown is a kind that the
@@ -14,6 +14,7 @@ pub enum Frame {
     Unknown,
     Head(u8, u8, u8),
     Link(u8, u8),
+    Group(u32),
     FaultSet(u32),
     Start(u16, Rounds),
     Message(u8, u8, u8, u16),
@@ -106,6 +107,15 @@ fn link_of(bytes: &[u8]) -> Frame
     Frame::Unknown
 }
 
+fn group_of(bytes: &[u8]) -> Frame
+    ensures { λ r. ⌜ r ≡ groupOf (now (bytes .entry)) ⌝ }
+{
+    if bytes.len() == 4 {
+        return Frame::Group(triple_at(bytes, 1));
+    }
+    Frame::Unknown
+}
+
 fn fault_set_of(bytes: &[u8]) -> Frame
     ensures { λ r. ⌜ r ≡ faultSetOf (now (bytes .entry)) ⌝ }
 {
@@ -154,6 +164,9 @@ fn kind_of(kind: u8, bytes: &[u8]) -> Frame
     }
     if kind == 5 {
         return message_of(bytes);
+    }
+    if kind == 7 {
+        return group_of(bytes);
     }
     Frame::Unknown
 }

@@ -11,6 +11,7 @@ use Rattle.sets.specs.Sets.{mem, size, singleton}
 use Rattle.sets.proofs.Bools.{clash, decide, or-e}
 use Rattle.sets.proofs.Laws.{mem-below, mem-zero}
 use Rattle.sets.proofs.Masks.{mem-or}
+use Rattle.quorum.specs.declared.BoundKind.the-variants.{Most}
 use Rattle.plan.specs.declared.Plan.{Plan}
 use Rattle.plan.specs.Plan.{causeOf}
 use Rattle.plan.proofs.Laws.{sound}
@@ -20,21 +21,23 @@ use Rattle.closure.proofs.Faults.{fault-below, fault-source}
 use Rattle.closure.proofs.Growth.{joins-source, reached-closed, reached-source}
 use Rattle.closure.proofs.Witness.{IsBest, best-below, defeats-fault}
 use Rattle.partition.specs.declared.search.Best.{Best}
-use Rattle.partition.specs.Search.{direct, key, StandsFor, Between, Part, Least}
+use Rattle.partition.specs.Search.{direct, key, StandsFor, Between, Part, Least, Any}
 use Rattle.partition.proofs.Rows.{direct-mem, direct-below, one-below, one-only, one-mem}
+use Rattle.partition.proofs.Leasts.{least-among}
 use Rattle.partition.proofs.Members.{key-low, key-members, key-set, size-twenty}
 
 module _ (p : Plan) (e : causeOf p ≡ 0) (one : ℕ) (q : one ≡ singleton 32 (p .source)) where
   -- the whole search: no fault set has the source, and the source and its hearers are settled
-  pub whole : (hearers : ℕ) → hearers ≡ direct (p .rows) (p .source) → Part p hearers 0 one (bitOr one hearers)
-  whole hearers d = record {
+  pub whole : (f : ℕ) → p .bound .kind ≡ Most f → (hearers : ℕ) → hearers ≡ direct (p .rows) (p .source) → Part p f hearers 0 one (bitOr one hearers)
+  whole f m hearers d = record {
     plan = e;
+    bound-is = m;
     hearers-are = d;
     inn-below = pow-pos (p .n);
     out-below = one-below p (sound p e) one q;
     known-below = or-lt (p .n) one hearers (one-below p (sound p e) one q) (direct-below p (sound p e) hearers d);
     source-out = one-mem p (sound p e) one q;
-    settled = λ s t w i m. ⊎-elim (λ v. inr (at-source s i (one-only p (sound p e) one q i v))) (hearing s i) (or-e _ _ (sym (mem-or i one hearers) ∙ m));
+    settled = λ s t w i v. ⊎-elim (λ u. inr (at-source s i (one-only p (sound p e) one q i u))) (hearing s i) (or-e _ _ (sym (mem-or i one hearers) ∙ v));
   }
     where
       at-source : (s i : ℕ) → i ≡ p .source → mem i (reached p s) ≡ true
@@ -52,6 +55,10 @@ module _ (p : Plan) (e : causeOf p ≡ 0) (one : ℕ) (q : one ≡ singleton 32 
     lacks = λ i m. subst (λ (x : ℕ). mem x s ≡ false) (sym (one-only p (sound p e) one q i m)) (fault-source p s (defeats-fault p s d));
   }
 
+  pub whole-all : {best r : ℕ} → Least p (Between 0 one) best r → Least p Any best r
+  whole-all = least-among (λ s d a. between s d)
+
+module _ (p : Plan) (e : causeOf p ≡ 0) where
   below : (s : ℕ) → defeats p s ≡ true → s < 2 ^ p .n
   below s d = fault-below p s (defeats-fault p s d)
 
@@ -71,7 +78,7 @@ module _ (p : Plan) (e : causeOf p ≡ 0) (one : ℕ) (q : one ≡ singleton 32 
       ⊎-elim (λ l. omega arith) (λ l. omega arith) a
 
   -- the least key is the definition's best set
-  pub stands : (r : ℕ) → Least p 0 one 22020096 r → (made : Best) → made .members ≡ r / 1048576 → made .set ≡ r % 1048576
+  pub stands : (r : ℕ) → Least p Any 22020096 r → (made : Best) → made .members ≡ r / 1048576 → made .set ≡ r % 1048576
       → StandsFor (p .n) made (bestBelow p (2 ^ p .n))
   unfolding StandsFor IsBest
   stands r h made m c = go (bestBelow p (2 ^ p .n)) (best-below p (2 ^ p .n))
@@ -83,10 +90,10 @@ module _ (p : Plan) (e : causeOf p ≡ 0) (one : ℕ) (q : one ≡ singleton 32 
         where
           same : (r ≡ 22020096) ⊎ ((s : ℕ) × (defeats p s ≡ true) × (r ≡ key s)) → StandsFor (p .n) made (found t)
           same (inl v) =
-              let l : r ≤ key t = h .below t (b .1) (between t (b .1)) in
+              let l : r ≤ key t = h .below t (b .1) tt in
               absurd (omega (arith, key-low t (low t (b .1))))
           same (inr (s, d, v)) =
-              let l : r ≤ key t = h .below t (b .1) (between t (b .1)) in
+              let l : r ≤ key t = h .below t (b .1) tt in
               let g : key t ≤ key s = ahead-key t s (b .1) d (b .2 s (below s d) d) in
               let w : r ≡ key t = omega arith in (
                 c ∙ ap (λ (y : ℕ). y % 1048576) w ∙ key-set t (low t (b .1)),

@@ -13,7 +13,9 @@ use mir.Val.{boolByte}
 use borrow.Author.Tests.{ltb-true, ltb-false}
 use Rattle.sets.specs.Tests.{_and_, _implies_}
 use Rattle.sets.specs.Sets.{mem, all, count, size, outside}
-use Rattle.quorum.specs.Quorum.{enough}
+use Rattle.quorum.specs.declared.BoundKind.the-variants.{Most}
+use Rattle.quorum.specs.Quorum.{atMost, enough}
+use Rattle.quorum.proofs.Laws.{enough-most}
 use Rattle.sets.proofs.Bools.{clash, decide, and-l, and-r, and-i, and-no-r, or-e, or-l, or-r, not-i, not-e, not-yes, no-by, implies-i, implies-e}
 use Rattle.sets.proofs.Laws.{mem-zero, mem-below, mask-lt, all-i, all-at, some-member}
 use Rattle.sets.proofs.Masks.{mem-and, mem-or, mem-not, ones-count}
@@ -27,8 +29,8 @@ use Rattle.closure.proofs.Faults.{fault-below, fault-bound, hears-enough-mono}
 use Rattle.closure.proofs.Growth.{joins-enough, reached-closed}
 use Rattle.closure.proofs.Witness.{cut-below, cut-good, cut-unreached, defeats-fault, defeats-cuts}
 use Rattle.partition.specs.Search.{key, Inside, Apart, Settled, Hopeless, Closed, Spread, Grown}
-use Rattle.faults.specs.Rows.{over}
-use Rattle.faults.proofs.Rows.{over-mem, over-below, over-why, over-low, word-of}
+use Rattle.faults.specs.Rows.{over, hearing}
+use Rattle.faults.proofs.Rows.{hearing-mem, hearing-below, over-hearing, over-why, over-low, word-of}
 use Rattle.partition.proofs.Members.{outside-i, count-split, count-join, grows, inside-le, key-later, size-twenty}
 
 -- ---- a set with whoever joins it
@@ -42,22 +44,22 @@ pub record Spreading (p : Plan) (s wall l : ℕ) : Type 0 where
 pub spreading-start : (p : Plan) (s wall : ℕ) → s < 2 ^ p .n → Spreading p s wall s
 spreading-start p s wall h = record { below = h; has = λ i m. m; least = λ t i c. i }
 
-module _ (p : Plan) (sound : Sound p) (s wall l o : ℕ) (w : wall < 2 ^ 32) (h : Spreading p s wall l) (e : o ≡ over (p .rows) (p .f) l) where
+module _ (p : Plan) (sound : Sound p) (s wall l o : ℕ) (w : wall < 2 ^ 32) (h : Spreading p s wall l) (e : o ≡ hearing (p .rows) (p .bound) l) where
   outer : (b : ℕ) → b < p .n → mem b (4294967295 - wall) ≡ not (mem b wall)
   outer b k = mem-not 32 b wall w (let t = sound .twenty in omega arith)
 
   joining : (t : ℕ) → Inside s t → Closed p wall t → Inside (bitAnd o (4294967295 - wall)) t
   joining t i c b m =
       let both = sym (mem-and b o (4294967295 - wall)) ∙ m in
-      let k = mem-below (p .n) b o (over-below p sound l o e) (and-l _ _ both) in
+      let k = mem-below (p .n) b o (hearing-below p sound l o e) (and-l _ _ both) in
       c b k (not-e _ (sym (outer b k) ∙ and-r _ _ both))
-      (hears-enough-mono p b l t (λ a x. h .least t i c a) (sym (over-mem p sound l o b e k) ∙ and-l _ _ both))
+      (hears-enough-mono p b l t (λ a x. h .least t i c a) (sym (hearing-mem p sound l o b e k) ∙ and-l _ _ both))
 
   pub spreading-next : Spreading p s wall (bitOr l (bitAnd o (4294967295 - wall)))
   spreading-next = record {
     below =
         or-lt (p .n) l (bitAnd o (4294967295 - wall)) (h .below)
-        (lt-of-le-of-lt (and-le-l o (4294967295 - wall)) (over-below p sound l o e));
+        (lt-of-le-of-lt (and-le-l o (4294967295 - wall)) (hearing-below p sound l o e));
     has = λ i m. mem-or i l (bitAnd o (4294967295 - wall)) ∙ or-l _ _ (h .has i m);
     least = λ t i c b m. ⊎-elim (h .least t i c b) (joining t i c b) (or-e _ _ (sym (mem-or b l (bitAnd o (4294967295 - wall))) ∙ m));
   }
@@ -74,7 +76,7 @@ module _ (p : Plan) (sound : Sound p) (s wall l o : ℕ) (w : wall < 2 ^ 32) (h 
     has = h .has;
     closed = λ b k g y.
         sym (ap (mem b) q) ∙ mem-or b l (bitAnd o (4294967295 - wall))
-        ∙ or-r _ _ (mem-and b o (4294967295 - wall) ∙ and-i _ _ (over-mem p sound l o b e k ∙ y) (outer b k ∙ not-i g));
+        ∙ or-r _ _ (mem-and b o (4294967295 - wall) ∙ and-i _ _ (hearing-mem p sound l o b e k ∙ y) (outer b k ∙ not-i g));
     least = h .least;
   }
 
@@ -97,9 +99,10 @@ module _ {p : Plan} {inn r : ℕ} (h : Spread p inn 0 r) where
 abbrev ears : Plan → ℕ → ℕ → ℕ
 ears p b s = count (p .n) (λ a. hears p b a and mem a s)
 
-ears-few : (p : Plan) (b s : ℕ) → hearsEnough p b s ≡ false → ears p b s ≤ p .f
-unfolding hearsEnough enough
-ears-few p b s e = ltb-false (p .f) (ears p b s) e
+-- by a bound f, who hears not enough hears at most f
+ears-few : (p : Plan) (f : ℕ) → p .bound .kind ≡ Most f → (b s : ℕ) → hearsEnough p b s ≡ false → ears p b s ≤ f
+unfolding hearsEnough
+ears-few p f m b s e = ltb-false f (ears p b s) (sym (enough-most (p .n) (p .bound) (λ a. hears p b a and mem a s) f m) ∙ e)
 
 module _ (p : Plan) (sound : Sound p) (s : ℕ) (i : isFaultSet p s ≡ true) (known : ℕ) (u : Settled p s known) (b : ℕ) (k : b < p .n) where
   hearing-reached : hearsEnough p b (reached p s) ≡ true → (mem b s ≡ true) ⊎ (mem b (reached p s) ≡ true)
@@ -118,15 +121,16 @@ module _ (p : Plan) (sound : Sound p) (s : ℕ) (i : isFaultSet p s ≡ true) (k
       h)
 
   -- of more than 2 f settled ones that a good terminal hears, at most f are faulty
-  pub far-settled : enough (p .n) (2 * p .f) (λ a. hears p b a and mem a known) ≡ true → (mem b s ≡ true) ⊎ (mem b (reached p s) ≡ true)
+  pub far-settled : (f : ℕ) → p .bound .kind ≡ Most f → enough (p .n) (atMost (2 * f)) (λ a. hears p b a and mem a known) ≡ true
+      → (mem b s ≡ true) ⊎ (mem b (reached p s) ≡ true)
   unfolding enough
-  far-settled h = ⊎-elim inl (λ g. ⊎-elim hearing-reached (λ r. absurd (few g r)) (decide (hearsEnough p b (reached p s)))) (decide (mem b s))
+  far-settled f m h = ⊎-elim inl (λ g. ⊎-elim hearing-reached (λ r. absurd (few g r)) (decide (hearsEnough p b (reached p s)))) (decide (mem b s))
     where
       few : mem b s ≡ false → hearsEnough p b (reached p s) ≡ false → ⊥
       few g r =
-          let c : 2 * p .f < ears p b known = ltb-true (2 * p .f) (ears p b known) h in
-          let x : ears p b s ≤ p .f = ears-few p b s (fault-bound p s i b k g) in
-          let y : ears p b (reached p s) ≤ p .f = ears-few p b (reached p s) r in
+          let c : 2 * f < ears p b known = ltb-true (2 * f) (ears p b known) h in
+          let x : ears p b s ≤ f = ears-few p f m b s (fault-bound p s i b k g) in
+          let y : ears p b (reached p s) ≤ f = ears-few p f m b (reached p s) r in
           let z : ears p b known ≤ ears p b s + ears p b (reached p s) =
           count-split (p .n) (λ a. hears p b a and mem a known) (λ a. hears p b a and mem a s) (λ a. hears p b a and mem a (reached p s))
           (λ a l m. ⊎-elim (λ v. inl (and-i _ _ (and-l _ _ m) v)) (λ v. inr (and-i _ _ (and-l _ _ m) v)) (u a (and-r _ _ m))) in
@@ -135,23 +139,26 @@ module _ (p : Plan) (sound : Sound p) (s : ℕ) (i : isFaultSet p s ≡ true) (k
 pub grown-start : (p : Plan) (out known : ℕ) → known < 2 ^ p .n → Grown p out known known
 grown-start p out known h = record { below = h; settled = λ s i lacks u. u }
 
-module _ (p : Plan) (sound : Sound p) (out known s o q : ℕ) (h : Grown p out known s)
-    (e : o ≡ over (p .rows) (p .f) (bitAnd s out)) (d : q ≡ over (p .rows) (2 * p .f) s) where
+module _ (p : Plan) (sound : Sound p) (f : ℕ) (m : p .bound .kind ≡ Most f) (out known s o q : ℕ) (h : Grown p out known s)
+    (e : o ≡ over (p .rows) f (bitAnd s out)) (d : q ≡ over (p .rows) (2 * f) s) where
+  near : o ≡ hearing (p .rows) (p .bound) (bitAnd s out)
+  near = e ∙ over-hearing (p .rows) (p .bound) f (bitAnd s out) m
+
   pub grown-next : Grown p out known (bitOr (bitOr s o) q)
   grown-next = record {
-    below = or-lt (p .n) (bitOr s o) q (or-lt (p .n) s o (h .below) (over-below p sound (bitAnd s out) o e)) (over-low p sound (2 * p .f) s q d);
-    settled = λ t i lacks u b m.
+    below = or-lt (p .n) (bitOr s o) q (or-lt (p .n) s o (h .below) (hearing-below p sound (bitAnd s out) o near)) (over-low p sound (2 * f) s q d);
+    settled = λ t i lacks u b v.
         ⊎-elim
         (λ y.
         ⊎-elim (h .settled t i lacks u b)
         (λ z.
-        let k = mem-below (p .n) b o (over-below p sound (bitAnd s out) o e) z in
-        near-settled p sound t i s (h .settled t i lacks u) b k out lacks (sym (over-mem p sound (bitAnd s out) o b e k) ∙ z))
+        let k = mem-below (p .n) b o (hearing-below p sound (bitAnd s out) o near) z in
+        near-settled p sound t i s (h .settled t i lacks u) b k out lacks (sym (hearing-mem p sound (bitAnd s out) o b near k) ∙ z))
         (or-e _ _ (sym (mem-or b s o) ∙ y)))
         (λ y.
-        let k = mem-below (p .n) b q (over-low p sound (2 * p .f) s q d) y in
-        far-settled p sound t i s (h .settled t i lacks u) b k (sym (over-why p sound (2 * p .f) s q b d k) ∙ y))
-        (or-e _ _ (sym (mem-or b (bitOr s o) q) ∙ m));
+        let k = mem-below (p .n) b q (over-low p sound (2 * f) s q d) y in
+        far-settled p sound t i s (h .settled t i lacks u) b k f m (sym (over-why p sound (2 * f) s q b d k) ∙ y))
+        (or-e _ _ (sym (mem-or b (bitOr s o) q) ∙ v));
   }
 
   pub grown-less : (bitOr (bitOr s o) q ≡ s → ⊥) → p .n - count (p .n) (λ i. mem i (bitOr (bitOr s o) q)) < p .n - count (p .n) (λ i. mem i s)
@@ -166,17 +173,17 @@ abbrev away : ℕ → ℕ → ℕ
 away known inn = bitAnd known (4294967295 - inn)
 
 -- how many members a set before best may have, and f
-abbrev pub need : Plan → ℕ → ℕ → ℕ
-need p inn best = p .f + best / 1048576 + boolByte (ltb inn (bitAnd best 1048575))
+abbrev pub need : ℕ → ℕ → ℕ → ℕ
+need f inn best = f + best / 1048576 + boolByte (ltb inn (bitAnd best 1048575))
 
-module _ (p : Plan) (sound : Sound p) (inn known : ℕ) (hi : inn < 2 ^ p .n) (hk : known < 2 ^ p .n) where
+module _ (p : Plan) (sound : Sound p) (f : ℕ) (m : p .bound .kind ≡ Most f) (inn known : ℕ) (hi : inn < 2 ^ p .n) (hk : known < 2 ^ p .n) where
   -- whoever is cut off hears at most f that are reached: the others of known that it hears are in the fault set, beside inn
   few-heard : (s b : ℕ) → Inside inn s → Settled p s known → hearsEnough p b (reached p s) ≡ false
-      → ones inn + ears p b (away known inn) ≤ size (p .n) s + p .f
+      → ones inn + ears p b (away known inn) ≤ size (p .n) s + f
   unfolding size
   few-heard s b i u r =
       let w : ones inn ≡ count (p .n) (λ a. mem a inn) = ones-count (p .n) inn hi in
-      let y : ears p b (reached p s) ≤ p .f = ears-few p b (reached p s) r in
+      let y : ears p b (reached p s) ≤ f = ears-few p f m b (reached p s) r in
       let z : ears p b (away known inn) ≤ count (p .n) new + ears p b (reached p s) =
       count-split (p .n) (λ a. hears p b a and mem a (away known inn)) new (λ a. hears p b a and mem a (reached p s)) which in
       let x : count (p .n) (λ a. mem a inn) + count (p .n) new ≤ count (p .n) (λ a. mem a s) =
@@ -196,7 +203,7 @@ module _ (p : Plan) (sound : Sound p) (inn known : ℕ) (hi : inn < 2 ^ p .n) (h
 
   module _ (rest best : ℕ) (e : rest ≡ outside (p .n) inn known) where
     -- where everyone of the rest hears too many, no set that defeats the plan comes before best
-    hopeless-is : ((b : ℕ) → b < p .n → mem b rest ≡ true → need p inn best ≤ ones inn + ears p b (away known inn)) → Hopeless p inn known best
+    hopeless-is : ((b : ℕ) → b < p .n → mem b rest ≡ true → need f inn best ≤ ones inn + ears p b (away known inn)) → Hopeless p inn known best
     hopeless-is enough s d i u = go (some-member (p .n) (cutOff p s) (cut-below p s) (defeats-cuts p s d))
       where
         low : {x : ℕ} → x < 2 ^ p .n → x < 2 ^ 20
@@ -214,18 +221,18 @@ module _ (p : Plan) (sound : Sound p) (inn known : ℕ) (hi : inn < 2 ^ p .n) (h
             (no-by (λ y. ⊎-elim (λ v. clash v good) (λ v. clash v unreached) (u b y)))) in
             key-later best inn s (inside-le inn s (low hi) (low below) i) (omega (arith, size-twenty (p .n) s (sound .twenty) below))
 
-    pub hopeless-own : need p inn best ≤ ones inn → Hopeless p inn known best
+    pub hopeless-own : need f inn best ≤ ones inn → Hopeless p inn known best
     hopeless-own l = hopeless-is (λ b k m. omega arith)
 
-    pub hopeless-heard : (o : ℕ) → ones inn < need p inn best → o ≡ over (p .rows) (need p inn best - ones inn - 1) (away known inn)
+    pub hopeless-heard : (o : ℕ) → ones inn < need f inn best → o ≡ over (p .rows) (need f inn best - ones inn - 1) (away known inn)
         → eqb (bitAnd rest (4294967295 - o)) 0 ≡ true → Hopeless p inn known best
     unfolding enough
     hopeless-heard o l q z =
         hopeless-is
         (λ b k m.
-        let c : need p inn best - ones inn - 1 < ears p b (away known inn) =
-        ltb-true (need p inn best - ones inn - 1) (ears p b (away known inn))
-        (sym (over-why p sound (need p inn best - ones inn - 1) (away known inn) o b q k) ∙ implies-e _ _ (all-at (p .n) (λ i. mem i rest implies mem i o) within b k) m) in
+        let c : need f inn best - ones inn - 1 < ears p b (away known inn) =
+        ltb-true (need f inn best - ones inn - 1) (ears p b (away known inn))
+        (sym (over-why p sound (need f inn best - ones inn - 1) (away known inn) o b q k) ∙ implies-e _ _ (all-at (p .n) (λ i. mem i rest implies mem i o) within b k) m) in
         omega arith)
       where
         within : all (p .n) (λ i. mem i rest implies mem i o) ≡ true
@@ -233,5 +240,5 @@ module _ (p : Plan) (sound : Sound p) (inn known : ℕ) (hi : inn < 2 ^ p .n) (h
             sym
             (test-inside 32 (p .n) rest o (let t = sound .twenty in omega arith)
             (subst (λ (x : ℕ). x < 2 ^ p .n) (sym e) (mask-lt (p .n) (λ i. not (mem i inn) and not (mem i known))))
-            (word-of p sound (over-low p sound (need p inn best - ones inn - 1) (away known inn) o q)))
+            (word-of p sound (over-low p sound (need f inn best - ones inn - 1) (away known inn) o q)))
             ∙ z

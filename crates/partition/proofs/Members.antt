@@ -11,13 +11,13 @@ use lib.Dec.{eqb, ltb}
 use lib.Pow.{pow-mono, pow-pos}
 use borrow.Author.Tests.{eqb-true, eq-eqb, ltb-false}
 use mir.Val.{boolByte}
-use Rattle.sets.specs.Tests.{_and_, _or_}
-use Rattle.sets.specs.Sets.{bit, mem, count, size, singleton, with, outside}
-use Rattle.sets.proofs.Bools.{clash, and-r, and-i, or-l, or-r, or-e, not-i, same-test}
-use Rattle.sets.proofs.Laws.{mask-lt, mem-mask, set-ext, mem-above, mem-below, count-le, count-width, subset-fewer}
-use Rattle.sets.proofs.Masks.{mem-and, mem-shift}
-use Rattle.sets.proofs.Operations.{singleton-narrow, or-with}
-use Rattle.partition.specs.Search.{key, Inside, SomeOf}
+use Rattle.sets.specs.Tests.{_and_, _or_, _implies_}
+use Rattle.sets.specs.Sets.{bit, mem, count, mask, size, singleton, with, outside}
+use Rattle.sets.proofs.Bools.{clash, and-r, and-i, or-l, or-r, or-e, not-i, no-by, same-test, implies-e}
+use Rattle.sets.proofs.Laws.{all-at, mask-lt, mem-mask, set-ext, mem-above, mem-below, count-le, count-width, subset-fewer}
+use Rattle.sets.proofs.Masks.{mem-and, mem-not, mem-shift}
+use Rattle.sets.proofs.Operations.{singleton-narrow, or-with, test-inside}
+use Rattle.partition.specs.Search.{less, key, Inside, SomeOf}
 
 -- ---- a set of n terminals with one more
 
@@ -40,6 +40,35 @@ module _ (n s i x : ℕ) (t : n ≤ 20) (h : s < 2 ^ n) (k : i < n) (e : x ≡ w
 
   pub with-why : (j : ℕ) → mem j x ≡ true → (mem j s ≡ true) ⊎ (j ≡ i)
   with-why j m = ⊎-elim inl (λ d. inr (eqb-true j i d)) (or-e _ _ (sym (with-mem j (mem-below n j x with-below m)) ∙ m))
+
+-- ---- one word within another
+
+pub inside-test : (a b : ℕ) → a < 2 ^ 32 → b < 2 ^ 32 → bitAnd a (4294967295 - b) ≡ 0 → Inside a b
+inside-test a b h k e i m =
+    implies-e _ _
+    (all-at 32 (λ i. mem i a implies mem i b) (sym (test-inside 32 32 a b (omega arith) h k) ∙ eq-eqb (bitAnd a (4294967295 - b)) 0 e) i (mem-below 32 i a h m)) m
+
+-- ---- a set with one less
+
+pub mem-less : (s b i : ℕ) → i < 32 → mem i (less s b) ≡ mem i s and not (eqb i b)
+unfolding less singleton
+mem-less s b i k =
+    mem-and i s (4294967295 - mask 32 (λ j. eqb j b))
+    ∙ ap (λ (t : Bool). mem i s and t) (mem-not 32 i (mask 32 (λ j. eqb j b)) (mask-lt 32 (λ j. eqb j b)) k ∙ ap not (mem-mask 32 i (λ j. eqb j b) k))
+
+pub less-le : (s b : ℕ) → less s b ≤ s
+unfolding less
+less-le s b = and-le-l s (4294967295 - singleton 32 b)
+
+pub less-by : (s b one : ℕ) → one ≡ singleton 32 b → bitAnd s (4294967295 - one) ≡ less s b
+unfolding less
+less-by s b one e = ap (λ (x : ℕ). bitAnd s (4294967295 - x)) e
+
+-- what lies in a set and lacks the one lies in the rest
+pub less-holds : (n all b s : ℕ) → n ≤ 20 → s < 2 ^ n → Inside s all → mem b s ≡ false → Inside s (less all b)
+less-holds n all b s t h inside g i m =
+    let k = mem-below n i s h m in
+    mem-less all b i (omega arith) ∙ and-i _ _ (inside i m) (not-i (no-by (λ e. clash (subst (λ (x : ℕ). mem x s ≡ true) (eqb-true i b e) m) g)))
 
 -- ---- the terminals outside two sets
 

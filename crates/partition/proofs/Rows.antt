@@ -12,7 +12,7 @@ use lib.Pow.{pow-lt, pow-pos, ones-lt}
 use borrow.Author.Tests.{eqb-true, eq-eqb, lt-ltb}
 use Rattle.sets.specs.Tests.{_and_, _or_}
 use Rattle.sets.specs.Sets.{mem, count, mask, singleton}
-use Rattle.quorum.specs.Quorum.{enough}
+use Rattle.quorum.specs.Quorum.{atMost, enough}
 use Rattle.sets.proofs.Bools.{clash, decide, and-l, and-r, and-i, or-l, or-r, or-e, not-i, not-e, no-by, same-test}
 use Rattle.sets.proofs.Laws.{mem-zero, set-ext, mask-lt, mem-mask, mask-of, mask-cong, count-more, mem-below}
 use Rattle.quorum.proofs.Laws.{enough-none}
@@ -52,24 +52,24 @@ pub direct-is : (p : Plan) → Sound p → direct (p .rows) (p .source) ≡ mask
 unfolding direct enough
 direct-is p s =
     over-enough p s 0 (singleton 32 (p .source))
-    ∙ mask-cong (p .n) (λ b. enough (p .n) 0 (λ i. hears p b i and mem i (singleton 32 (p .source)))) (λ b. hears p b (p .source))
+    ∙ mask-cong (p .n) (λ b. enough (p .n) (atMost 0) (λ i. hears p b i and mem i (singleton 32 (p .source)))) (λ b. hears p b (p .source))
     (λ b k. same-test _ _ (only b) (there b))
   where
     ears : ℕ → ℕ → Bool
     ears b i = hears p b i and mem i (singleton 32 (p .source))
 
-    only : (b : ℕ) → enough (p .n) 0 (ears b) ≡ true → hears p b (p .source) ≡ true
+    only : (b : ℕ) → enough (p .n) (atMost 0) (ears b) ≡ true → hears p b (p .source) ≡ true
     only b m =
         ⊎-elim (λ y. y)
         (λ y.
         clash m
-        (enough-none (p .n) 0 (ears b)
+        (enough-none (p .n) (atMost 0) (ears b)
         (λ a l.
         no-by
         (λ t. clash (subst (λ (x : ℕ). hears p b x ≡ true) (one-only p s (singleton 32 (p .source)) refl a (and-r _ _ t)) (and-l _ _ t)) y))))
         (decide (hears p b (p .source)))
 
-    there : (b : ℕ) → hears p b (p .source) ≡ true → enough (p .n) 0 (ears b) ≡ true
+    there : (b : ℕ) → hears p b (p .source) ≡ true → enough (p .n) (atMost 0) (ears b) ≡ true
     there b h =
         let c : count (p .n) (λ i. false) < count (p .n) (ears b) =
         count-more (p .n) (λ i. false) (ears b) (λ i l m. clash m refl) (p .source) (s .source-below) refl

@@ -1,14 +1,17 @@
 -- What the search's own functions compute, on a plan's rows. No caller sees these. Assumes nothing.
-use Prim.Native.Nat.{ℕ, _+_, _*_, _^_, _≤_, _<_}
+use Prim.Native.Nat.{ℕ, _+_, _-_, _*_, _^_, _≤_, _<_}
 use mathlib.Core.Bool.{true, false}
 use mathlib.Core.Logic.{_⊎_}
 use mathlib.Core.List.{List}
 use mathlib.Core.Path.{_≡_}
+use lib.Bits.{bitAnd}
 use Rattle.sets.specs.Sets.{mem, size, singleton}
+use Rattle.quorum.specs.declared.BoundKind.the-variants.{Most}
+use Rattle.quorum.specs.Quorum.{groupAt}
 use Rattle.plan.specs.declared.Plan.{Plan}
 use Rattle.plan.specs.Plan.{causeOf}
 use Rattle.closure.specs.FaultSet.{hearsEnough, isFaultSet}
-use Rattle.closure.specs.Closure.{reached}
+use Rattle.closure.specs.Closure.{reached, cutOff}
 use Rattle.closure.specs.Verdict.{defeats, Found, none, found}
 use Rattle.faults.specs.Rows.{over}
 use Rattle.partition.specs.declared.search.Best.{Best}
@@ -21,6 +24,10 @@ direct rows source = over rows 0 (singleton 32 source)
 unfoldable pub StandsFor : ℕ → Best → Found → Type 0
 StandsFor n best none = best .members ≡ 21
 StandsFor n best (found s) = (best .set ≡ s) × (best .members ≡ size n s)
+
+-- a set of 32 bits without one terminal
+unfoldable pub less : ℕ → ℕ → ℕ
+less s b = bitAnd s (4294967295 - singleton 32 b)
 
 -- ---- branch and bound
 
@@ -53,11 +60,11 @@ Settled p s known = (i : ℕ) → mem i known ≡ true → (mem i s ≡ true) �
 abbrev pub Hopeless : Plan → ℕ → ℕ → ℕ → Type 0
 Hopeless p inn known best = (s : ℕ) → defeats p s ≡ true → Inside inn s → Settled p s known → best ≤ key s
 
--- whoever is outside the wall and hears more than f of s is in s
+-- whoever is outside the wall and hears enough of s is in s
 abbrev pub Closed : Plan → ℕ → ℕ → Type 0
 Closed p wall s = (b : ℕ) → b < p .n → mem b wall ≡ false → hearsEnough p b s ≡ true → mem b s ≡ true
 
--- r is the least closed set that has s. Without a wall it is s with all that it forces: every fault set is closed
+-- r is the least closed set that has s. Without a wall it is s with all that it forces, by a bound f: every fault set is closed
 pub record Spread (p : Plan) (s wall r : ℕ) : Type 0 where
   pub below : r < 2 ^ p .n
   pub has : Inside s r
@@ -69,9 +76,10 @@ pub record Grown (p : Plan) (out known r : ℕ) : Type 0 where
   pub below : r < 2 ^ p .n
   pub settled : (s : ℕ) → isFaultSet p s ≡ true → Apart out s → Settled p s known → Settled p s r
 
--- what each call of the search is given
-pub record Part (p : Plan) (hearers inn out known : ℕ) : Type 0 where
+-- what each call of the search for a bound f is given
+pub record Part (p : Plan) (f hearers inn out known : ℕ) : Type 0 where
   pub plan : causeOf p ≡ 0
+  pub bound-is : p .bound .kind ≡ Most f
   pub hearers-are : hearers ≡ direct (p .rows) (p .source)
   pub inn-below : inn < 2 ^ p .n
   pub out-below : out < 2 ^ p .n
@@ -79,8 +87,42 @@ pub record Part (p : Plan) (hearers inn out known : ℕ) : Type 0 where
   pub source-out : mem (p .source) out ≡ true
   pub settled : (s : ℕ) → isFaultSet p s ≡ true → Between inn out s → Settled p s known
 
--- and what it returns: the least of best and the keys of the part's sets that defeat the plan
-pub record Least (p : Plan) (inn out best r : ℕ) : Type 0 where
+-- and what it returns: the least of best and the keys of some sets that defeat the plan, those of the part
+pub record Least (p : Plan) (Of : ℕ → Type 0) (best r : ℕ) : Type 0 where
   pub at-most : r ≤ best
   pub comes : (r ≡ best) ⊎ ((s : ℕ) × (defeats p s ≡ true) × (r ≡ key s))
-  pub below : (s : ℕ) → defeats p s ≡ true → Between inn out s → r ≤ key s
+  pub below : (s : ℕ) → defeats p s ≡ true → Of s → r ≤ key s
+
+-- ---- the search for groups goes group by group
+
+-- what each call is given: any set that has none of out is a fault set, and whoever a set of the part cuts off is one of hopeful
+pub record Cutting (p : Plan) (hearers inn out hopeful : ℕ) : Type 0 where
+  pub plan : causeOf p ≡ 0
+  pub hearers-are : hearers ≡ direct (p .rows) (p .source)
+  pub inn-below : inn < 2 ^ p .n
+  pub out-below : out < 2 ^ p .n
+  pub hopeful-below : hopeful < 2 ^ p .n
+  pub inn-apart : Apart out inn
+  pub fault : (s : ℕ) → s < 2 ^ p .n → Apart out s → isFaultSet p s ≡ true
+  pub cut-hopeful : (s : ℕ) → defeats p s ≡ true → Between inn out s → Inside (cutOff p s) hopeful
+
+-- r has those of hopeful that a set within all may cut off, and perhaps others of them: the rest is reached even if all others of all are bad
+pub record Hopeful (p : Plan) (all hopeful r : ℕ) : Type 0 where
+  pub below : r < 2 ^ p .n
+  pub kept : (b : ℕ) → b < p .n → mem b hopeful ≡ true → (mem b r ≡ true) ⊎ (mem b (reached p (less all b)) ≡ true)
+
+-- the group's parts are fault sets
+abbrev pub Together : Plan → (group : ℕ) → Type 0
+Together p group = (group < 2 ^ p .n) × ((s : ℕ) → s < 2 ^ p .n → Inside s group → isFaultSet p s ≡ true)
+
+-- a part of one of the first k groups
+abbrev pub PartOfOne : Plan → ℕ → ℕ → Type 0
+PartOfOne p k s = (i : ℕ) × (i < k) × Inside s (groupAt (p .bound) i)
+
+-- none of these comes before best
+abbrev pub Earlier : Plan → ℕ → ℕ → Type 0
+Earlier p k best = (s : ℕ) → defeats p s ≡ true → PartOfOne p k s → best ≤ key s
+
+-- every set
+abbrev pub Any : ℕ → Type 0
+Any s = Unit {0}

@@ -1,19 +1,20 @@
-// The least set that defeats a sound plan, by branch and bound. A part of the search is the sets that
+// The least set that defeats a sound plan with a bound f, by branch and bound. A part of the search is the sets that
 // have all of inn and none of out.
 ghost use mathlib.Core.Path.{_≡_};
 ghost use mathlib.Core.Bool.{true, false};
 ghost use Prim.Native.Nat.{_<_, _^_};
 ghost use Rattle.sets.specs.Sets.{mem, outside};
+ghost use Rattle.quorum.specs.declared.BoundKind.the-variants.{Most};
 ghost use Rattle.plan.specs.Plan.{causeOf};
 ghost use Rattle.closure.specs.FaultSet.{isFaultSet};
 ghost use Rattle.closure.specs.Verdict.{defeats};
-ghost use Rattle.partition.specs.Search.{SomeOf, direct, key, Hopeless, Part, Least};
+ghost use Rattle.partition.specs.Search.{SomeOf, direct, key, Hopeless, Between, Part, Least};
 use super::bound;
 use super::search;
 use plan::Plan;
 
 // Fewer members come first, then the smaller number: the members above the twenty bits of the set.
-fn key(s: u32) -> u32
+pub(crate) fn key(s: u32) -> u32
     requires { ⌜ s < 2 ^ 20 ⌝ }
     ensures { λ r. ⌜ r ≡ key s ⌝ }
 {
@@ -21,7 +22,7 @@ fn key(s: u32) -> u32
 }
 
 // A fault set defeats the plan where it leaves somebody cut off.
-fn defeats(p: Plan, hearers: u32, s: u32) -> bool
+pub(crate) fn defeats(p: Plan, hearers: u32, s: u32) -> bool
     requires { ⌜ (causeOf p ≡ 0) × (hearers ≡ direct (p .rows) (p .source)) × (isFaultSet p s ≡ true) ⌝ }
     ensures { λ r. ⌜ r ≡ defeats p s ⌝ }
 {
@@ -30,7 +31,7 @@ fn defeats(p: Plan, hearers: u32, s: u32) -> bool
 }
 
 // The highest terminal of s.
-fn highest(s: u32) -> usize
+pub(crate) fn highest(s: u32) -> usize
     requires { ⌜ (s ≡ 0 → ⊥) ⌝ }
     ensures { λ r. ⌜ mem r s ≡ true ⌝ }
 {
@@ -38,7 +39,7 @@ fn highest(s: u32) -> usize
 }
 
 // Those of s that are in `of`, or all of s where none is.
-fn narrowed(s: u32, of: u32) -> u32
+pub(crate) fn narrowed(s: u32, of: u32) -> u32
     requires { ⌜ (s ≡ 0 → ⊥) ⌝ }
     ensures { λ r. ⌜ SomeOf s r ⌝ }
 {
@@ -86,13 +87,13 @@ fn chosen(rows: [u32; 20], heard: u32, free: u32) -> usize
 
 // No set of the part comes before best. Whoever is cut off is one of the rest, and hears at most f
 // who are reached: all others of known that it hears are in the set, beside those of inn.
-fn hopeless(p: Plan, inn: u32, known: u32, rest: u32, best: u32) -> bool
-    requires { ⌜ (causeOf p ≡ 0) × (inn < 2 ^ p .n) × (known < 2 ^ p .n) × (rest ≡ outside (p .n) inn known) ⌝ }
+fn hopeless(p: Plan, f: u32, inn: u32, known: u32, rest: u32, best: u32) -> bool
+    requires { ⌜ (causeOf p ≡ 0) × (p .bound .kind ≡ Most f) × (inn < 2 ^ p .n) × (known < 2 ^ p .n) × (rest ≡ outside (p .n) inn known) ⌝ }
     ensures { λ r. ⌜ (r ≡ true → Hopeless p inn known best) ⌝ }
 {
     let rows = p.rows;
     let more = (inn < best & 1048575) as u32;
-    let need = p.f as u32 + (best >> 20) + more;
+    let need = f + (best >> 20) + more;
     let own = u32::count_ones(inn);
     if need <= own {
         return true;
@@ -102,13 +103,13 @@ fn hopeless(p: Plan, inn: u32, known: u32, rest: u32, best: u32) -> bool
 
 // The lesser of best and the part's least key, where inn itself does not defeat the plan: first the
 // sets without one of the free terminals, then those with it.
-fn split(p: Plan, hearers: u32, inn: u32, out: u32, known: u32, best: u32) -> u32
-    requires { ⌜ Part p hearers inn out known × (defeats p inn ≡ false) ⌝ }
-    ensures { λ r. ⌜ Least p inn out best r ⌝ }
+fn split(p: Plan, f: u32, hearers: u32, inn: u32, out: u32, known: u32, best: u32) -> u32
+    requires { ⌜ Part p f hearers inn out known × (defeats p inn ≡ false) ⌝ }
+    ensures { λ r. ⌜ Least p (Between inn out) best r ⌝ }
 {
-    let sure = bound::settled(p, out, known);
+    let sure = bound::settled(p, f, out, known);
     let rest = search::outside(p.n, inn, sure);
-    if hopeless(p, inn, sure, rest, best) {
+    if hopeless(p, f, inn, sure, rest, best) {
         return best;
     }
     let free = search::outside(p.n, inn, out);
@@ -117,14 +118,22 @@ fn split(p: Plan, hearers: u32, inn: u32, out: u32, known: u32, best: u32) -> u3
     }
     let rows = p.rows;
     let b = chosen(rows, bound::heard(rows, rest) & sure, free);
-    let first = split(p, hearers, inn, sets::with(out, b), sure, best);
-    inside(p, hearers, sets::with(inn, b), out, sure, first)
+    let first = split(p, f, hearers, inn, sets::with(out, b), sure, best);
+    inside(p, f, hearers, sets::with(inn, b), out, sure, first)
 }
 
 // The same where inn is new: what it forces joins it, and is the part's least if it defeats the plan.
-pub(crate) fn inside(p: Plan, hearers: u32, inn: u32, out: u32, known: u32, best: u32) -> u32
-    requires { ⌜ Part p hearers inn out known ⌝ }
-    ensures { λ r. ⌜ Least p inn out best r ⌝ }
+pub(crate) fn inside(
+    p: Plan,
+    f: u32,
+    hearers: u32,
+    inn: u32,
+    out: u32,
+    known: u32,
+    best: u32,
+) -> u32
+    requires { ⌜ Part p f hearers inn out known ⌝ }
+    ensures { λ r. ⌜ Least p (Between inn out) best r ⌝ }
 {
     let all = search::spread(p, inn, 0);
     if all & out != 0 {
@@ -137,5 +146,5 @@ pub(crate) fn inside(p: Plan, hearers: u32, inn: u32, out: u32, known: u32, best
     if defeats(p, hearers, all) {
         return own;
     }
-    split(p, hearers, all, out, known | all, best)
+    split(p, f, hearers, all, out, known | all, best)
 }

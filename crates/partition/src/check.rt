@@ -32,14 +32,15 @@ fn is_fault_set(p: Plan, f: u32) -> bool
     faults::number(faults::check_fault_set(p, f)) == 0
 }
 
-// No member of R hears the source, and none hears more than f members of L.
+// No member of R hears the source, and none hears enough members of L.
 fn cut_off(p: Plan, l: u32, r: u32) -> bool
     requires { ⌜ causeOf p ≡ 0 ⌝ }
     ensures { λ x. ⌜ x ≡ all (p .n) (λ b. mem b r implies (not (hears p b (p .source)) and not (hearsEnough p b l))) ⌝ }
 {
     let rows = p.rows;
+    let bound = p.bound;
     let hearers = faults::over(rows, 0, sets::singleton(p.source));
-    (hearers | faults::over(rows, p.f as u32, l)) & r == 0
+    (hearers | faults::hearing(rows, bound, l)) & r == 0
 }
 
 pub(crate) fn accepts(p: Plan, f: u32, l: u32, r: u32) -> bool

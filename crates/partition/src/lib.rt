@@ -2,6 +2,7 @@
 mod bound;
 mod branch;
 mod check;
+mod groups;
 mod search;
 
 ghost use mathlib.Core.Path.{_≡_};
@@ -26,6 +27,7 @@ pub enum Judgement {
     Fail(Witness),
     WrongRange,
     WrongLink,
+    WrongGroups,
 }
 
 pub enum WitnessCheck {
@@ -33,6 +35,7 @@ pub enum WitnessCheck {
     Rejected,
     WrongRange,
     WrongLink,
+    WrongGroups,
 }
 
 // The verdict on a sound plan.
@@ -63,6 +66,7 @@ pub fn verdict(p: Plan) -> Judgement
         Soundness::Sound => judge(p),
         Soundness::WrongRange => Judgement::WrongRange,
         Soundness::WrongLink => Judgement::WrongLink,
+        Soundness::WrongGroups => Judgement::WrongGroups,
     }
 }
 
@@ -80,5 +84,6 @@ pub fn check_witness(p: Plan, f: u32, l: u32, r: u32) -> WitnessCheck
         }
         Soundness::WrongRange => WitnessCheck::WrongRange,
         Soundness::WrongLink => WitnessCheck::WrongLink,
+        Soundness::WrongGroups => WitnessCheck::WrongGroups,
     }
 }

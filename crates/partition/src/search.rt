@@ -5,9 +5,11 @@ ghost use Rattle.sets.specs.Sets.{outside};
 ghost use Rattle.plan.specs.Plan.{causeOf};
 ghost use Rattle.closure.specs.Closure.{reached};
 ghost use Rattle.closure.specs.Verdict.{bestBelow};
-ghost use Rattle.partition.specs.Search.{direct, Spread, StandsFor};
+ghost use Rattle.partition.specs.Search.{direct, Spread, StandsFor, Least, Any};
 use super::branch;
+use super::groups;
 use plan::Plan;
+use quorum::BoundKind;
 
 // The best set so far: members above 20 for none.
 pub(crate) struct Best {
@@ -15,16 +17,17 @@ pub(crate) struct Best {
     pub set: u32,
 }
 
-// S with whoever joins it turn by turn: outside the wall, and hearing more than f that are in. It stops
-// where a turn adds nobody.
+// S with whoever joins it turn by turn: outside the wall, and hearing enough that are in. It stops where
+// a turn adds nobody.
 pub(crate) fn spread(p: Plan, s: u32, wall: u32) -> u32
     requires { ⌜ (causeOf p ≡ 0) × (s < 2 ^ p .n) ⌝ }
     ensures { λ r. ⌜ Spread p s wall r ⌝ }
 {
-    let rows = p.rows;
     let mut l = s;
     loop {
-        let next = l | (faults::over(rows, p.f as u32, l) & !wall);
+        let rows = p.rows;
+        let bound = p.bound;
+        let next = l | (faults::hearing(rows, bound, l) & !wall);
         if next == l {
             return l;
         }
@@ -49,14 +52,29 @@ pub(crate) fn outside(n: usize, faulty: u32, l: u32) -> u32
     ((1u32 << n) - 1) & !(faulty | l)
 }
 
-// The least of all sets that defeat the plan: the least key, or 21 members (21 · 2^20 = 22020096),
-// above every key, for none.
+// The least key of all sets that defeat the plan, or 21 members (21 · 2^20 = 22020096), above every key,
+// for none.
+fn least(p: Plan, hearers: u32) -> u32
+    requires { ⌜ (causeOf p ≡ 0) × (hearers ≡ direct (p .rows) (p .source)) ⌝ }
+    ensures { λ r. ⌜ Least p Any 22020096 r ⌝ }
+{
+    let bound = p.bound;
+    let kind = bound.kind;
+    match kind {
+        BoundKind::Most(f) => {
+            let source = sets::singleton(p.source);
+            branch::inside(p, f as u32, hearers, 0, source, source | hearers, 22020096)
+        }
+        BoundKind::Groups(_) => groups::least(p, hearers),
+    }
+}
+
+// The least of all sets that defeat the plan.
 pub(crate) fn search(p: Plan, hearers: u32) -> Best
     requires { ⌜ (causeOf p ≡ 0) × (hearers ≡ direct (p .rows) (p .source)) ⌝ }
     ensures { λ r. ⌜ StandsFor (p .n) r (bestBelow p (2 ^ p .n)) ⌝ }
 {
-    let source = sets::singleton(p.source);
-    let best = branch::inside(p, hearers, 0, source, source | hearers, 22020096);
+    let best = least(p, hearers);
     Best {
         members: (best >> 20) as usize,
         set: best & 1048575,

@@ -1,14 +1,15 @@
-// The plan of a site: who hears whom, who issues the notice, and how many liars a terminal may hear.
+// The plan of a site: who hears whom, who issues the notice, and who may be bad together.
 ghost use mathlib.Core.Path.{_≡_};
 ghost use lib.ListN.{getD};
 ghost use Rattle.sets.specs.Sets.{all};
 ghost use Rattle.plan.specs.Plan.{numberOf, rowSound, causeOf};
+use quorum::Bound;
 
 // rows[b] is the set of terminals that b hears.
 pub struct Plan {
     pub n: usize,
     pub source: usize,
-    pub f: usize,
+    pub bound: Bound,
     pub rows: [u32; 20],
 }
 
@@ -16,13 +17,14 @@ pub enum Soundness {
     Sound,
     WrongRange,
     WrongLink,
+    WrongGroups,
 }
 
 fn row_sound(n: usize, b: usize, row: u32) -> bool
     ensures { λ r. ⌜ r ≡ rowSound n b row ⌝ }
 {
     if b < n {
-        return quorum::hears_soundly(n, b, row);
+        return quorum::others(n, b, row);
     }
     row == 0
 }
@@ -46,9 +48,14 @@ pub fn check(p: Plan) -> Soundness
     ensures { λ r. ⌜ numberOf r ≡ causeOf p ⌝ }
 {
     let rows = p.rows;
-    if quorum::in_range(p.n, p.source, p.f) {
+    let bound = p.bound;
+    let kind = bound.kind;
+    if quorum::in_range(p.n, p.source, kind) {
         if links_sound(p.n, rows) {
-            return Soundness::Sound;
+            if quorum::groups_sound(p.n, p.source, bound) {
+                return Soundness::Sound;
+            }
+            return Soundness::WrongGroups;
         }
         return Soundness::WrongLink;
     }

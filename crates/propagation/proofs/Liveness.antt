@@ -93,7 +93,7 @@ module _ (p : Plan) (sound : Sound p) (faulty value : ℕ) (layout : value ≡ 0
   source-taken zero = ap (λ (x : View). x .state) (source-at-start p faulty value script (sound .source-below))
   source-taken (suc r) = stays r (p .source) 0 value (sound .source-below) (fault-source p faulty fault) (source-taken r)
 
-  -- whoever hears the source does not wait, and whoever hears more than f that had taken does not
+  -- whoever hears the source does not wait, and whoever hears enough that had taken does not
   source-heard : (r b : ℕ) → b < p .n → mem b faulty ≡ false → hears p b (p .source) ≡ true
       → site p faulty value script (suc r) b .state ≡ Waiting → ⊥
   unfolding after hears

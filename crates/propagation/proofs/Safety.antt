@@ -81,7 +81,7 @@ module _ (p : Plan) (sound : Sound p) (faulty value : ℕ) (script : Script) (fa
       (holds-layout (stepIn p b (word p faulty value script r b) (site p faulty value script r b)) v j e))
       (note-said p b (word p faulty value script r b) (site p faulty value script r b) v j e)
 
-  -- more than f neighbours cannot all be faulty, so one of them is good
+  -- enough neighbours cannot all be faulty, so one of them is good
   certified-good : (b : ℕ) → b < p .n → mem b faulty ≡ false → (x : View) (v : ℕ)
       → ((j : ℕ) → hears p b j ≡ true → mem j faulty ≡ false → holds x v j ≡ true → v ≡ value)
       → enoughIn p (λ j. hears p b j and holds x v j) ≡ true → v ≡ value

@@ -1,13 +1,17 @@
--- The drawings A to J of document 01, and its remark on f (n - 1 is read, n is refused), as rows of one table: a question, and the answer that the
--- document gives. B is judged as a plan record; as a file it is the archive's (crates/verdict_output/specs/DrawingB.antt). Assumes nothing.
+-- The drawings A to J of document 01, its remark on f (n - 1 is read, n is refused), and F with groups that fail together (document 02, P10), as rows of
+-- one table: a question, and the answer that the documents give. B is judged as a plan record; as a file it is the archive's
+-- (crates/verdict_output/specs/DrawingB.antt). Assumes nothing.
 use Prim.Native.Nat.{ℕ, _+_, _^_}
 use mathlib.Core.Bool.{Bool, false}
 use mathlib.Core.List.{List, [], _∷_, _++_}
 use lib.Dec.{eqb}
+use lib.ListN.{length, take}
 use Rattle.sets.specs.Tests.{_and_, _or_, pick}
 use Rattle.sets.specs.Tables.{table}
 use Rattle.sets.specs.Sets.{Terminal, Set, mask}
-use Rattle.quorum.specs.Quorum.{mostTerminals}
+use Rattle.quorum.specs.declared.BoundKind.the-variants.{Groups}
+use Rattle.quorum.specs.declared.Bound.{Bound}
+use Rattle.quorum.specs.Quorum.{mostTerminals, mostGroups, noGroups, atMost}
 use Rattle.terminal.specs.declared.State.{State}
 use Rattle.terminal.specs.declared.State.the-variants.{Waiting, Taken}
 use Rattle.plan.specs.declared.Plan.{Plan}
@@ -23,9 +27,17 @@ unfoldable pub linked : List Link → (a b : Terminal) → Bool
 linked [] a b = false
 linked (from ▷ to ∷ links) a b = (eqb from a and eqb to b) or linked links a b
 
--- a drawing: n, f, its links; the source is 0 throughout
+-- a drawing: n, who may be bad together, its links; the source is 0 throughout
+unfoldable pub drawn : (n : ℕ) → Bound → List Link → Plan
+drawn n bound links = record { n = n; source = 0; bound = bound; rows = table mostTerminals (λ b. mask mostTerminals (λ a. linked links a b)) }
+
+-- document 01's have the bound f
 unfoldable pub drawing : (n f : ℕ) → List Link → Plan
-drawing n f links = record { n = n; source = 0; f = f; rows = table mostTerminals (λ b. mask mostTerminals (λ a. linked links a b)) }
+drawing n f links = drawn n (atMost f) links
+
+-- groups that fail together, and empty places after them
+unfoldable pub groupsOf : List Set → Bound
+groupsOf groups = record { kind = Groups (length groups); groups = take mostGroups (groups ++ noGroups) }
 
 -- a set by its members
 unfoldable pub setOf : List Terminal → Set
@@ -34,7 +46,7 @@ setOf (i ∷ s) = 2 ^ i + setOf s
 
 pub data Question : Type 0 where
   judge : Plan → Question
-  stateAfter : ℕ → Plan → ℕ → Question
+  stateAfter : ℕ → Plan → Set → ℕ → Question
 
 pub data Told : Type 0 where
   pass : Told
@@ -50,10 +62,10 @@ unfoldable pub ofState : State → Told
 ofState Waiting = waits
 ofState (Taken round value) = takes round value
 
--- the definitions' own answers; a run has no liars and the layout 7
+-- the definitions' own answers; the liars of a run are silent, and its layout is 7
 unfoldable pub answer : Question → Told
 answer (judge p) = ofAnswer (answerOf p)
-answer (stateAfter rounds p b) = ofState (site p 0 7 silence rounds b .state)
+answer (stateAfter rounds p faulty b) = ofState (site p faulty 7 silence rounds b .state)
 
 pub record Row : Type 0 where
   pub asked : Question
@@ -65,6 +77,13 @@ linksF = 0 ▷ 1 ∷ 0 ▷ 2 ∷ 0 ▷ 3 ∷ 1 ▷ 4 ∷ 2 ▷ 4 ∷ 3 ▷ 4 ∷
 unfoldable pub linksH : List Link
 linksH = 0 ▷ 1 ∷ 0 ▷ 2 ∷ 0 ▷ 3 ∷ 0 ▷ 4 ∷ 1 ▷ 5 ∷ 2 ▷ 5 ∷ 6 ▷ 5 ∷ 3 ▷ 6 ∷ 4 ▷ 6 ∷ 5 ▷ 6 ∷ []
 
+-- F with {1,2} and {3}, and with {1}, {2} and {3}
+unfoldable pub pairF : Plan
+pairF = drawn 5 (groupsOf (setOf (1 ∷ 2 ∷ []) ∷ setOf (3 ∷ []) ∷ [])) linksF
+
+unfoldable pub singlesF : Plan
+singlesF = drawn 5 (groupsOf (setOf (1 ∷ []) ∷ setOf (2 ∷ []) ∷ setOf (3 ∷ []) ∷ [])) linksF
+
 unfoldable pub chain : List Link
 chain = 0 ▷ 1 ∷ 1 ▷ 2 ∷ []
 
@@ -73,8 +92,8 @@ rows =
     record { asked = judge (drawing 2 0 (0 ▷ 1 ∷ [])); expected = pass }
     ∷ record { asked = judge (drawing 2 0 []); expected = fail (setOf []) (setOf (0 ∷ [])) (setOf (1 ∷ [])) }
     ∷ record { asked = judge (drawing 3 0 chain); expected = pass }
-    ∷ record { asked = stateAfter 1 (drawing 3 0 chain) 2; expected = waits }
-    ∷ record { asked = stateAfter 2 (drawing 3 0 chain) 2; expected = takes 2 7 }
+    ∷ record { asked = stateAfter 1 (drawing 3 0 chain) (setOf []) 2; expected = waits }
+    ∷ record { asked = stateAfter 2 (drawing 3 0 chain) (setOf []) 2; expected = takes 2 7 }
     ∷ record { asked = judge (drawing 3 1 chain); expected = fail (setOf []) (setOf (0 ∷ 1 ∷ [])) (setOf (2 ∷ [])) }
     ∷ record {
       asked = judge (drawing 4 1 (0 ▷ 1 ∷ 0 ▷ 2 ∷ 1 ▷ 3 ∷ 2 ▷ 3 ∷ []));
@@ -87,4 +106,8 @@ rows =
     ∷ record { asked = judge (drawing 1 0 []); expected = refusal 4 }
     ∷ record { asked = judge (drawing 5 4 linksF); expected = fail (setOf []) (setOf (0 ∷ 1 ∷ 2 ∷ 3 ∷ [])) (setOf (4 ∷ [])) }
     ∷ record { asked = judge (drawing 5 5 linksF); expected = refusal 4 }
+    ∷ record { asked = judge pairF; expected = fail (setOf (3 ∷ [])) (setOf (0 ∷ 1 ∷ 2 ∷ [])) (setOf (4 ∷ [])) }
+    ∷ record { asked = stateAfter 4 pairF (setOf (3 ∷ [])) 4; expected = waits }
+    ∷ record { asked = judge singlesF; expected = pass }
+    ∷ record { asked = stateAfter 2 singlesF (setOf (3 ∷ [])) 4; expected = takes 2 7 }
     ∷ []

@@ -35,7 +35,7 @@ heardFrom p faulty script round before b j =
 
 -- one terminal's step in the plan
 abbrev pub stepIn : Plan → (b : Terminal) (said : Terminal → Layout) → View → View
-stepIn p b said r = step (p .n) (p .source) (p .f) (heardBy p b) said r
+stepIn p b said r = step (p .n) (p .source) (p .bound) (heardBy p b) said r
 
 -- a terminal's record after a round; one of the fault set stays waiting, round 0, nothing heard
 unfoldable pub recordIn : Plan → (faulty : Set) (script : Script) (round : Round) (before : List View) (b : Terminal) → View

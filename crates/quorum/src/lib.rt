@@ -1,10 +1,37 @@
-// The numbers of a plan and of a run, and what a terminal may hear: causes 4, 5 and 9 have one test each.
+// The numbers of a plan and of a run, what a terminal may hear, and who may be bad together: causes 4, 5,
+// 9 and 17 have one test each.
 ghost use mathlib.Core.Path.{_≡_};
-ghost use Rattle.quorum.specs.Quorum.{inRange, hearsSoundly};
+ghost use lib.Dec.{eqb, ltb};
+ghost use lib.ListN.{getD};
+ghost use Rattle.sets.specs.Tests.{_implies_, pick};
+ghost use Rattle.sets.specs.Sets.{mem, all, some};
+ghost use Rattle.quorum.specs.Quorum.{kindInRange, inRange, listed, others, listedSound, groupsSound, enough};
 ghost use Rattle.quorum.specs.Words.{startSound};
 
-pub fn in_range(n: usize, source: usize, f: usize) -> bool
-    ensures { λ r. ⌜ r ≡ inRange n source f ⌝ }
+// Most(f): a good terminal hears at most f bad ones. Groups(count): the bad ones are some of one group.
+pub enum BoundKind {
+    Most(usize),
+    Groups(usize),
+}
+
+// Who may be bad together. groups[i] is the set of group i; the places after those that are listed are 0,
+// so all sixteen of a bound f.
+pub struct Bound {
+    pub kind: BoundKind,
+    pub groups: [u32; 16],
+}
+
+fn kind_in_range(n: usize, kind: BoundKind) -> bool
+    ensures { λ r. ⌜ r ≡ kindInRange n kind ⌝ }
+{
+    match kind {
+        BoundKind::Most(f) => f < n,
+        BoundKind::Groups(_) => true,
+    }
+}
+
+pub fn in_range(n: usize, source: usize, kind: BoundKind) -> bool
+    ensures { λ r. ⌜ r ≡ inRange n source kind ⌝ }
 {
     if n < 2 {
         return false;
@@ -15,16 +42,103 @@ pub fn in_range(n: usize, source: usize, f: usize) -> bool
     if n <= source {
         return false;
     }
-    f < n
+    kind_in_range(n, kind)
 }
 
-pub fn hears_soundly(n: usize, own: usize, heard: u32) -> bool
-    ensures { λ r. ⌜ r ≡ hearsSoundly n own heard ⌝ }
+// The set has terminals below n only, and not this one.
+pub fn others(n: usize, own: usize, s: u32) -> bool
+    ensures { λ r. ⌜ r ≡ others n own s ⌝ }
 {
-    if sets::within(heard, n) {
-        return !sets::member(heard, own);
+    if sets::within(s, n) {
+        return !sets::member(s, own);
     }
     false
+}
+
+// So many groups are listed.
+pub fn listed(kind: BoundKind) -> usize
+    ensures { λ r. ⌜ r ≡ listed kind ⌝ }
+{
+    match kind {
+        BoundKind::Most(_) => 0,
+        BoundKind::Groups(count) => count,
+    }
+}
+
+// One to sixteen groups are listed, where there are any.
+fn listed_sound(kind: BoundKind) -> bool
+    ensures { λ r. ⌜ r ≡ listedSound kind ⌝ }
+{
+    match kind {
+        BoundKind::Most(_) => true,
+        BoundKind::Groups(count) => {
+            if count < 1 {
+                return false;
+            }
+            count <= 16
+        }
+    }
+}
+
+// The group at place i, of so many that are listed.
+fn place_sound(n: usize, source: usize, is_listed: bool, group: u32) -> bool
+    ensures { λ r. ⌜ r ≡ pick «is_listed» (others n source group) (eqb group 0) ⌝ }
+{
+    if is_listed {
+        return others(n, source, group);
+    }
+    group == 0
+}
+
+fn places_sound(n: usize, source: usize, count: usize, groups: [u32; 16]) -> bool
+    ensures { λ r. ⌜ r ≡ all 16 (λ i. pick (ltb i count) (others n source (getD groups i 0)) (eqb (getD groups i 0) 0)) ⌝ }
+{
+    let mut i = 0;
+    while i < 16 {
+        if place_sound(n, source, i < count, groups[i]) {
+            i += 1;
+        } else {
+            return false;
+        }
+    }
+    true
+}
+
+pub fn groups_sound(n: usize, source: usize, bound: Bound) -> bool
+    ensures { λ r. ⌜ r ≡ groupsSound n source bound ⌝ }
+{
+    let kind = bound.kind;
+    let groups = bound.groups;
+    if listed_sound(kind) {
+        return places_sound(n, source, listed(kind), groups);
+    }
+    false
+}
+
+// The set lies in one of the groups; the empty one lies in any. The loop has no early end, so that the compiler can compare
+// several groups at once.
+fn fits(groups: [u32; 16], who: u32) -> bool
+    ensures { λ r. ⌜ r ≡ some 16 (λ i. all 32 (λ j. mem j who implies mem j (getD groups i 0))) ⌝ }
+{
+    let mut found = false;
+    let mut i: usize = 0;
+    while i < 16 {
+        found = found | (who & !groups[i] == 0);
+        i += 1;
+    }
+    found
+}
+
+// The set's terminals can't all be bad: they are more than f, or lie in no group.
+pub fn enough(bound: Bound, who: u32) -> bool
+    ensures { λ r. ⌜ r ≡ enough 32 bound (λ j. mem j who) ⌝ }
+{
+    let kind = bound.kind;
+    let groups = bound.groups;
+    match kind {
+        BoundKind::Most(f) => f < u32::count_ones(who) as usize,
+        BoundKind::Groups(_) => !fits(groups, who),
+    }
 }
 
 // A run can start so: a value that is not silence, and 0 to 40 rounds.

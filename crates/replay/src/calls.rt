@@ -5,12 +5,15 @@ use partition::WitnessCheck;
 use terminal::Record;
 
 fn step_on(body: &[u8], before: Record, said_to: &[u16], line: &mut [u8]) -> usize {
+    let placed = said::bound(body, 2);
+    let bound = placed.bound;
+    let at = placed.next;
     let stepped = terminal::step(
         said::byte(body, 0) as usize,
         said::byte(body, 1) as usize,
-        said::byte(body, 2) as usize,
-        said::byte(body, 3) as usize,
-        said::quad(body, 4),
+        bound,
+        said::byte(body, at) as usize,
+        said::quad(body, at + 1),
         before,
         said_to,
     );
@@ -20,9 +23,11 @@ fn step_on(body: &[u8], before: Record, said_to: &[u16], line: &mut [u8]) -> usi
     say::record(line, one, after)
 }
 
-// The count of what was said, then n, source, f, own number, heard set, record, and what was said.
+// The count of what was said, then n, source, the bound, own number, heard set, record, and what was
+// said.
 pub(crate) fn step(count: usize, body: &[u8], line: &mut [u8]) -> usize {
-    let placed = said::record(body, 8);
+    let told = said::bound(body, 2);
+    let placed = said::record(body, told.next + 5);
     let before = placed.record;
     let mut words = [0u16; 64];
     said::pairs(body, placed.next, &mut words);
@@ -38,25 +43,29 @@ fn witness_number(c: WitnessCheck) -> u8 {
         WitnessCheck::Rejected => 1,
         WitnessCheck::WrongRange => 4,
         WitnessCheck::WrongLink => 5,
+        WitnessCheck::WrongGroups => 17,
     }
 }
 
 // A plan and three sets.
 pub(crate) fn witness(body: &[u8], line: &mut [u8]) -> usize {
-    let p = said::plan(body);
+    let placed = said::plan(body);
+    let p = placed.plan;
+    let at = placed.next;
     let checked = partition::check_witness(
         p,
-        said::quad(body, 83),
-        said::quad(body, 87),
-        said::quad(body, 91),
+        said::quad(body, at),
+        said::quad(body, at + 4),
+        said::quad(body, at + 8),
     );
     say::byte(line, 0, witness_number(checked))
 }
 
 // A plan and a set.
 pub(crate) fn fault_set(body: &[u8], line: &mut [u8]) -> usize {
-    let p = said::plan(body);
-    let checked = faults::check_fault_set(p, said::quad(body, 83));
+    let placed = said::plan(body);
+    let p = placed.plan;
+    let checked = faults::check_fault_set(p, said::quad(body, placed.next));
     say::byte(line, 0, faults::number(checked))
 }
 
@@ -78,13 +87,15 @@ fn records(line: &mut [u8], at: usize, n: usize, list: [Record; 20]) -> usize {
 }
 
 fn site_on(body: &[u8], words: &[u16], line: &mut [u8]) -> usize {
-    let p = said::plan(body);
+    let placed = said::plan(body);
+    let p = placed.plan;
     let n = p.n;
+    let at = placed.next;
     let ran = simulation::run_site(
         p,
-        said::quad(body, 83),
-        said::pair(body, 87),
-        said::byte(body, 89),
+        said::quad(body, at),
+        said::pair(body, at + 4),
+        said::byte(body, at + 6),
         words,
     );
     let outcome = ran.outcome;
@@ -95,8 +106,9 @@ fn site_on(body: &[u8], words: &[u16], line: &mut [u8]) -> usize {
 
 // The count of words, then a plan, the fault set, the value, the rounds, and the words.
 pub(crate) fn site(count: usize, body: &[u8], line: &mut [u8]) -> usize {
+    let placed = said::plan(body);
     let mut words = [0u16; 12000];
-    said::pairs(body, 90, &mut words);
+    said::pairs(body, placed.next + 7, &mut words);
     if count <= 12000 {
         return site_on(body, &words[..count], line);
     }

@@ -46,7 +46,8 @@ struct Before {
 fn places(body: &[u8]) -> Before
     ensures { λ r. ⌜ r .next ≤ 9000 ⌝ }
 {
-    let first = said::record(body, 90);
+    let placed = said::plan(body);
+    let first = said::record(body, placed.next + 7);
     let second = said::record(body, first.next);
     let third = said::record(body, second.next);
     let fourth = said::record(body, third.next);
@@ -63,11 +64,14 @@ fn places(body: &[u8]) -> Before
 }
 
 fn lent_on(body: &[u8], before: [Record; 5], words: &[u16], line: &mut [u8]) -> usize {
+    let placed = said::plan(body);
+    let p = placed.plan;
+    let at = placed.next;
     let ran = lend(
-        said::plan(body),
-        said::quad(body, 83),
-        said::pair(body, 87),
-        said::byte(body, 89),
+        p,
+        said::quad(body, at),
+        said::pair(body, at + 4),
+        said::byte(body, at + 6),
         words,
         before,
     );

@@ -1,6 +1,8 @@
 // Numbers out of a call's bytes, high byte first; 0 past their end.
 ghost use Prim.Native.Nat.{_+_, _≤_};
 use plan::Plan;
+use quorum::Bound;
+use quorum::BoundKind;
 use terminal::Note;
 use terminal::Record;
 use terminal::State;
@@ -24,19 +26,68 @@ pub(crate) fn quad(body: &[u8], i: usize) -> u32
     (pair(body, i) as u32) * 65536 + (pair(body, i + 2) as u32)
 }
 
-// n, source, f in a byte each, then 20 rows of four bytes: 83 bytes.
-pub(crate) fn plan(body: &[u8]) -> Plan {
+// f, or how many groups are listed.
+fn kind(groups: bool, number: usize) -> BoundKind {
+    if groups {
+        return BoundKind::Groups(number);
+    }
+    BoundKind::Most(number)
+}
+
+// A bound, and the place after it.
+pub(crate) struct PlacedBound {
+    pub bound: Bound,
+    pub next: usize,
+}
+
+// 0 for f, else groups; f or their count; how many places are listed, and these; 0 at the others.
+pub(crate) fn bound(body: &[u8], i: usize) -> PlacedBound
+    requires { ⌜ i ≤ 60000 ⌝ }
+    ensures { λ r. ⌜ r .next ≤ i + 67 ⌝ }
+{
+    let mut groups = [0u32; 16];
+    let places = listed(body, i + 2, 16);
+    let mut k = 0;
+    while k < places {
+        groups[k] = quad(body, i + 3 + 4 * k);
+        k += 1;
+    }
+    let kind = kind(byte(body, i) != 0, byte(body, i + 1) as usize);
+    PlacedBound {
+        bound: Bound {
+            kind: kind,
+            groups: groups,
+        },
+        next: i + 3 + 4 * places,
+    }
+}
+
+// A plan, and the place after it.
+pub(crate) struct PlacedPlan {
+    pub plan: Plan,
+    pub next: usize,
+}
+
+// n and source in a byte each, the bound, then 20 rows of four bytes: at most 149 bytes.
+pub(crate) fn plan(body: &[u8]) -> PlacedPlan
+    ensures { λ r. ⌜ r .next ≤ 149 ⌝ }
+{
+    let placed = bound(body, 2);
+    let bound = placed.bound;
     let mut rows = [0u32; 20];
     let mut b = 0;
     while b < 20 {
-        rows[b] = quad(body, 3 + 4 * b);
+        rows[b] = quad(body, placed.next + 4 * b);
         b += 1;
     }
-    Plan {
-        n: byte(body, 0) as usize,
-        source: byte(body, 1) as usize,
-        f: byte(body, 2) as usize,
-        rows: rows,
+    PlacedPlan {
+        plan: Plan {
+            n: byte(body, 0) as usize,
+            source: byte(body, 1) as usize,
+            bound: bound,
+            rows: rows,
+        },
+        next: placed.next + 80,
     }
 }
 
@@ -50,15 +101,15 @@ fn state(body: &[u8], i: usize) -> State
     State::Taken(byte(body, i + 1), pair(body, i + 2))
 }
 
-// How many places of a note are listed: at most forty.
-fn listed(body: &[u8], i: usize) -> usize
-    ensures { λ r. ⌜ r ≤ 40 ⌝ }
+// How many places are listed: at most so many.
+fn listed(body: &[u8], i: usize, most: usize) -> usize
+    ensures { λ r. ⌜ r ≤ most ⌝ }
 {
     let places = byte(body, i) as usize;
-    if places <= 40 {
+    if places <= most {
         return places;
     }
-    40
+    most
 }
 
 // The count, how many places are listed, and these; 0 at the others.
@@ -66,7 +117,7 @@ fn note(body: &[u8], i: usize) -> Note
     requires { ⌜ i ≤ 60000 ⌝ }
 {
     let mut values = [0u16; 40];
-    let places = listed(body, i + 1);
+    let places = listed(body, i + 1, 40);
     let mut k = 0;
     while k < places {
         values[k] = pair(body, i + 2 + 2 * k);
@@ -98,7 +149,7 @@ pub(crate) fn record(body: &[u8], i: usize) -> Placed
     let mut j = 0;
     while j < 20 {
         notes[j] = note(body, at);
-        at = at + 2 + 2 * listed(body, at + 1);
+        at = at + 2 + 2 * listed(body, at + 1, 40);
         j += 1;
     }
     let state = state(body, i);

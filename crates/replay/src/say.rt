@@ -1,6 +1,8 @@
 // Digits into a line. Each function answers where the next digit goes; a line that is full takes no
 // more.
 ghost use Prim.Native.Nat.{_<_, _≤_};
+use quorum::Bound;
+use quorum::BoundKind;
 use terminal::Note;
 use terminal::Record;
 use terminal::State;
@@ -106,6 +108,58 @@ pub(crate) fn record(line: &mut [u8], at: usize, r: Record) -> usize {
     let one = state(line, at, s);
     let two = byte(line, one, r.round);
     notes(line, two, heard)
+}
+
+// 0 for f, 1 for groups, and f or their count.
+fn kind(line: &mut [u8], at: usize, kind: BoundKind) -> usize {
+    match kind {
+        BoundKind::Most(f) => {
+            let one = byte(line, at, 0);
+            size(line, one, f)
+        }
+        BoundKind::Groups(count) => {
+            let one = byte(line, at, 1);
+            size(line, one, count)
+        }
+    }
+}
+
+// The place after the last one that is not 0, where i is looked at after `last`.
+fn later_group(last: usize, i: usize, group: u32) -> usize
+    requires { ⌜ (last ≤ 16) × (i < 16) ⌝ }
+    ensures { λ r. ⌜ r ≤ 16 ⌝ }
+{
+    if group == 0 {
+        return last;
+    }
+    i + 1
+}
+
+fn listed_groups(groups: [u32; 16]) -> usize
+    ensures { λ r. ⌜ r ≤ 16 ⌝ }
+{
+    let mut last = 0;
+    let mut i = 0;
+    while i < 16 {
+        last = later_group(last, i, groups[i]);
+        i += 1;
+    }
+    last
+}
+
+// The kind and its number, how many places are listed, and these: all up to the last that is not 0.
+pub(crate) fn bound(line: &mut [u8], at: usize, bound: Bound) -> usize {
+    let groups = bound.groups;
+    let of = bound.kind;
+    let places = listed_groups(groups);
+    let one = kind(line, at, of);
+    let mut k = byte(line, one, places as u8);
+    let mut i = 0;
+    while i < places {
+        k = quad(line, k, groups[i]);
+        i += 1;
+    }
+    k
 }
 
 // A number below 65,536; nothing for a larger one.

@@ -61,9 +61,11 @@ fn write_into(p: Plan, out: &mut [u8], line: &mut [u8]) -> usize {
 
 // The room of the lent list, and a plan.
 pub(crate) fn write(room: usize, body: &[u8], line: &mut [u8]) -> usize {
-    let mut out = [90u8; 2800];
-    if room <= 2800 {
-        return write_into(said::plan(body), &mut out[..room], line);
+    let mut out = [90u8; 3000];
+    let placed = said::plan(body);
+    let p = placed.plan;
+    if room <= 3000 {
+        return write_into(p, &mut out[..room], line);
     }
     0
 }
@@ -123,11 +125,12 @@ fn rows(line: &mut [u8], at: usize, list: [u32; 20]) -> usize {
 fn plan_of(line: &mut [u8], r: FileRead) -> usize {
     let plan = r.progress.plan;
     let list = plan.rows;
+    let bound = plan.bound;
     let one = say::byte(line, 0, r.number);
     let two = say::pair(line, one, r.line);
     let three = say::size(line, two, plan.n);
     let four = say::size(line, three, plan.source);
-    let five = say::size(line, four, plan.f);
+    let five = say::bound(line, four, bound);
     rows(line, five, list)
 }
 

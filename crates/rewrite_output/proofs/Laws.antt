@@ -1,4 +1,4 @@
--- A plan file written anew: the writer's answer on an accepted file's plan is that text put into the list, and 2809 bytes have room for every plan.
+-- A plan file written anew: the writer's answer on an accepted file's plan is that text put into the list, and 2953 bytes have room for every plan.
 -- Assumes nothing.
 use Prim.Native.Nat.{ℕ, _≤_}
 use mathlib.Core.Path.{_≡_, sym, ap, _∙_}
@@ -40,11 +40,11 @@ module _ (file : List ℕ) (read : FileRead) (e : read ≡ fileRead (archiveRead
   anew-answer r w out a b =
       a ∙ ap (onLine (read .line)) (b ∙ ap (λ (n : ℕ). writtenOf n (length (writtenText (read .progress .plan))) (length out)) (sound ∙ sym z))
 
-pub rewritten-short : (file : List ℕ) → length (rewrittenText file) ≤ 2809
+pub rewritten-short : (file : List ℕ) → length (rewrittenText file) ≤ 2953
 unfolding rewrittenText rewrittenOn
-rewritten-short file = on-length (fileRead (archiveReading file)) _ 2809 (omega arith) (λ z. text-short (archiveReading file .progress .plan))
+rewritten-short file = on-length (fileRead (archiveReading file)) _ 2953 (omega arith) (λ z. text-short (archiveReading file .progress .plan) (archived-sound file z .0))
 
-pub rewritten-fits : (file : List ℕ) (room : ℕ) → 2809 ≤ room
+pub rewritten-fits : (file : List ℕ) (room : ℕ) → 2953 ≤ room
     → answerOn (fileRead (archiveReading file)) (rewrittenText file) room
     ≡ record { number = archiveReading file .number; line = archiveReading file .line; len = length (rewrittenText file) }
 rewritten-fits file room h = whole-text (fileRead (archiveReading file)) (rewrittenText file) room (omega (arith, rewritten-short file))

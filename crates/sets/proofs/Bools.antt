@@ -1,7 +1,7 @@
 -- Facts as equations of Bool: joined tests taken apart and put together, and a choice by a test. Assumes nothing.
 use mathlib.Core.Path.{_≡_, refl, sym, _∙_}
 use mathlib.Core.Logic.{_⊎_, inl, inr}
-use mathlib.Core.Bool.{Bool, true, false, not, true≢false}
+use mathlib.Core.Bool.{Bool, true, false, not, _||_, true≢false}
 use mathlib.Core.List.{List, [], _∷_}
 use Rattle.sets.specs.Tests.{_and_, _or_, _implies_, pick}
 
@@ -69,6 +69,12 @@ unfolding _or_
 or-no true b p q = clash refl p
 or-no false b p q = q
 
+-- the code's own
+pub or-code : (a b : Bool) → (a || b) ≡ (a or b)
+unfolding _or_
+or-code true b = refl
+or-code false b = refl
+
 pub not-i : {a : Bool} → a ≡ false → not a ≡ true
 not-i {a = true} h = clash refl h
 not-i {a = false} h = refl
@@ -100,6 +106,11 @@ pub implies-e : (a b : Bool) → a implies b ≡ true → a ≡ true → b ≡ t
 unfolding _implies_
 implies-e true b h p = h
 implies-e false b h p = clash p refl
+
+pub implies-no : (a b : Bool) → a ≡ false → a implies b ≡ true
+unfolding _implies_
+implies-no true b h = clash refl h
+implies-no false b h = refl
 
 -- a choice by a test: what it is where the test is known, and a claim about it from its two cases
 module _ {ℓ} {A : Type ℓ} where

@@ -2,16 +2,16 @@
 use Prim.Native.Nat.{ℕ, zero, suc, _+_, _-_, _*_, _/_, _^_, _≤_, _<_, zero-le, suc-le-suc}
 use mathlib.Core.Path.{_≡_, refl, sym, ap, ap₂, _∙_, subst}
 use mathlib.Core.Logic.{_⊎_, inl, inr, ⊎-elim}
-use mathlib.Core.Bool.{Bool, true, false, not}
-use native.Mathlib.Nat.{le-refl, le-of-suc-le-suc, not-suc-le-zero, zero-lt-suc, add-le-add, pow-suc, mul-one, mul-assoc}
+use mathlib.Core.Bool.{Bool, true, false, not, _||_}
+use native.Mathlib.Nat.{le-refl, le-of-suc-le-suc, not-suc-le-zero, zero-lt-suc, lt-of-lt-of-le, add-le-add, pow-suc, mul-one, mul-assoc}
 use native.Mathlib.Omega.{arith}
 use lib.Dec.{eqb, ltb}
 use lib.Pow.{pow-pos}
 use borrow.Author.Count.{below-more}
 use borrow.Author.Tests.{ltb-true, ltb-false, le-ltb, eqb-true, eqb-false}
-use Rattle.sets.specs.Tests.{_and_, _implies_}
-use Rattle.sets.specs.Sets.{bit, mem, count, all, mask}
-use Rattle.sets.proofs.Bools.{clash, decide, and-l, and-r, and-i, implies-e, implies-no-l, implies-no-r, not-e, not-no, no-by, same-test}
+use Rattle.sets.specs.Tests.{_and_, _or_, _implies_}
+use Rattle.sets.specs.Sets.{bit, mem, count, all, some, mask}
+use Rattle.sets.proofs.Bools.{clash, decide, and-l, and-r, and-i, or-l, or-r, or-e, or-code, implies-e, implies-no-l, implies-no-r, not-e, not-no, no-by, same-test}
 use Rattle.sets.proofs.Digits.{bit-test, low-of, high-of, half-lt, twice-lt, digits-same}
 
 pub below-or-not : (i n : ℕ) → (i < n) ⊎ (n ≤ i)
@@ -94,6 +94,46 @@ all-not (suc n) P h = go (P 0) refl h (all-not n (λ j. P (suc j)))
         → (all n (λ j. P (suc j)) ≡ false → (i : ℕ) × (i < n) × (P (suc i) ≡ false)) → (i : ℕ) × (i < suc n) × (P i ≡ false)
     go true e k rest = let r = rest k in (suc (r .0), suc-le-suc (r .1), r .2)
     go false e k rest = (0, zero-lt-suc n, e)
+
+-- ---- some terminal
+
+pub some-i : (n : ℕ) (P : ℕ → Bool) (i : ℕ) → i < n → P i ≡ true → some n P ≡ true
+unfolding some
+some-i zero P i k h = absurd (not-suc-le-zero k)
+some-i (suc n) P zero k h = or-l _ _ h
+some-i (suc n) P (suc i) k h = or-r _ _ (some-i n (λ j. P (suc j)) i (le-of-suc-le-suc k) h)
+
+pub some-at : (n : ℕ) (P : ℕ → Bool) → some n P ≡ true → (i : ℕ) × (i < n) × (P i ≡ true)
+unfolding some
+some-at zero P h = clash h refl
+some-at (suc n) P h =
+    ⊎-elim (λ e. (0, zero-lt-suc n, e))
+    (λ e. let r = some-at n (λ j. P (suc j)) e in (suc (r .0), suc-le-suc (r .1), r .2))
+    (or-e _ _ h)
+
+pub some-cong : (n : ℕ) (P Q : ℕ → Bool) → ((i : ℕ) → i < n → P i ≡ Q i) → some n P ≡ some n Q
+unfolding some
+some-cong zero P Q e = refl
+some-cong (suc n) P Q e =
+    ap₂ _or_ (e 0 (zero-lt-suc n)) (some-cong n (λ j. P (suc j)) (λ j. Q (suc j)) (λ i k. e (suc i) (suc-le-suc k)))
+
+-- over more terminals than matter
+pub all-width : (n w : ℕ) (P : ℕ → Bool) → n ≤ w → ((i : ℕ) → n ≤ i → P i ≡ true) → all w P ≡ all n P
+all-width n w P l z =
+    same-test _ _
+    (λ h. all-i n P (λ i k. all-at w P h i (lt-of-lt-of-le k l)))
+    (λ h. all-i w P (λ i k. ⊎-elim (all-at n P h i) (z i) (below-or-not i n)))
+
+-- the terminals below i + 1 are those below i, and i
+some-next : (i : ℕ) (P : ℕ → Bool) → some i P or P i ≡ some (i + 1) P
+some-next i P =
+    same-test _ _
+    (λ h. ⊎-elim (λ e. let w = some-at i P e in some-i (i + 1) P (w .0) (omega (arith, w .1)) (w .2)) (λ e. some-i (i + 1) P i (omega arith) e) (or-e _ _ h))
+    (λ h. let w = some-at (i + 1) P h in
+    ⊎-elim (λ k. or-l _ _ (some-i i P (w .0) k (w .2))) (λ k. or-r _ _ (subst (λ (j : ℕ). P j ≡ true) (let l = w .1 in omega arith) (w .2))) (below-or-not (w .0) i))
+
+pub some-turn : (i : ℕ) (P : ℕ → Bool) (found : Bool) → found ≡ some i P → (found || P i) ≡ some (i + 1) P
+some-turn i P found e = ap (λ (b : Bool). b || P i) e ∙ or-code (some i P) (P i) ∙ some-next i P
 
 -- ---- counts
 

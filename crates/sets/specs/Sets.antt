@@ -21,7 +21,7 @@ unfoldable pub mem : Terminal → Set → Bool
 mem zero s = eqb (s % 2) 1
 mem (suc i) s = mem i (s / 2)
 
--- of the terminals below n: how many have P; have all of them P; the set of those that have P
+-- of the terminals below n: how many have P; have all of them P; has one of them P; the set of those that have P
 unfoldable pub count : (n : ℕ) → (Terminal → Bool) → ℕ
 count zero P = 0
 count (suc n) P = bit (P 0) + count n (λ i. P (suc i))
@@ -29,6 +29,10 @@ count (suc n) P = bit (P 0) + count n (λ i. P (suc i))
 unfoldable pub all : (n : ℕ) → (Terminal → Bool) → Bool
 all zero P = true
 all (suc n) P = P 0 and all n (λ i. P (suc i))
+
+unfoldable pub some : (n : ℕ) → (Terminal → Bool) → Bool
+some zero P = false
+some (suc n) P = P 0 or some n (λ i. P (suc i))
 
 unfoldable pub mask : (n : ℕ) → (Terminal → Bool) → Set
 mask zero P = 0

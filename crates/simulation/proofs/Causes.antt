@@ -16,17 +16,18 @@ use Rattle.closure.specs.FaultSet.{isFaultSet}
 use Rattle.faults.specs.Check.{faultCauseOf}
 use Rattle.faults.proofs.Laws.{fault-sound}
 use Rattle.simulation.specs.declared.Outcome.{Outcome}
-use Rattle.simulation.specs.declared.Outcome.the-variants.{Played, WrongRange, WrongLink, WrongMember, OverBound, WrongStart, WrongLength}
+use Rattle.simulation.specs.declared.Outcome.the-variants.{Played, WrongRange, WrongLink, WrongGroups, WrongMember, OverBound, WrongStart, WrongLength}
 use Rattle.simulation.specs.Answer.{numberOf, listsFit, runCause, turnsOf}
 use Rattle.quorum.specs.Words.{startSound}
 use Rattle.quorum.proofs.Words.{start-parts}
 use Rattle.simulation.proofs.Outcome.{the-type}
 
 -- an outcome other than Played has a number that is not 0
-pub not-played : (o : Outcome) → OneOf (1 ∷ 2 ∷ 3 ∷ 4 ∷ 5 ∷ 6 ∷ []) (tagOf the-type o) → eqb (numberOf o) 0 ≡ false
-not-played Played h = absurd (miss (1 ∷ 2 ∷ 3 ∷ 4 ∷ 5 ∷ 6 ∷ []) 0 tt h)
+pub not-played : (o : Outcome) → OneOf (1 ∷ 2 ∷ 3 ∷ 4 ∷ 5 ∷ 6 ∷ 7 ∷ []) (tagOf the-type o) → eqb (numberOf o) 0 ≡ false
+not-played Played h = absurd (miss (1 ∷ 2 ∷ 3 ∷ 4 ∷ 5 ∷ 6 ∷ 7 ∷ []) 0 tt h)
 not-played WrongRange h = refl
 not-played WrongLink h = refl
+not-played WrongGroups h = refl
 not-played WrongMember h = refl
 not-played OverBound h = refl
 not-played WrongStart h = refl

@@ -46,11 +46,11 @@ module _ (p : Plan) (checked : plan.causeOf p ≡ 0) (faulty value : ℕ) (layou
 
   -- no step of a good terminal is refused before round 40
   cause-none : (q b m : ℕ) → q < 40 → b < p .n → mem b faulty ≡ false → m ≡ p .n
-      → causeOf (p .n) (p .source) (p .f) b (heardBy p b) (here q b) m ≡ 0
+      → causeOf (p .n) (p .source) (p .bound) b (heardBy p b) (here q b) m ≡ 0
   cause-none q b m h k g e =
       let s = safe p (sound p checked) faulty value script fault q b k g in
       let rd : held q b .round ≡ q = s .round-is in
-      not-refused (p .n) (p .source) (p .f) b (heardBy p b) (held q b) (s .regular) m (tests p checked .0) (row-of p (tests p checked .1) b k (sound p checked .twenty))
+      not-refused (p .n) (p .source) (p .bound) b (heardBy p b) (held q b) (s .regular) m (tests p checked .range) (row-of p (tests p checked .links) b k (sound p checked .twenty)) (tests p checked .groups)
       (omega arith) k
       (λ w y. not-both (subst (λ (x : ℕ). held q x .state ≡ Waiting) y w) (source-taken p (sound p checked) faulty value layout script fault q))
       (λ t v w. let u = s .taken t v w in ((let l : t ≤ q = u .1 in omega arith), λ z. layout (sym (u .0) ∙ z))) e
@@ -100,19 +100,19 @@ module _ (p : Plan) (checked : plan.causeOf p ≡ 0) (faulty value : ℕ) (layou
       heard = take (p .n) (table 20 (heardIn (s .turn) words))
 
       stepped : mem b faulty ≡ false
-          → recordAfter (s .turn .plan .n) (s .turn .plan .source) (s .turn .plan .f) (s .turn .at) (heardBy (s .turn .plan) (s .turn .at))
+          → recordAfter (s .turn .plan .n) (s .turn .plan .source) (s .turn .plan .bound) (s .turn .at) (heardBy (s .turn .plan) (s .turn .at))
           (getD (s .records) (s .turn .at) nothingHeard) (take (s .turn .plan .n) (table 20 (heardIn (s .turn) words)))
-          ≡ shown (step (p .n) (p .source) (p .f) (heardBy p b) (word p faulty value script q b) (held q b))
+          ≡ shown (step (p .n) (p .source) (p .bound) (heardBy p b) (word p faulty value script q b) (held q b))
       stepped g =
           let safely = safe p (sound p checked) faulty value script fault q b k g in
           let rd : held q b .round ≡ q = safely .round-is in
           (λ i.
-          recordAfter (a .plan-is i .n) (a .plan-is i .source) (a .plan-is i .f) (a .at-is i) (heardBy (a .plan-is i) (a .at-is i)) (before i)
+          recordAfter (a .plan-is i .n) (a .plan-is i .source) (a .plan-is i .bound) (a .at-is i) (heardBy (a .plan-is i) (a .at-is i)) (before i)
           (take (a .plan-is i .n) (table 20 (heardIn (s .turn) words))))
-          ∙ shown-step (p .n) (p .source) (p .f) b (heardBy p b) (held q b) (safely .regular) heard (omega arith)
+          ∙ shown-step (p .n) (p .source) (p .bound) b (heardBy p b) (held q b) (safely .regular) heard (omega arith)
           (cause-none q b (length heard) (omega arith) k g
           (length-take-le (p .n) (table 20 (heardIn (s .turn) words)) (let v = sound p checked .twenty in omega (arith, table-length 20 (heardIn (s .turn) words)))))
-          ∙ ap (λ (w : ℕ → ℕ). shown (step (p .n) (p .source) (p .f) (heardBy p b) w (held q b)))
+          ∙ ap (λ (w : ℕ → ℕ). shown (step (p .n) (p .source) (p .bound) (heardBy p b) w (held q b)))
           (fun-ext (heard-is (s .turn) q b (a .plan-is) (a .faulty-is) (a .round-is) (a .at-is) k (a .spoken-is q refl)))
 
   -- ---- the traversal, with these records

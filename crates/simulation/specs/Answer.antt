@@ -1,4 +1,4 @@
--- What the run answers for all arguments: document 01's number for each cause of refusal, and the records. Assumes nothing.
+-- What the run answers for all arguments: the documents' number for each cause of refusal, and the records. Assumes nothing.
 use Prim.Native.Nat.{ℕ, _+_, _*_, _-_, _≤_, _<_}
 use mathlib.Core.Path.{_≡_}
 use mathlib.Core.Bool.{Bool, true, false, not}
@@ -22,13 +22,14 @@ use Rattle.propagation.specs.Run.{Silent, sites, site, scriptOf}
 use Rattle.sets.specs.Tables.{table}
 use Rattle.propagation.specs.Demand3.{Good}
 use Rattle.simulation.specs.declared.Outcome.{Outcome}
-use Rattle.simulation.specs.declared.Outcome.the-variants.{Played, WrongRange, WrongLink, WrongMember, OverBound, WrongStart, WrongLength}
+use Rattle.simulation.specs.declared.Outcome.the-variants.{Played, WrongRange, WrongLink, WrongGroups, WrongMember, OverBound, WrongStart, WrongLength}
 
--- document 01's number of each outcome, 0 where nothing is refused
+-- the documents' number of each outcome, 0 where nothing is refused
 abbrev pub numberOf : Outcome → ℕ
 numberOf Played = 0
 numberOf WrongRange = 4
 numberOf WrongLink = 5
+numberOf WrongGroups = 17
 numberOf WrongMember = 7
 numberOf OverBound = 8
 numberOf WrongStart = 9

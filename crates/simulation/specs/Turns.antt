@@ -27,7 +27,7 @@ unfoldable pub recordOf : Turn → List ℕ → Record → Record
 recordOf t words before =
     pick (eqb (t .round) 0) (shown (startRecord (t .plan) (t .value) (t .at)))
     (pick (mem (t .at) (t .faulty)) nothingHeard
-    (recordAfter (t .plan .n) (t .plan .source) (t .plan .f) (t .at) (heardBy (t .plan) (t .at)) before (take (t .plan .n) (table 20 (heardIn t words)))))
+    (recordAfter (t .plan .n) (t .plan .source) (t .plan .bound) (t .at) (heardBy (t .plan) (t .at)) before (take (t .plan .n) (table 20 (heardIn t words)))))
 
 -- the next turn, where this terminal says `word` in the next round: what is said in a round is fixed before its first step
 unfoldable pub nextTurn : Turn → ℕ → Turn

@@ -15,13 +15,14 @@ pub enum Outcome {
     Played,
     WrongRange,
     WrongLink,
+    WrongGroups,
     WrongMember,
     OverBound,
     WrongStart,
     WrongLength,
 }
 
-// Document 01's number of the outcome, 0 where nothing is refused.
+// The documents' number of the outcome, 0 where nothing is refused.
 pub fn number(o: Outcome) -> u8
     ensures { λ r. ⌜ r ≡ numberOf o ⌝ }
 {
@@ -29,6 +30,7 @@ pub fn number(o: Outcome) -> u8
         Outcome::Played => 0,
         Outcome::WrongRange => 4,
         Outcome::WrongLink => 5,
+        Outcome::WrongGroups => 17,
         Outcome::WrongMember => 7,
         Outcome::OverBound => 8,
         Outcome::WrongStart => 9,
@@ -88,6 +90,7 @@ fn refused(c: FaultSetCheck) -> Outcome
         FaultSetCheck::Sound => Outcome::Played,
         FaultSetCheck::WrongRange => Outcome::WrongRange,
         FaultSetCheck::WrongLink => Outcome::WrongLink,
+        FaultSetCheck::WrongGroups => Outcome::WrongGroups,
         FaultSetCheck::WrongMember => Outcome::WrongMember,
         FaultSetCheck::OverBound => Outcome::OverBound,
     }

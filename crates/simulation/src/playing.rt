@@ -71,6 +71,7 @@ fn record_of(t: Turn, words: &[u16], before: Record) -> Record
 {
     let plan = t.plan;
     let rows = plan.rows;
+    let bound = plan.bound;
     let n = plan.n;
     let at = t.at;
     if t.round == 0 {
@@ -80,7 +81,7 @@ fn record_of(t: Turn, words: &[u16], before: Record) -> Record
         return terminal::start();
     }
     let said = heard(t, words);
-    let stepped = terminal::step(n, plan.source, plan.f, at, rows[at], before, &said[..n]);
+    let stepped = terminal::step(n, plan.source, bound, at, rows[at], before, &said[..n]);
     stepped.after
 }
 

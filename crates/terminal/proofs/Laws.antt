@@ -11,7 +11,8 @@ use borrow.Author.Tests.{lt-ltb, le-leb, eq-eqb, ne-eqb}
 use lib.ListN.{length, getD, replicate, length-replicate}
 use Rattle.sets.specs.Tests.{_and_, _implies_}
 use Rattle.sets.specs.Sets.{mem}
-use Rattle.quorum.specs.Quorum.{enough, inRange, hearsSoundly}
+use Rattle.quorum.specs.declared.Bound.{Bound}
+use Rattle.quorum.specs.Quorum.{enough, inRange, others, groupsSound}
 use Rattle.sets.proofs.Bools.{no-by, and-i, and-no-l, and-no-r, not-i, not-yes, implies-i, pick-yes, pick-no}
 use Rattle.sets.proofs.Laws.{all-i}
 use Rattle.sets.proofs.Causes.{cause-here, cause-later, cause-last}
@@ -26,11 +27,11 @@ use Rattle.terminal.proofs.Values.{unheard-word, word-length, word-long
 use Rattle.terminal.proofs.Notes.{noted-length, noted-at, noted-by, nothing-noted, has-i, has-layout, has-among, choice-why, choice-none-source, choice-none-certified, choice-least}
 use Rattle.terminal.proofs.Shown.{shown-state, shown-round, shown-count, view-shown, shown-over}
 
--- why a waiting terminal took v: it has it from the source, or from more than f neighbours
-unfoldable pub Reason : ℕ → ℕ → ℕ → ℕ → View → ℕ → Type 0
-Reason n source f heard r v =
+-- why a waiting terminal took v: it has it from the source, or from enough neighbours
+unfoldable pub Reason : ℕ → ℕ → Bound → ℕ → View → ℕ → Type 0
+Reason n source bound heard r v =
     ((mem source heard ≡ true) × (holds r v source ≡ true))
-    ⊎ (enough n f (λ j. mem j heard and holds r v j) ≡ true)
+    ⊎ (enough n bound (λ j. mem j heard and holds r v j) ≡ true)
 
 taking-taken : (round v at w : ℕ) → taking round v ≡ Taken at w → (at ≡ round) × (w ≡ v) × (v ≡ 0 → ⊥)
 unfolding taking
@@ -76,152 +77,152 @@ unfolding holds
 holds-layout r v j h = has-layout (r .notes) v j h
 
 -- a source that starts with 0, which is no layout, is refused by its first step
-pub source-start-zero : (n source f own heard words : ℕ) → inRange n source f ≡ true → hearsSoundly n own heard ≡ true
-    → causeOf n source f own heard (shown (sourceStart 0)) words ≡ 13
+pub source-start-zero : (n source : ℕ) (bound : Bound) (own heard words : ℕ) → inRange n source (bound .kind) ≡ true → others n own heard ≡ true
+    → groupsSound n source bound ≡ true → causeOf n source bound own heard (shown (sourceStart 0)) words ≡ 13
 unfolding causeOf recordSound stateSound shown shownOver
-source-start-zero n source f own heard words r h =
-    cause-later _ 4 _ (not-yes r) ∙ cause-later _ 5 _ (not-yes h)
+source-start-zero n source bound own heard words r h g =
+    cause-later _ 4 _ (not-yes r) ∙ cause-later _ 5 _ (not-yes h) ∙ cause-later _ 17 _ (not-yes g)
     ∙ cause-here _ 13 _ (not-i (and-no-r (ltb 0 40) _ (and-no-r (ltb own n) _ (and-no-l _ _ (and-no-r (leb 0 0) (not (eqb 0 0)) refl)))))
 
 -- ---- the step: `notes` stands for the notes before it
 
-module _ (n source f heard : ℕ) (said : ℕ → ℕ) where
+module _ (n source : ℕ) (bound : Bound) (heard : ℕ) (said : ℕ → ℕ) where
   -- a taken state stays
-  pub taken-stays : (r : View) (at value : ℕ) → r .state ≡ Taken at value → step n source f heard said r .state ≡ Taken at value
+  pub taken-stays : (r : View) (at value : ℕ) → r .state ≡ Taken at value → step n source bound heard said r .state ≡ Taken at value
   unfolding step stepFrom
-  taken-stays r at value e = ap (λ (s : State). stepFrom s n source f heard said (r .round) (r .notes) .state) e
+  taken-stays r at value e = ap (λ (s : State). stepFrom s n source bound heard said (r .round) (r .notes) .state) e
 
   -- one that has taken notes nothing
-  pub taken-notes : (r : View) (at value : ℕ) → r .state ≡ Taken at value → step n source f heard said r .notes ≡ r .notes
+  pub taken-notes : (r : View) (at value : ℕ) → r .state ≡ Taken at value → step n source bound heard said r .notes ≡ r .notes
   unfolding step stepFrom
-  taken-notes r at value e = ap (λ (s : State). stepFrom s n source f heard said (r .round) (r .notes) .notes) e
+  taken-notes r at value e = ap (λ (s : State). stepFrom s n source bound heard said (r .round) (r .notes) .notes) e
 
-  from-round : (s : State) (round : ℕ) (notes : List (List ℕ)) → stepFrom s n source f heard said round notes .round ≡ round + 1
+  from-round : (s : State) (round : ℕ) (notes : List (List ℕ)) → stepFrom s n source bound heard said round notes .round ≡ round + 1
   unfolding stepFrom
   from-round Waiting round notes = refl
   from-round (Taken at value) round notes = refl
 
   -- each step raises the round number by one
-  pub step-round : (r : View) → step n source f heard said r .round ≡ r .round + 1
+  pub step-round : (r : View) → step n source bound heard said r .round ≡ r .round + 1
   unfolding step
   step-round r = from-round (r .state) (r .round) (r .notes)
 
-  from-room : (s : State) (round : ℕ) (notes : List (List ℕ)) → length (stepFrom s n source f heard said round notes .notes) ≡ length notes
+  from-room : (s : State) (round : ℕ) (notes : List (List ℕ)) → length (stepFrom s n source bound heard said round notes .notes) ≡ length notes
   unfolding stepFrom
   from-room Waiting round notes = noted-length n (λ j. mem j heard) said notes
   from-room (Taken at value) round notes = refl
 
   -- what holds of a neighbour's values before the step, and of them with what it says, holds after it
   from-by {ℓ} : (Q : List ℕ → Type ℓ) (s : State) (round : ℕ) (notes : List (List ℕ)) (j : ℕ)
-      → Q (valuesOf notes j) → Q (withWord (mem j heard) (valuesOf notes j) (said j)) → Q (valuesOf (stepFrom s n source f heard said round notes .notes) j)
+      → Q (valuesOf notes j) → Q (withWord (mem j heard) (valuesOf notes j) (said j)) → Q (valuesOf (stepFrom s n source bound heard said round notes .notes) j)
   unfolding stepFrom
   from-by Q Waiting round notes j p q = noted-by Q n (λ j. mem j heard) said notes j p q
   from-by Q (Taken at value) round notes j p q = p
 
   pub step-by {ℓ} : (Q : List ℕ → Type ℓ) (r : View) (j : ℕ)
-      → Q (valuesOf (r .notes) j) → Q (withWord (mem j heard) (valuesOf (r .notes) j) (said j)) → Q (valuesOf (step n source f heard said r .notes) j)
+      → Q (valuesOf (r .notes) j) → Q (withWord (mem j heard) (valuesOf (r .notes) j) (said j)) → Q (valuesOf (step n source bound heard said r .notes) j)
   unfolding step
   step-by Q r j p q = from-by Q (r .state) (r .round) (r .notes) j p q
 
-  pub step-regular : (r : View) → Regular r → Regular (step n source f heard said r)
+  pub step-regular : (r : View) → Regular r → Regular (step n source bound heard said r)
   unfolding step
   step-regular r g = record {
     room = from-room (r .state) (r .round) (r .notes) ∙ g .room;
     layouts = λ j.
         step-by (λ (values : List ℕ). among 0 values ≡ false) r j (g .layouts j) (word-clean (mem j heard) (valuesOf (r .notes) j) (said j) (g .layouts j));
     few = λ j.
-        let e : step n source f heard said r .round ≡ r .round + 1 = step-round r in
+        let e : step n source bound heard said r .round ≡ r .round + 1 = step-round r in
         let old : length (valuesOf (r .notes) j) ≤ r .round = g .few j in
-        subst (λ (m : ℕ). length (valuesOf (step n source f heard said r .notes) j) ≤ m) (sym e)
+        subst (λ (m : ℕ). length (valuesOf (step n source bound heard said r .notes) j) ≤ m) (sym e)
         (step-by (λ (values : List ℕ). length values ≤ r .round + 1) r j (omega arith)
         (omega (arith, word-length (mem j heard) (valuesOf (r .notes) j) (said j))));
   }
 
   -- the values of one who is not heard stay, and no neighbour loses any
-  pub step-unheard : (r : View) (j : ℕ) → mem j heard ≡ false → valuesOf (step n source f heard said r .notes) j ≡ valuesOf (r .notes) j
+  pub step-unheard : (r : View) (j : ℕ) → mem j heard ≡ false → valuesOf (step n source bound heard said r .notes) j ≡ valuesOf (r .notes) j
   step-unheard r j h =
       step-by (λ (values : List ℕ). values ≡ valuesOf (r .notes) j) r j refl
       (ap (λ (b : Bool). withWord b (valuesOf (r .notes) j) (said j)) h ∙ unheard-word (valuesOf (r .notes) j) (said j))
 
-  pub step-longer : (r : View) (j : ℕ) → length (valuesOf (r .notes) j) ≤ length (valuesOf (step n source f heard said r .notes) j)
+  pub step-longer : (r : View) (j : ℕ) → length (valuesOf (r .notes) j) ≤ length (valuesOf (step n source bound heard said r .notes) j)
   step-longer r j =
       step-by (λ (values : List ℕ). length (valuesOf (r .notes) j) ≤ length values) r j (omega arith) (word-longer (mem j heard) (valuesOf (r .notes) j) (said j))
 
   -- the step of a waiting terminal: its notes, and the state that its choice gives
-  waiting-notes : (r : View) → r .state ≡ Waiting → step n source f heard said r .notes ≡ noted n (λ j. mem j heard) said (r .notes)
+  waiting-notes : (r : View) → r .state ≡ Waiting → step n source bound heard said r .notes ≡ noted n (λ j. mem j heard) said (r .notes)
   unfolding step stepFrom
-  waiting-notes r e = ap (λ (s : State). stepFrom s n source f heard said (r .round) (r .notes) .notes) e
+  waiting-notes r e = ap (λ (s : State). stepFrom s n source bound heard said (r .round) (r .notes) .notes) e
 
   waiting-taking : (r : View) → r .state ≡ Waiting
-      → step n source f heard said r .state ≡ taking (r .round + 1) (choice n source f heard (noted n (λ j. mem j heard) said (r .notes)))
+      → step n source bound heard said r .state ≡ taking (r .round + 1) (choice n source bound heard (noted n (λ j. mem j heard) said (r .notes)))
   unfolding step stepFrom
-  waiting-taking r e = ap (λ (s : State). stepFrom s n source f heard said (r .round) (r .notes) .state) e
+  waiting-taking r e = ap (λ (s : State). stepFrom s n source bound heard said (r .round) (r .notes) .state) e
 
   waiting-state : (r : View) → r .state ≡ Waiting
-      → step n source f heard said r .state ≡ taking (r .round + 1) (choice n source f heard (step n source f heard said r .notes))
+      → step n source bound heard said r .state ≡ taking (r .round + 1) (choice n source bound heard (step n source bound heard said r .notes))
   waiting-state r e =
-      waiting-taking r e ∙ ap (λ (ns : List (List ℕ)). taking (r .round + 1) (choice n source f heard ns)) (sym (waiting-notes r e))
+      waiting-taking r e ∙ ap (λ (ns : List (List ℕ)). taking (r .round + 1) (choice n source bound heard ns)) (sym (waiting-notes r e))
 
-  -- what a waiting terminal takes is the source's word or has more than f votes, and the take keeps the raised round number
-  pub takes : (r : View) (at value : ℕ) → r .state ≡ Waiting → step n source f heard said r .state ≡ Taken at value
-      → (at ≡ r .round + 1) × Reason n source f heard (step n source f heard said r) value
+  -- what a waiting terminal takes is the source's word or has enough votes, and the take keeps the raised round number
+  pub takes : (r : View) (at value : ℕ) → r .state ≡ Waiting → step n source bound heard said r .state ≡ Taken at value
+      → (at ≡ r .round + 1) × Reason n source bound heard (step n source bound heard said r) value
   unfolding Reason certified holds
   takes r at value w t =
-      let p = taking-taken (r .round + 1) (choice n source f heard (step n source f heard said r .notes)) at value (sym (waiting-state r w) ∙ t) in
-      (p .0, subst (λ (v : ℕ). Reason n source f heard (step n source f heard said r) v) (sym (p .1)) (choice-why n source f heard (step n source f heard said r .notes) (p .2)))
+      let p = taking-taken (r .round + 1) (choice n source bound heard (step n source bound heard said r .notes)) at value (sym (waiting-state r w) ∙ t) in
+      (p .0, subst (λ (v : ℕ). Reason n source bound heard (step n source bound heard said r) v) (sym (p .1)) (choice-why n source bound heard (step n source bound heard said r .notes) (p .2)))
 
-  -- one that goes on waiting has nothing from the source, and no value with more than f votes
-  pub waits-source : (r : View) → Regular r → r .state ≡ Waiting → step n source f heard said r .state ≡ Waiting → mem source heard ≡ true
-      → (v : ℕ) → holds (step n source f heard said r) v source ≡ false
+  -- one that goes on waiting has nothing from the source, and no value with enough votes
+  pub waits-source : (r : View) → Regular r → r .state ≡ Waiting → step n source bound heard said r .state ≡ Waiting → mem source heard ≡ true
+      → (v : ℕ) → holds (step n source bound heard said r) v source ≡ false
   unfolding holds
   waits-source r g w t h v =
       no-by
       (λ k.
-      first-some v (valuesOf (step n source f heard said r .notes) source) (step-regular r g .layouts source)
-      (has-among (step n source f heard said r .notes) v source k)
-      (choice-none-source n source f heard (step n source f heard said r .notes)
-      (taking-waits (r .round + 1) (choice n source f heard (step n source f heard said r .notes)) (sym (waiting-state r w) ∙ t)) h))
+      first-some v (valuesOf (step n source bound heard said r .notes) source) (step-regular r g .layouts source)
+      (has-among (step n source bound heard said r .notes) v source k)
+      (choice-none-source n source bound heard (step n source bound heard said r .notes)
+      (taking-waits (r .round + 1) (choice n source bound heard (step n source bound heard said r .notes)) (sym (waiting-state r w) ∙ t)) h))
 
-  pub waits-votes : (r : View) → r .state ≡ Waiting → step n source f heard said r .state ≡ Waiting
-      → (v : ℕ) → enough n f (λ j. mem j heard and holds (step n source f heard said r) v j) ≡ false
+  pub waits-votes : (r : View) → r .state ≡ Waiting → step n source bound heard said r .state ≡ Waiting
+      → (v : ℕ) → enough n bound (λ j. mem j heard and holds (step n source bound heard said r) v j) ≡ false
   unfolding certified holds
   waits-votes r w t v =
-      choice-none-certified n source f heard (step n source f heard said r .notes)
-      (taking-waits (r .round + 1) (choice n source f heard (step n source f heard said r .notes)) (sym (waiting-state r w) ∙ t)) v
+      choice-none-certified n source bound heard (step n source bound heard said r .notes)
+      (taking-waits (r .round + 1) (choice n source bound heard (step n source bound heard said r .notes)) (sym (waiting-state r w) ∙ t)) v
 
   -- a waiting terminal that takes without a first value of the source takes the smallest that has enough votes
-  pub takes-least : (r : View) (at value : ℕ) → r .state ≡ Waiting → step n source f heard said r .state ≡ Taken at value
-      → (mem source heard and not (eqb (firstOf (valuesOf (step n source f heard said r .notes) source)) 0) ≡ false)
-      → (v : ℕ) → enough n f (λ j. mem j heard and holds (step n source f heard said r) v j) ≡ true → value ≤ v
+  pub takes-least : (r : View) (at value : ℕ) → r .state ≡ Waiting → step n source bound heard said r .state ≡ Taken at value
+      → (mem source heard and not (eqb (firstOf (valuesOf (step n source bound heard said r .notes) source)) 0) ≡ false)
+      → (v : ℕ) → enough n bound (λ j. mem j heard and holds (step n source bound heard said r) v j) ≡ true → value ≤ v
   unfolding certified holds
   takes-least r at value w t s v h =
-      let p = taking-taken (r .round + 1) (choice n source f heard (step n source f heard said r .notes)) at value (sym (waiting-state r w) ∙ t) in
-      subst (λ (x : ℕ). x ≤ v) (sym (p .1)) (choice-least n source f heard (step n source f heard said r .notes) s v h)
+      let p = taking-taken (r .round + 1) (choice n source bound heard (step n source bound heard said r .notes)) at value (sym (waiting-state r w) ∙ t) in
+      subst (λ (x : ℕ). x ≤ v) (sym (p .1)) (choice-least n source bound heard (step n source bound heard said r .notes) s v h)
 
   -- what is noted of a neighbour was noted before, or it said it now
-  pub note-said : (r : View) (v j : ℕ) → holds (step n source f heard said r) v j ≡ true
+  pub note-said : (r : View) (v j : ℕ) → holds (step n source bound heard said r) v j ≡ true
       → (holds r v j ≡ true) ⊎ ((mem j heard ≡ true) × (said j ≡ v))
   unfolding holds
   note-said r v j h =
-      let z = has-layout (step n source f heard said r .notes) v j h in
+      let z = has-layout (step n source bound heard said r .notes) v j h in
       ⊎-elim (λ e. inl (has-i (r .notes) v j z e)) inr
       (step-by (λ (values : List ℕ). among v values ≡ true → (among v (valuesOf (r .notes) j) ≡ true) ⊎ ((mem j heard ≡ true) × (said j ≡ v))) r j
-      inl (word-said (mem j heard) (valuesOf (r .notes) j) (said j) v) (has-among (step n source f heard said r .notes) v j h))
+      inl (word-said (mem j heard) (valuesOf (r .notes) j) (said j) v) (has-among (step n source bound heard said r .notes) v j h))
 
   -- what is noted stays
-  pub note-stays : (r : View) (v j : ℕ) → holds r v j ≡ true → holds (step n source f heard said r) v j ≡ true
+  pub note-stays : (r : View) (v j : ℕ) → holds r v j ≡ true → holds (step n source bound heard said r) v j ≡ true
   unfolding holds
   note-stays r v j h =
       let e = has-among (r .notes) v j h in
-      has-i (step n source f heard said r .notes) v j (has-layout (r .notes) v j h)
+      has-i (step n source bound heard said r .notes) v j (has-layout (r .notes) v j h)
       (step-by (λ (values : List ℕ). among v values ≡ true) r j e (word-stays (mem j heard) (valuesOf (r .notes) j) (said j) v e))
 
   -- what a heard neighbour says to a waiting terminal is noted, whatever it said before: from then on it counts for the value
   pub spoken-noted : (r : View) (j : ℕ) → r .state ≡ Waiting → j < n → j < length (r .notes) → mem j heard ≡ true → (said j ≡ 0 → ⊥)
-      → holds (step n source f heard said r) (said j) j ≡ true
+      → holds (step n source bound heard said r) (said j) j ≡ true
   unfolding holds
   spoken-noted r j w k l h z =
-      has-i (step n source f heard said r .notes) (said j) j z
+      has-i (step n source bound heard said r .notes) (said j) j z
       (ap (λ (ns : List (List ℕ)). among (said j) (valuesOf ns j)) (waiting-notes r w)
       ∙ ap (among (said j)) (noted-at n (λ j. mem j heard) said (r .notes) j k l)
       ∙ ap (λ (b : Bool). among (said j) (withWord b (valuesOf (r .notes) j) (said j))) h
@@ -235,15 +236,15 @@ unfolding stateSound
 state-sound Waiting isSource round w t = not-i (w refl)
 state-sound (Taken a v) isSource round w t = let h = t a v refl in and-i _ _ (le-leb a round (h .0)) (not-i (ne-eqb v 0 (h .1)))
 
-module _ (n source f own heard : ℕ) (r : View) (regular : Regular r) where
+module _ (n source : ℕ) (bound : Bound) (own heard : ℕ) (r : View) (regular : Regular r) where
   -- it is not refused before round 40
-  pub not-refused : (words : ℕ) → inRange n source f ≡ true → hearsSoundly n own heard ≡ true
+  pub not-refused : (words : ℕ) → inRange n source (bound .kind) ≡ true → others n own heard ≡ true → groupsSound n source bound ≡ true
       → r .round < 40 → own < n → (r .state ≡ Waiting → own ≡ source → ⊥) → ((t v : ℕ) → r .state ≡ Taken t v → (t ≤ r .round) × (v ≡ 0 → ⊥))
-      → words ≡ n → causeOf n source f own heard (shown r) words ≡ 0
+      → words ≡ n → causeOf n source bound own heard (shown r) words ≡ 0
   unfolding causeOf recordSound countsSound
-  not-refused words range hears early placed waiting taken fit =
+  not-refused words range hears groups early placed waiting taken fit =
       let e : shown r .round ≡ r .round = shown-round r in
-      cause-later _ 4 _ (not-yes range) ∙ cause-later _ 5 _ (not-yes hears)
+      cause-later _ 4 _ (not-yes range) ∙ cause-later _ 5 _ (not-yes hears) ∙ cause-later _ 17 _ (not-yes groups)
       ∙ cause-later _ 13 _
       (not-yes
       (and-i _ _ (lt-ltb (shown r .round) 40 (omega arith))
@@ -257,18 +258,18 @@ module _ (n source f own heard : ℕ) (r : View) (regular : Regular r) where
       ∙ cause-last _ 12 (not-yes (eq-eqb words n fit))
 
   -- the record that comes back shows the rule's
-  pub shown-step : (said : List ℕ) → r .round < 40 → causeOf n source f own heard (shown r) (length said) ≡ 0
-      → recordAfter n source f own heard (shown r) said ≡ shown (step n source f heard (λ j. getD said j 0) r)
+  pub shown-step : (said : List ℕ) → r .round < 40 → causeOf n source bound own heard (shown r) (length said) ≡ 0
+      → recordAfter n source bound own heard (shown r) said ≡ shown (step n source bound heard (λ j. getD said j 0) r)
   unfolding recordAfter
   shown-step said early e =
       let few : (j : ℕ) → length (valuesOf (r .notes) j) ≤ 40 = λ j. let l = regular .few j in omega arith in
       pick-yes _ _ _ (eq-eqb _ _ e)
-      ∙ ap (λ (x : View). shownOver (λ j. mem j heard) (shown r) (step n source f heard (λ j. getD said j 0) x)) (view-shown r (regular .room) few)
-      ∙ shown-over r (regular .room) few (λ j. mem j heard) (step n source f heard (λ j. getD said j 0) r)
-      (λ j h. step-unheard n source f heard (λ j. getD said j 0) r j h)
-      (λ j. step-longer n source f heard (λ j. getD said j 0) r j)
-      (λ j. let g = step-regular n source f heard (λ j. getD said j 0) r regular .few j in
-      let q = step-round n source f heard (λ j. getD said j 0) r in omega arith)
+      ∙ ap (λ (x : View). shownOver (λ j. mem j heard) (shown r) (step n source bound heard (λ j. getD said j 0) x)) (view-shown r (regular .room) few)
+      ∙ shown-over r (regular .room) few (λ j. mem j heard) (step n source bound heard (λ j. getD said j 0) r)
+      (λ j h. step-unheard n source bound heard (λ j. getD said j 0) r j h)
+      (λ j. step-longer n source bound heard (λ j. getD said j 0) r j)
+      (λ j. let g = step-regular n source bound heard (λ j. getD said j 0) r regular .few j in
+      let q = step-round n source bound heard (λ j. getD said j 0) r in omega arith)
 
 -- ---- what a terminal says after a round
 

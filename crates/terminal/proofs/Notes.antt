@@ -13,6 +13,7 @@ use Rattle.sets.specs.Tests.{_and_, _or_}
 use Rattle.sets.specs.Sets.{mem, all}
 use Rattle.sets.proofs.Bools.{clash, decide, no-by, and-l, and-r, and-i, or-l, or-r, or-e, not-i, not-e, pick-yes, pick-no, pick-case}
 use Rattle.sets.proofs.Laws.{equal-or-not, all-at, all-not}
+use Rattle.quorum.specs.declared.Bound.{Bound}
 use Rattle.quorum.specs.Quorum.{enough}
 use Rattle.quorum.proofs.Laws.{enough-none}
 use Rattle.terminal.specs.Rule.{among, withWord, noted, valuesOf, hasNoted, certified, firstOf, lesser, least, leastOf, candidate, leastFrom, choice}
@@ -78,21 +79,21 @@ unfolding hasNoted
 has-among notes v j h = and-r _ _ h
 
 -- a value is certified by different neighbours, however often it stands in their notes
-certified-is : (n f heard : ℕ) (notes : List (List ℕ)) (v : ℕ) → certified n f heard notes v ≡ enough n f (λ j. mem j heard and hasNoted notes v j)
+certified-is : (n : ℕ) (bound : Bound) (heard : ℕ) (notes : List (List ℕ)) (v : ℕ) → certified n bound heard notes v ≡ enough n bound (λ j. mem j heard and hasNoted notes v j)
 unfolding certified
-certified-is n f heard notes v = refl
+certified-is n bound heard notes v = refl
 
 -- a value that is certified is noted from some neighbour
-pub certified-by : (n f heard : ℕ) (notes : List (List ℕ)) (v : ℕ) → certified n f heard notes v ≡ true
+pub certified-by : (n : ℕ) (bound : Bound) (heard : ℕ) (notes : List (List ℕ)) (v : ℕ) → certified n bound heard notes v ≡ true
     → (j : ℕ) × (j < n) × (mem j heard ≡ true) × (hasNoted notes v j ≡ true)
-certified-by n f heard notes v h = go (decide (all n (λ j. not (voter j))))
+certified-by n bound heard notes v h = go (decide (all n (λ j. not (voter j))))
   where
     voter : ℕ → Bool
     voter j = mem j heard and hasNoted notes v j
 
     go : (all n (λ j. not (voter j)) ≡ true) ⊎ (all n (λ j. not (voter j)) ≡ false)
         → (j : ℕ) × (j < n) × (mem j heard ≡ true) × (hasNoted notes v j ≡ true)
-    go (inl e) = clash (sym (certified-is n f heard notes v) ∙ h) (enough-none n f voter (λ j k. not-e (voter j) (all-at n (λ j. not (voter j)) e j k)))
+    go (inl e) = clash (sym (certified-is n bound heard notes v) ∙ h) (enough-none n bound voter (λ j k. not-e (voter j) (all-at n (λ j. not (voter j)) e j k)))
     go (inr e) =
         let w = all-not n (λ j. not (voter j)) e in
         let y : voter (w .0) ≡ true = ⊎-elim (λ t. t) (λ t. clash (not-i t) (w .2)) (decide (voter (w .0))) in
@@ -211,94 +212,94 @@ least-of-from value (x ∷ values) z =
 
 -- ---- the choice
 
-module _ (n f heard : ℕ) (notes : List (List ℕ)) where
-  pub candidate-yes : (v : ℕ) → certified n f heard notes v ≡ true → candidate n f heard notes v ≡ v
+module _ (n : ℕ) (bound : Bound) (heard : ℕ) (notes : List (List ℕ)) where
+  pub candidate-yes : (v : ℕ) → certified n bound heard notes v ≡ true → candidate n bound heard notes v ≡ v
   unfolding candidate
   candidate-yes v h = pick-yes _ _ _ h
 
   -- a candidate that is not 0 is the value, and certified
-  pub candidate-why : (v : ℕ) → (candidate n f heard notes v ≡ 0 → ⊥) → (candidate n f heard notes v ≡ v) × (certified n f heard notes v ≡ true)
+  pub candidate-why : (v : ℕ) → (candidate n bound heard notes v ≡ 0 → ⊥) → (candidate n bound heard notes v ≡ v) × (certified n bound heard notes v ≡ true)
   unfolding candidate
   candidate-why v =
-      pick-case (λ (x : ℕ). (x ≡ 0 → ⊥) → (x ≡ v) × (certified n f heard notes v ≡ true)) (certified n f heard notes v) v 0
+      pick-case (λ (x : ℕ). (x ≡ 0 → ⊥) → (x ≡ v) × (certified n bound heard notes v ≡ true)) (certified n bound heard notes v) v 0
       (λ h z. (refl, h)) (λ h z. absurd (z refl))
 
   -- what is found from a neighbour is certified, and it is heard and has said it
-  pub from-why : (j : ℕ) → (leastFrom n f heard notes j ≡ 0 → ⊥)
-      → (mem j heard ≡ true) × (among (leastFrom n f heard notes j) (valuesOf notes j) ≡ true) × (certified n f heard notes (leastFrom n f heard notes j) ≡ true)
+  pub from-why : (j : ℕ) → (leastFrom n bound heard notes j ≡ 0 → ⊥)
+      → (mem j heard ≡ true) × (among (leastFrom n bound heard notes j) (valuesOf notes j) ≡ true) × (certified n bound heard notes (leastFrom n bound heard notes j) ≡ true)
   unfolding leastFrom
   from-why j =
       pick-case
-      (λ (x : ℕ). (x ≡ 0 → ⊥) → (mem j heard ≡ true) × (among x (valuesOf notes j) ≡ true) × (certified n f heard notes x ≡ true))
-      (mem j heard) (leastOf (candidate n f heard notes) (valuesOf notes j)) 0
+      (λ (x : ℕ). (x ≡ 0 → ⊥) → (mem j heard ≡ true) × (among x (valuesOf notes j) ≡ true) × (certified n bound heard notes x ≡ true))
+      (mem j heard) (leastOf (candidate n bound heard notes) (valuesOf notes j)) 0
       (λ m z.
-      let w = least-of-from (candidate n f heard notes) (valuesOf notes j) z in
+      let w = least-of-from (candidate n bound heard notes) (valuesOf notes j) z in
       let y = candidate-why (w .0) (λ e. z (sym (w .2) ∙ e)) in
-      let e : w .0 ≡ leastOf (candidate n f heard notes) (valuesOf notes j) = sym (y .0) ∙ w .2 in
-      (m, subst (λ (x : ℕ). among x (valuesOf notes j) ≡ true) e (w .1), subst (λ (x : ℕ). certified n f heard notes x ≡ true) e (y .1)))
+      let e : w .0 ≡ leastOf (candidate n bound heard notes) (valuesOf notes j) = sym (y .0) ∙ w .2 in
+      (m, subst (λ (x : ℕ). among x (valuesOf notes j) ≡ true) e (w .1), subst (λ (x : ℕ). certified n bound heard notes x ≡ true) e (y .1)))
       (λ m z. absurd (z refl))
 
   -- a certified value is found from whoever has said it: that one or a smaller
-  pub from-voter : (v j : ℕ) → certified n f heard notes v ≡ true → mem j heard ≡ true → hasNoted notes v j ≡ true
-      → (leastFrom n f heard notes j ≡ 0 → ⊥) × (leastFrom n f heard notes j ≤ v)
+  pub from-voter : (v j : ℕ) → certified n bound heard notes v ≡ true → mem j heard ≡ true → hasNoted notes v j ≡ true
+      → (leastFrom n bound heard notes j ≡ 0 → ⊥) × (leastFrom n bound heard notes j ≤ v)
   unfolding leastFrom
   from-voter v j h m s =
       let e = candidate-yes v h in
-      let some : candidate n f heard notes v ≡ 0 → ⊥ = λ z. has-layout notes v j s (sym e ∙ z) in
+      let some : candidate n bound heard notes v ≡ 0 → ⊥ = λ z. has-layout notes v j s (sym e ∙ z) in
       let a = has-among notes v j s in
-      let q = pick-yes (mem j heard) (leastOf (candidate n f heard notes) (valuesOf notes j)) 0 m in (
-        λ z. some (least-of-none (candidate n f heard notes) (valuesOf notes j) (sym q ∙ z) v a),
-        subst (λ (x : ℕ). x ≤ v) (sym q) (subst (λ (x : ℕ). leastOf (candidate n f heard notes) (valuesOf notes j) ≤ x) e (least-of-le (candidate n f heard notes) (valuesOf notes j) v a some)),
+      let q = pick-yes (mem j heard) (leastOf (candidate n bound heard notes) (valuesOf notes j)) 0 m in (
+        λ z. some (least-of-none (candidate n bound heard notes) (valuesOf notes j) (sym q ∙ z) v a),
+        subst (λ (x : ℕ). x ≤ v) (sym q) (subst (λ (x : ℕ). leastOf (candidate n bound heard notes) (valuesOf notes j) ≤ x) e (least-of-le (candidate n bound heard notes) (valuesOf notes j) v a some)),
       )
 
-  least-certified : (least n (leastFrom n f heard notes) ≡ 0 → ⊥) → certified n f heard notes (least n (leastFrom n f heard notes)) ≡ true
+  least-certified : (least n (leastFrom n bound heard notes) ≡ 0 → ⊥) → certified n bound heard notes (least n (leastFrom n bound heard notes)) ≡ true
   least-certified z =
-      let w = least-from n (leastFrom n f heard notes) z in
-      subst (λ (x : ℕ). certified n f heard notes x ≡ true) (w .2) (from-why (w .0) (λ e. z (sym (w .2) ∙ e)) .2)
+      let w = least-from n (leastFrom n bound heard notes) z in
+      subst (λ (x : ℕ). certified n bound heard notes x ≡ true) (w .2) (from-why (w .0) (λ e. z (sym (w .2) ∙ e)) .2)
 
-  least-below : (v : ℕ) → certified n f heard notes v ≡ true → (least n (leastFrom n f heard notes) ≡ 0 → ⊥) × (least n (leastFrom n f heard notes) ≤ v)
+  least-below : (v : ℕ) → certified n bound heard notes v ≡ true → (least n (leastFrom n bound heard notes) ≡ 0 → ⊥) × (least n (leastFrom n bound heard notes) ≤ v)
   least-below v h =
-      let w = certified-by n f heard notes v h in
+      let w = certified-by n bound heard notes v h in
       let x = from-voter v (w .0) h (w .2) (w .3) in
-      let l : least n (leastFrom n f heard notes) ≤ leastFrom n f heard notes (w .0) = least-le n (leastFrom n f heard notes) (w .0) (w .1) (x .0) in
-      let u : leastFrom n f heard notes (w .0) ≤ v = x .1 in
-      (λ z. x .0 (least-none n (leastFrom n f heard notes) z (w .0) (w .1)), omega arith)
+      let l : least n (leastFrom n bound heard notes) ≤ leastFrom n bound heard notes (w .0) = least-le n (leastFrom n bound heard notes) (w .0) (w .1) (x .0) in
+      let u : leastFrom n bound heard notes (w .0) ≤ v = x .1 in
+      (λ z. x .0 (least-none n (leastFrom n bound heard notes) z (w .0) (w .1)), omega arith)
 
-module _ (n source f heard : ℕ) (notes : List (List ℕ)) where
+module _ (n source : ℕ) (bound : Bound) (heard : ℕ) (notes : List (List ℕ)) where
   abbrev direct : Bool
   direct = mem source heard and not (eqb (firstOf (valuesOf notes source)) 0)
 
   -- the source's first value, or a certified one
-  pub choice-why : (choice n source f heard notes ≡ 0 → ⊥)
-      → ((mem source heard ≡ true) × (hasNoted notes (choice n source f heard notes) source ≡ true))
-      ⊎ (certified n f heard notes (choice n source f heard notes) ≡ true)
+  pub choice-why : (choice n source bound heard notes ≡ 0 → ⊥)
+      → ((mem source heard ≡ true) × (hasNoted notes (choice n source bound heard notes) source ≡ true))
+      ⊎ (certified n bound heard notes (choice n source bound heard notes) ≡ true)
   unfolding choice
   choice-why =
       pick-case
       (λ (x : ℕ).
-      (x ≡ 0 → ⊥) → ((mem source heard ≡ true) × (hasNoted notes x source ≡ true)) ⊎ (certified n f heard notes x ≡ true))
-      direct (firstOf (valuesOf notes source)) (least n (leastFrom n f heard notes))
+      (x ≡ 0 → ⊥) → ((mem source heard ≡ true) × (hasNoted notes x source ≡ true)) ⊎ (certified n bound heard notes x ≡ true))
+      direct (firstOf (valuesOf notes source)) (least n (leastFrom n bound heard notes))
       (λ e z. inl (and-l _ _ e, has-i notes (firstOf (valuesOf notes source)) source z (first-among (valuesOf notes source) z)))
-      (λ e z. inr (least-certified n f heard notes z))
+      (λ e z. inr (least-certified n bound heard notes z))
 
   -- nothing is chosen only where the source has said nothing and no value is certified
-  pub choice-none-source : choice n source f heard notes ≡ 0 → mem source heard ≡ true → firstOf (valuesOf notes source) ≡ 0
+  pub choice-none-source : choice n source bound heard notes ≡ 0 → mem source heard ≡ true → firstOf (valuesOf notes source) ≡ 0
   unfolding choice
   choice-none-source =
       pick-case (λ (x : ℕ). x ≡ 0 → mem source heard ≡ true → firstOf (valuesOf notes source) ≡ 0)
-      direct (firstOf (valuesOf notes source)) (least n (leastFrom n f heard notes))
+      direct (firstOf (valuesOf notes source)) (least n (leastFrom n bound heard notes))
       (λ e z h. z)
       (λ e z h. ⊎-elim (λ t. eqb-true (firstOf (valuesOf notes source)) 0 t) (λ t. clash (and-i _ _ h (not-i t)) e) (decide (eqb (firstOf (valuesOf notes source)) 0)))
 
-  pub choice-none-certified : choice n source f heard notes ≡ 0 → (v : ℕ) → certified n f heard notes v ≡ false
+  pub choice-none-certified : choice n source bound heard notes ≡ 0 → (v : ℕ) → certified n bound heard notes v ≡ false
   unfolding choice
   choice-none-certified =
-      pick-case (λ (x : ℕ). x ≡ 0 → (v : ℕ) → certified n f heard notes v ≡ false)
-      direct (firstOf (valuesOf notes source)) (least n (leastFrom n f heard notes))
+      pick-case (λ (x : ℕ). x ≡ 0 → (v : ℕ) → certified n bound heard notes v ≡ false)
+      direct (firstOf (valuesOf notes source)) (least n (leastFrom n bound heard notes))
       (λ e z v. clash (eq-eqb (firstOf (valuesOf notes source)) 0 z) (not-e (eqb (firstOf (valuesOf notes source)) 0) (and-r _ _ e)))
-      (λ e z v. no-by (λ h. least-below n f heard notes v h .0 z))
+      (λ e z v. no-by (λ h. least-below n bound heard notes v h .0 z))
 
   -- where the source has no first value, no certified value is smaller than the chosen one
-  pub choice-least : direct ≡ false → (v : ℕ) → certified n f heard notes v ≡ true → choice n source f heard notes ≤ v
+  pub choice-least : direct ≡ false → (v : ℕ) → certified n bound heard notes v ≡ true → choice n source bound heard notes ≤ v
   unfolding choice
-  choice-least s v h = subst (λ (x : ℕ). x ≤ v) (sym (pick-no _ _ _ s)) (least-below n f heard notes v h .1)
+  choice-least s v h = subst (λ (x : ℕ). x ≤ v) (sym (pick-no _ _ _ s)) (least-below n bound heard notes v h .1)

@@ -14,6 +14,7 @@ use Rattle.sets.specs.Tests.{pick}
 use Rattle.sets.specs.Sets.{mem}
 use Rattle.sets.proofs.Bools.{decide, and-no-l, pick-yes, pick-no}
 use Rattle.sets.proofs.Laws.{below-or-not}
+use Rattle.quorum.specs.declared.Bound.{Bound}
 use Rattle.terminal.specs.declared.Note.{Note}
 use Rattle.terminal.specs.declared.Record.{Record}
 use Rattle.terminal.specs.declared.State.{State}
@@ -189,32 +190,32 @@ module _ (heard : ℕ) (notes : List Note) (whole : Whole notes) (room : HaveRoo
 
 -- ---- the round of a record: it is raised, and one that waits notes and decides
 
-module _ (n source f heard : ℕ) (said : ℕ → ℕ) (before : Record) (whole : Whole (before .notes)) (room : HaveRoom heard (before .notes)) where
+module _ (n source : ℕ) (bound : Bound) (heard : ℕ) (said : ℕ → ℕ) (before : Record) (whole : Whole (before .notes)) (room : HaveRoom heard (before .notes)) where
   pub waiting-shown : before .state ≡ Waiting → (r : Record)
       → r ≡ record {
-        state = taking (before .round + 1) (choice n source f heard (map valuesIn (notesOver (λ j. mem j heard) (before .notes) (noted n (λ j. mem j heard) said (map valuesIn (before .notes))))));
+        state = taking (before .round + 1) (choice n source bound heard (map valuesIn (notesOver (λ j. mem j heard) (before .notes) (noted n (λ j. mem j heard) said (map valuesIn (before .notes))))));
         round = before .round + 1;
         notes = notesOver (λ j. mem j heard) (before .notes) (noted n (λ j. mem j heard) said (map valuesIn (before .notes)));
       }
-      → r ≡ shownOver (λ j. mem j heard) before (step n source f heard said (viewOf before))
+      → r ≡ shownOver (λ j. mem j heard) before (step n source bound heard said (viewOf before))
   unfolding shownOver step stepFrom viewOf
   waiting-shown w r e =
       e
       ∙ ap
       (λ (values : List (List ℕ)).
       record {
-        state = taking (before .round + 1) (choice n source f heard values);
+        state = taking (before .round + 1) (choice n source bound heard values);
         round = before .round + 1;
         notes = notesOver (λ j. mem j heard) (before .notes) (noted n (λ j. mem j heard) said (map valuesIn (before .notes)));
       })
       (noted-view heard (before .notes) whole room n said)
-      ∙ ap (λ (s : State). shownOver (λ j. mem j heard) before (stepFrom s n source f heard said (before .round) (map valuesIn (before .notes)))) (sym w)
+      ∙ ap (λ (s : State). shownOver (λ j. mem j heard) before (stepFrom s n source bound heard said (before .round) (map valuesIn (before .notes)))) (sym w)
 
   pub taken-shown : (at value : ℕ) → before .state ≡ Taken at value → (r : Record)
       → r ≡ record { state = before .state; round = before .round + 1; notes = before .notes }
-      → r ≡ shownOver (λ j. mem j heard) before (step n source f heard said (viewOf before))
+      → r ≡ shownOver (λ j. mem j heard) before (step n source bound heard said (viewOf before))
   unfolding shownOver step stepFrom viewOf
   taken-shown at value w r e =
       e
       ∙ (λ i. record { state = w i; round = before .round + 1; notes = over-self heard (before .notes) whole room i })
-      ∙ ap (λ (s : State). shownOver (λ j. mem j heard) before (stepFrom s n source f heard said (before .round) (map valuesIn (before .notes)))) (sym w)
+      ∙ ap (λ (s : State). shownOver (λ j. mem j heard) before (stepFrom s n source bound heard said (before .round) (map valuesIn (before .notes)))) (sym w)

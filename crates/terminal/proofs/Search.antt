@@ -1,5 +1,5 @@
--- What the search for a certified value finds is the rule's: sets of voters in the place of counts, and where few have said more than one value the values of
--- the others are enough. Assumes nothing.
+-- What the search for a certified value finds is the rule's: it asks of sets of voters, and where those who have said more than one value are not enough the
+-- values of the others tell. Assumes nothing.
 use Prim.Native.Nat.{ℕ, zero, suc, _+_, _-_, _^_, _≤_, _<_}
 use mathlib.Core.Path.{_≡_, refl, sym, ap, _∙_, subst}
 use mathlib.Core.Logic.{_⊎_, inl, inr, ⊎-elim}
@@ -10,46 +10,37 @@ use native.Mathlib.Omega.{arith}
 use mir.Val.{Fits}
 use mir.Syntax.{w32}
 use lib.Bits.{bitAnd, bitOr, or-lt}
-use lib.Count.{ones}
 use lib.Dec.{eqb, ltb}
 use lib.ListN.{length, getD, take}
 use lib.Seq.{take-suc, getD-take}
 use borrow.Author.Tests.{eq-eqb, ne-eqb, eqb-true, lt-ltb, le-ltb, ltb-true}
 use Rattle.sets.specs.Tests.{_and_, _or_, _implies_, pick}
-use Rattle.sets.specs.Sets.{mem, count, all, size}
-use Rattle.sets.proofs.Bools.{clash, decide, and-l, and-r, and-i, and-yes, and-no-l, and-no-r, or-l, or-r, or-e, not-i, not-yes, implies-e, implies-no-l, implies-no-r, pick-yes, pick-no}
-use Rattle.sets.proofs.Laws.{equal-or-not, mem-above, mem-mask, mask-lt, count-cong, count-mono, count-le, count-width, mem-below, all-at, all-not}
-use Rattle.sets.proofs.Masks.{ones-count, mem-and, mem-or, mem-not}
+use Rattle.sets.specs.Sets.{mem, all}
+use Rattle.sets.proofs.Bools.{clash, decide, no-by, same-test, and-l, and-r, and-i, and-yes, and-no-l, and-no-r, or-l, or-r, or-e, not-i, not-yes, implies-e, implies-no-l, implies-no-r, pick-yes, pick-no}
+use Rattle.sets.proofs.Laws.{equal-or-not, mem-above, mem-mask, mask-lt, mem-below, all-at, all-not}
+use Rattle.sets.proofs.Masks.{mem-and, mem-or, mem-not}
+use Rattle.quorum.specs.declared.Bound.{Bound}
 use Rattle.quorum.specs.Quorum.{enough}
-use Rattle.quorum.proofs.Laws.{enough-mono}
+use Rattle.quorum.proofs.Laws.{enough-mono, enough-width}
 use Rattle.terminal.specs.declared.Note.{Note}
 use Rattle.terminal.specs.Rule.{among, valuesOf, hasNoted, certified, firstOf, lesser, least, leastOf, candidate, leastFrom, choice}
 use Rattle.terminal.specs.Shown.{noteOf, valuesIn, Whole}
-use Rattle.terminal.specs.Votes.{votersIn, singleIn, fickleIn, firstPlace, sameIn, ifMany, fromFirst}
+use Rattle.terminal.specs.Votes.{votersIn, singleIn, fickleIn, firstPlace, sameIn, ifEnough, fromFirst}
 use Rattle.terminal.proofs.Values.{among-one}
 use Rattle.terminal.proofs.Notes.{has-among, least-same, candidate-yes, from-why}
 use Rattle.terminal.proofs.Shown.{view-values}
 use Rattle.terminal.proofs.Walks.{lesser-none, least-again, least-next, least-turn}
 
--- ---- sets of 32 bits, counted
+-- ---- voters as a set, of which the code asks among 32, and as the terminals below n, of which the rule asks
 
-pub ones-size : (s : ℕ) → Fits w32 s → ones s ≡ size 32 s
-unfolding size
-ones-size s h = ones-count 32 s (h .fits)
+-- a set below n is enough among 32 where it is among n
+below-enough : (n : ℕ) (bound : Bound) (s : ℕ) → n ≤ 20 → s < 2 ^ n → enough 32 bound (λ i. mem i s) ≡ enough n bound (λ i. mem i s)
+below-enough n bound s h k = enough-width n 32 bound (λ i. mem i s) (omega arith) (λ i l. mem-above n i s k l)
 
-pub either-fits : (a b : ℕ) → Fits w32 a → Fits w32 b → Fits w32 (bitOr a b)
-either-fits a b h k = record { fits = or-lt 32 a b (h .fits) (k .fits) }
-
-pub size-le : (s : ℕ) → size 32 s ≤ 32
-unfolding size
-size-le s = count-le 32 (λ i. mem i s)
-
--- ---- voters as a set, and as a count
-
--- a set below n has as many members among 32 as among n
-below-size : (n s : ℕ) → n ≤ 32 → s < 2 ^ n → size 32 s ≡ count n (λ i. mem i s)
-unfolding size
-below-size n s h k = count-width n 32 (λ i. mem i s) h (λ i l. mem-above n i s k l)
+-- whether they are enough is said by who they are
+enough-same : (n : ℕ) (bound : Bound) (P Q : ℕ → Bool) → ((i : ℕ) → i < n → P i ≡ Q i) → enough n bound P ≡ enough n bound Q
+enough-same n bound P Q e =
+    same-test _ _ (enough-mono n bound P Q (λ i k h. sym (e i k) ∙ h)) (enough-mono n bound Q P (λ i k h. e i k ∙ h))
 
 pub voters-below : (n : ℕ) (notes : List Note) (rows v : ℕ) → votersIn n notes rows v < 2 ^ n
 unfolding votersIn
@@ -65,12 +56,17 @@ noted-is : (notes : List Note) (v : ℕ) → (v ≡ 0 → ⊥) → (j : ℕ) →
 unfolding hasNoted
 noted-is notes v z j = and-yes _ _ (not-i (ne-eqb v 0 z)) ∙ ap (among v) (view-values notes j)
 
--- a value that some of those who may have said it is not said by more than f, if they are not more
-pub few-none : (n f : ℕ) (notes : List Note) (who fickle v : ℕ) → size 32 (bitOr who fickle) ≤ f → ifMany f (bitOr who (votersIn n notes fickle v)) v ≡ 0
-unfolding ifMany size votersIn
-few-none n f notes who fickle v h =
-    let m = count-mono 32 (λ i. mem i (bitOr who (votersIn n notes fickle v))) (λ i. mem i (bitOr who fickle)) (λ i k e. mem-or i who fickle ∙ either i e) in
-    pick-no _ _ _ (le-ltb f (count 32 (λ i. mem i (bitOr who (votersIn n notes fickle v)))) (omega arith))
+-- where all who may have said a value are not enough, those of them who have are not
+pub few-none : (n : ℕ) (bound : Bound) (notes : List Note) (who fickle v : ℕ) → enough 32 bound (λ i. mem i (bitOr who fickle)) ≡ false
+    → ifEnough bound (bitOr who (votersIn n notes fickle v)) v ≡ 0
+unfolding ifEnough votersIn
+few-none n bound notes who fickle v h =
+    pick-no _ _ _
+    (no-by
+    (λ e.
+    clash
+    (enough-mono 32 bound (λ i. mem i (bitOr who (votersIn n notes fickle v))) (λ i. mem i (bitOr who fickle)) (λ i k m. mem-or i who fickle ∙ either i m) e)
+    h))
   where
     inside : (i : ℕ) → mem i (votersIn n notes fickle v) ≡ true → mem i fickle ≡ true
     inside i e =
@@ -80,33 +76,33 @@ few-none n f notes who fickle v h =
     either i e =
         ⊎-elim (λ a. or-l _ _ a) (λ b. or-r (mem i who) _ (inside i b)) (or-e (mem i who) (mem i (votersIn n notes fickle v)) (sym (mem-or i who (votersIn n notes fickle v)) ∙ e))
 
-module _ (n f heard : ℕ) (notes : List Note) (small : n ≤ 20) where
+module _ (n : ℕ) (bound : Bound) (heard : ℕ) (notes : List Note) (small : n ≤ 20) where
   abbrev said : List (List ℕ)
   said = map valuesIn notes
 
   -- what a set of voters leads to is the candidate
-  pub many-candidate : (who v : ℕ) → who < 2 ^ n → ((v ≡ 0 → ⊥) → (j : ℕ) → j < n → mem j who ≡ mem j heard and among v (valuesIn (noteOf notes j)))
-      → ifMany f who v ≡ candidate n f heard said v
-  unfolding ifMany candidate certified enough
-  many-candidate who v low members =
+  pub enough-candidate : (who v : ℕ) → who < 2 ^ n → ((v ≡ 0 → ⊥) → (j : ℕ) → j < n → mem j who ≡ mem j heard and among v (valuesIn (noteOf notes j)))
+      → ifEnough bound who v ≡ candidate n bound heard said v
+  unfolding ifEnough candidate certified
+  enough-candidate who v low members =
       ⊎-elim
       (λ z. zero-either _ v z ∙ sym (zero-either _ v z))
       (λ z.
-      ap (λ (m : ℕ). pick (ltb f m) v 0)
-      (below-size n who (omega arith) low
-      ∙ count-cong n (λ j. mem j who) (λ j. mem j heard and hasNoted said v j) (λ j k. members z j k ∙ ap (λ (b : Bool). mem j heard and b) (sym (noted-is notes v z j)))))
+      ap (λ (b : Bool). pick b v 0)
+      (below-enough n bound who small low
+      ∙ enough-same n bound (λ j. mem j who) (λ j. mem j heard and hasNoted said v j) (λ j k. members z j k ∙ ap (λ (b : Bool). mem j heard and b) (sym (noted-is notes v z j)))))
       (equal-or-not v 0)
 
-  pub voters-candidate : (v : ℕ) → ifMany f (votersIn n notes heard v) v ≡ candidate n f heard said v
+  pub voters-candidate : (v : ℕ) → ifEnough bound (votersIn n notes heard v) v ≡ candidate n bound heard said v
   unfolding votersIn
   voters-candidate v =
-      many-candidate (votersIn n notes heard v) v (voters-below n notes heard v) (λ z j k. mem-mask n j (λ j. mem j heard and among v (valuesIn (noteOf notes j))) k)
+      enough-candidate (votersIn n notes heard v) v (voters-below n notes heard v) (λ z j k. mem-mask n j (λ j. mem j heard and among v (valuesIn (noteOf notes j))) k)
 
 -- ---- the loop over those who have said one value: each value is looked at once
 
-module _ (n f : ℕ) (notes : List Note) (firsts : List ℕ) (single fickle : ℕ) where
+module _ (n : ℕ) (bound : Bound) (notes : List Note) (firsts : List ℕ) (single fickle : ℕ) where
   abbrev from : ℕ → ℕ
-  from = fromFirst n f notes firsts single fickle
+  from = fromFirst n bound notes firsts single fickle
 
   -- those below j, and whoever has left the rest, have been looked at
   pub record Looked (j best rest : ℕ) : Type 0 where
@@ -119,7 +115,7 @@ module _ (n f : ℕ) (notes : List Note) (firsts : List ℕ) (single fickle : �
   looked-none = record { least-is = refl; inside = λ i e. e; gone = λ i k e z. clash e z }
 
   from-single : (j : ℕ) → mem j single ≡ true
-      → from j ≡ ifMany f (bitOr (sameIn n firsts single (getD firsts j 0)) (votersIn n notes fickle (getD firsts j 0))) (getD firsts j 0)
+      → from j ≡ ifEnough bound (bitOr (sameIn n firsts single (getD firsts j 0)) (votersIn n notes fickle (getD firsts j 0))) (getD firsts j 0)
   unfolding fromFirst
   from-single j h = pick-yes _ _ _ h
 
@@ -129,7 +125,7 @@ module _ (n f : ℕ) (notes : List Note) (firsts : List ℕ) (single fickle : �
 
   from-same : (i j : ℕ) → mem i single ≡ true → mem j single ≡ true → getD firsts i 0 ≡ getD firsts j 0 → from i ≡ from j
   from-same i j h k e =
-      from-single i h ∙ ap (λ (v : ℕ). ifMany f (bitOr (sameIn n firsts single v) (votersIn n notes fickle v)) v) e ∙ sym (from-single j k)
+      from-single i h ∙ ap (λ (v : ℕ). ifEnough bound (bitOr (sameIn n firsts single v) (votersIn n notes fickle v)) v) e ∙ sym (from-single j k)
 
   module _ (j best rest : ℕ) (so : Looked j best rest) (k : j < n) where
     -- one who is not in the rest adds nothing
@@ -149,12 +145,12 @@ module _ (n f : ℕ) (notes : List Note) (firsts : List ℕ) (single fickle : �
 
     -- one who is in it takes all who have said the same out of it
     pub looked-at : n ≤ 20 → (who next : ℕ) → mem j rest ≡ true → Fits w32 who → who ≡ sameIn n firsts single (getD firsts j 0)
-        → next ≡ ifMany f (bitOr who (votersIn n notes fickle (getD firsts j 0))) (getD firsts j 0)
+        → next ≡ ifEnough bound (bitOr who (votersIn n notes fickle (getD firsts j 0))) (getD firsts j 0)
         → Looked (j + 1) (lesser best next) (bitAnd rest (4294967295 - who))
     unfolding sameIn
     looked-at small who next h low e q = record {
       least-is = least-turn j best next from (so .least-is)
-          (q ∙ ap (λ (s : ℕ). ifMany f (bitOr s (votersIn n notes fickle (getD firsts j 0))) (getD firsts j 0)) e ∙ sym (from-single j (so .inside j h)));
+          (q ∙ ap (λ (s : ℕ). ifEnough bound (bitOr s (votersIn n notes fickle (getD firsts j 0))) (getD firsts j 0)) e ∙ sym (from-single j (so .inside j h)));
       inside = λ i m. so .inside i (and-l _ _ (sym (mem-and i rest (4294967295 - who)) ∙ m));
       gone = λ i l m z.
           ⊎-elim
@@ -171,7 +167,7 @@ module _ (n f : ℕ) (notes : List Note) (firsts : List ℕ) (single fickle : �
           (decide (mem i rest));
     }
 
--- ---- where at most f have said more than one value, the values of the others are enough
+-- ---- where those who have said more than one value are not enough, the values of the others tell
 
 values-none : (note : Note) → note .count ≡ 0 → valuesIn note ≡ []
 unfolding valuesIn
@@ -207,12 +203,9 @@ fickle-low : (n heard : ℕ) (notes : List Note) → fickleIn n notes heard < 2 
 unfolding fickleIn
 fickle-low n heard notes = mask-lt n _
 
--- those who have said more than one value are not enough, if they are at most f
-few-fickle : (n f heard : ℕ) (notes : List Note) → n ≤ 20 → size 32 (fickleIn n notes heard) ≤ f → enough n f (λ i. mem i (fickleIn n notes heard)) ≡ false
-unfolding enough
-few-fickle n f heard notes small h =
-    le-ltb f (count n (λ i. mem i (fickleIn n notes heard)))
-    (let e = below-size n (fickleIn n notes heard) (omega arith) (fickle-low n heard notes) in omega arith)
+few-fickle : (n : ℕ) (bound : Bound) (heard : ℕ) (notes : List Note) → n ≤ 20 → enough 32 bound (λ i. mem i (fickleIn n notes heard)) ≡ false
+    → enough n bound (λ i. mem i (fickleIn n notes heard)) ≡ false
+few-fickle n bound heard notes small h = sym (below-enough n bound (fickleIn n notes heard) small (fickle-low n heard notes)) ∙ h
 
 single-i : (n heard : ℕ) (notes : List Note) (i : ℕ) → i < n → noteOf notes i .count ≡ 1 → mem i heard ≡ true → mem i (singleIn n notes heard) ≡ true
 unfolding singleIn
@@ -234,7 +227,7 @@ lone-count n heard notes i k h u v a = go (noteOf notes i .count) refl
     go (suc (suc m)) e =
         clash (mem-mask n i (λ j. ltb 1 (noteOf notes j .count) and mem j heard) k ∙ and-i _ _ (lt-ltb 1 (noteOf notes i .count) (omega arith)) h) u
 
-module _ (n f heard : ℕ) (notes : List Note) (small : n ≤ 20) (whole : Whole notes) (firsts : List ℕ) (first-is : (j : ℕ) → j < n → getD firsts j 0 ≡ firstPlace notes j) where
+module _ (n : ℕ) (bound : Bound) (heard : ℕ) (notes : List Note) (small : n ≤ 20) (whole : Whole notes) (firsts : List ℕ) (first-is : (j : ℕ) → j < n → getD firsts j 0 ≡ firstPlace notes j) where
   abbrev held : List (List ℕ)
   held = map valuesIn notes
 
@@ -286,22 +279,22 @@ module _ (n f heard : ℕ) (notes : List Note) (small : n ≤ 20) (whole : Whole
       no-count (suc (suc m)) a b = clash (lt-ltb 1 (suc (suc m)) (omega arith)) b
 
   abbrev led : ℕ → ℕ
-  led = fromFirst n f notes firsts one-of more-of
+  led = fromFirst n bound notes firsts one-of more-of
 
   -- what the first place of one who has said one value leads to is what is found from it
-  single-candidate : (j : ℕ) → mem j one-of ≡ true → led j ≡ candidate n f heard held (getD firsts j 0)
+  single-candidate : (j : ℕ) → mem j one-of ≡ true → led j ≡ candidate n bound heard held (getD firsts j 0)
   unfolding fromFirst said-set
   single-candidate j h =
       pick-yes _ _ _ h
-      ∙ many-candidate n f heard notes small (said-set (getD firsts j 0)) (getD firsts j 0) (said-low (getD firsts j 0)) (λ z i l. said-mem (getD firsts j 0) i l)
+      ∙ enough-candidate n bound heard notes small (said-set (getD firsts j 0)) (getD firsts j 0) (said-low (getD firsts j 0)) (λ z i l. said-mem (getD firsts j 0) i l)
 
-  single-from : (j : ℕ) → j < n → mem j one-of ≡ true → led j ≡ leastFrom n f heard held j
+  single-from : (j : ℕ) → j < n → mem j one-of ≡ true → led j ≡ leastFrom n bound heard held j
   unfolding leastFrom leastOf
   single-from j k h =
       let w = single-why j k h in
       single-candidate j h
-      ∙ sym (lesser-none (candidate n f heard held (getD firsts j 0)))
-      ∙ ap (leastOf (candidate n f heard held)) (sym (one-value j k (w .0)) ∙ sym (view-values notes j))
+      ∙ sym (lesser-none (candidate n bound heard held (getD firsts j 0)))
+      ∙ ap (leastOf (candidate n bound heard held)) (sym (one-value j k (w .0)) ∙ sym (view-values notes j))
       ∙ sym (pick-yes _ _ _ (w .1))
 
   led-only : (j : ℕ) → (led j ≡ 0 → ⊥) → mem j one-of ≡ true
@@ -309,7 +302,7 @@ module _ (n f heard : ℕ) (notes : List Note) (small : n ≤ 20) (whole : Whole
   led-only j z = ⊎-elim (λ h. h) (λ h. absurd (z (pick-no _ _ _ h))) (decide (mem j one-of))
 
   -- a certified value has a voter who has said nothing else
-  lone-voter : enough n f (λ i. mem i more-of) ≡ false → (v : ℕ) → certified n f heard held v ≡ true
+  lone-voter : enough n bound (λ i. mem i more-of) ≡ false → (v : ℕ) → certified n bound heard held v ≡ true
       → (i : ℕ) × (i < n) × (mem i one-of ≡ true) × (getD firsts i 0 ≡ v)
   unfolding certified
   lone-voter few v c = go (decide (all n (λ i. voter i implies mem i more-of)))
@@ -327,27 +320,27 @@ module _ (n f heard : ℕ) (notes : List Note) (small : n ≤ 20) (whole : Whole
       go : (all n (λ i. voter i implies mem i more-of) ≡ true) ⊎ (all n (λ i. voter i implies mem i more-of) ≡ false)
           → (i : ℕ) × (i < n) × (mem i one-of ≡ true) × (getD firsts i 0 ≡ v)
       go (inl a) =
-          clash (enough-mono n f voter (λ i. mem i more-of) (λ i k t. implies-e _ _ (all-at n (λ i. voter i implies mem i more-of) a i k) t) c) few
+          clash (enough-mono n bound voter (λ i. mem i more-of) (λ i k t. implies-e _ _ (all-at n (λ i. voter i implies mem i more-of) a i k) t) c) few
       go (inr a) =
           let w = all-not n (λ i. voter i implies mem i more-of) a in
           found (w .0) (w .1) (implies-no-l (voter (w .0)) (mem (w .0) more-of) (w .2)) (implies-no-r (voter (w .0)) (mem (w .0) more-of) (w .2))
 
-  firsts-enough : enough n f (λ i. mem i more-of) ≡ false → least n led ≡ least n (leastFrom n f heard held)
+  firsts-enough : enough n bound (λ i. mem i more-of) ≡ false → least n led ≡ least n (leastFrom n bound heard held)
   firsts-enough few =
-      least-same n led (leastFrom n f heard held)
+      least-same n led (leastFrom n bound heard held)
       (λ j k z. (j, k, sym (single-from j k (led-only j z))))
       (λ j k z.
-      let w = from-why n f heard held j z in
-      let i = lone-voter few (leastFrom n f heard held j) (w .2) in
+      let w = from-why n bound heard held j z in
+      let i = lone-voter few (leastFrom n bound heard held j) (w .2) in
       (i .0, i .1, lone i (w .2)))
     where
-      lone : {v : ℕ} → (w : (i : ℕ) × (i < n) × (mem i one-of ≡ true) × (getD firsts i 0 ≡ v)) → certified n f heard held v ≡ true → led (w .0) ≡ v
-      lone {v} w c = single-candidate (w .0) (w .2) ∙ ap (candidate n f heard held) (w .3) ∙ candidate-yes n f heard held v c
+      lone : {v : ℕ} → (w : (i : ℕ) × (i < n) × (mem i one-of ≡ true) × (getD firsts i 0 ≡ v)) → certified n bound heard held v ≡ true → led (w .0) ≡ v
+      lone {v} w c = single-candidate (w .0) (w .2) ∙ ap (candidate n bound heard held) (w .3) ∙ candidate-yes n bound heard held v c
 
-  pub firsts-found : (single fickle : ℕ) → single ≡ one-of → fickle ≡ more-of → size 32 fickle ≤ f
-      → least n (fromFirst n f notes firsts single fickle) ≡ least n (leastFrom n f heard held)
+  pub firsts-found : (single fickle : ℕ) → single ≡ one-of → fickle ≡ more-of → enough 32 bound (λ i. mem i fickle) ≡ false
+      → least n (fromFirst n bound notes firsts single fickle) ≡ least n (leastFrom n bound heard held)
   firsts-found single fickle e q few =
-      (λ i. least n (fromFirst n f notes firsts (e i) (q i))) ∙ firsts-enough (few-fickle n f heard notes small (subst (λ (s : ℕ). size 32 s ≤ f) q few))
+      (λ i. least n (fromFirst n bound notes firsts (e i) (q i))) ∙ firsts-enough (few-fickle n bound heard notes small (subst (λ (s : ℕ). enough 32 bound (λ i. mem i s) ≡ false) q few))
 
   -- ---- the source's first value
 
@@ -377,7 +370,7 @@ module _ (n f heard : ℕ) (notes : List Note) (small : n ≤ 20) (whole : Whole
         go (suc zero) e = clash (mem-or source one-of more-of ∙ or-l _ _ (single-i n heard notes source k e m)) h
         go (suc (suc c)) e = clash (mem-or source one-of more-of ∙ or-r (mem source one-of) _ (fickle-i n heard notes source k (let q = e in omega arith) m)) h
 
-    pub direct-yes : mem source (bitOr one-of more-of) ≡ true → (getD firsts source 0 ≡ 0 → ⊥) → getD firsts source 0 ≡ choice n source f heard held
+    pub direct-yes : mem source (bitOr one-of more-of) ≡ true → (getD firsts source 0 ≡ 0 → ⊥) → getD firsts source 0 ≡ choice n source bound heard held
     unfolding choice
     direct-yes h z =
         let w = spoken-first h in
@@ -389,7 +382,7 @@ module _ (n f heard : ℕ) (notes : List Note) (small : n ≤ 20) (whole : Whole
     no-first (inr p) m = silent-first p m
 
     pub direct-no : ((mem source (bitOr one-of more-of) ≡ true) × (getD firsts source 0 ≡ 0)) ⊎ (mem source (bitOr one-of more-of) ≡ false)
-        → least n (leastFrom n f heard held) ≡ choice n source f heard held
+        → least n (leastFrom n bound heard held) ≡ choice n source bound heard held
     unfolding choice
     direct-no p =
         sym (pick-no _ _ _

@@ -12,7 +12,8 @@ use borrow.Author.Tests.{eqb-true, eq-eqb}
 use Rattle.sets.specs.Tests.{_and_, _implies_, pick}
 use Rattle.sets.specs.Causes.{_gives_, firstCause}
 use Rattle.sets.specs.Sets.{mem}
-use Rattle.quorum.specs.Quorum.{enough, inRange, hearsSoundly}
+use Rattle.quorum.specs.declared.Bound.{Bound}
+use Rattle.quorum.specs.Quorum.{enough, inRange, others, groupsSound}
 use Rattle.sets.proofs.Bools.{clash, decide, and-no-l, implies-i, pick-yes, pick-no, pick-case}
 use Rattle.sets.proofs.Laws.{below-or-not, all-cong}
 use Rattle.terminal.specs.declared.State.{State}
@@ -50,7 +51,7 @@ noted-same (suc n) hears said other (x ∷ a) (y ∷ b) l e s zero h = (λ i. wi
 noted-same (suc n) hears said other (x ∷ a) (y ∷ b) l e s (suc j) h =
     noted-same n (λ j. hears (suc j)) (λ j. said (suc j)) (λ j. other (suc j)) a b (omega arith) (λ j. e (suc j)) (λ j. s (suc j)) j h
 
-module _ (n source f heard : ℕ) (a b : List (List ℕ)) (e : (j : ℕ) → mem j heard ≡ true → valuesOf a j ≡ valuesOf b j) where
+module _ (n source : ℕ) (bound : Bound) (heard : ℕ) (a b : List (List ℕ)) (e : (j : ℕ) → mem j heard ≡ true → valuesOf a j ≡ valuesOf b j) where
   vote-same : (v j : ℕ) → (mem j heard and hasNoted a v j) ≡ (mem j heard and hasNoted b v j)
   unfolding hasNoted
   vote-same v j =
@@ -58,46 +59,46 @@ module _ (n source f heard : ℕ) (a b : List (List ℕ)) (e : (j : ℕ) → mem
       (λ m. and-no-l _ _ m ∙ sym (and-no-l _ _ m))
       (decide (mem j heard))
 
-  candidate-same : (v : ℕ) → candidate n f heard a v ≡ candidate n f heard b v
+  candidate-same : (v : ℕ) → candidate n bound heard a v ≡ candidate n bound heard b v
   unfolding candidate certified
-  candidate-same v = ap (λ (voter : ℕ → Bool). pick (enough n f voter) v 0) (fun-ext (vote-same v))
+  candidate-same v = ap (λ (voter : ℕ → Bool). pick (enough n bound voter) v 0) (fun-ext (vote-same v))
 
-  from-same : (j : ℕ) → leastFrom n f heard a j ≡ leastFrom n f heard b j
+  from-same : (j : ℕ) → leastFrom n bound heard a j ≡ leastFrom n bound heard b j
   unfolding leastFrom
   from-same j =
       ap (λ (one : ℕ → ℕ). pick (mem j heard) (leastOf one (valuesOf a j)) 0) (fun-ext candidate-same)
-      ∙ ⊎-elim (λ m. ap (λ (values : List ℕ). pick (mem j heard) (leastOf (candidate n f heard b) values) 0) (e j m))
+      ∙ ⊎-elim (λ m. ap (λ (values : List ℕ). pick (mem j heard) (leastOf (candidate n bound heard b) values) 0) (e j m))
       (λ m. pick-no _ _ _ m ∙ sym (pick-no _ _ _ m))
       (decide (mem j heard))
 
-  choice-same : choice n source f heard a ≡ choice n source f heard b
+  choice-same : choice n source bound heard a ≡ choice n source bound heard b
   unfolding choice
   choice-same =
       ap (λ (one : ℕ → ℕ). pick (mem source heard and not (eqb (firstOf (valuesOf a source)) 0)) (firstOf (valuesOf a source)) (least n one)) (fun-ext from-same)
       ∙ ⊎-elim
       (λ m.
-      ap (λ (values : List ℕ). pick (mem source heard and not (eqb (firstOf values) 0)) (firstOf values) (least n (leastFrom n f heard b))) (e source m))
+      ap (λ (values : List ℕ). pick (mem source heard and not (eqb (firstOf values) 0)) (firstOf values) (least n (leastFrom n bound heard b))) (e source m))
       (λ m. pick-no _ _ _ (and-no-l _ _ m) ∙ sym (pick-no _ _ _ (and-no-l _ _ m)))
       (decide (mem source heard))
 
-module _ (n source f heard : ℕ) (said other : ℕ → ℕ) (s : (j : ℕ) → mem j heard ≡ true → said j ≡ other j) where
+module _ (n source : ℕ) (bound : Bound) (heard : ℕ) (said other : ℕ → ℕ) (s : (j : ℕ) → mem j heard ≡ true → said j ≡ other j) where
   from-view : (state : State) (round : ℕ) (a b : List (List ℕ)) → length a ≡ length b → ((j : ℕ) → mem j heard ≡ true → valuesOf a j ≡ valuesOf b j)
-      → SameView heard (stepFrom state n source f heard said round a) (stepFrom state n source f heard other round b)
+      → SameView heard (stepFrom state n source bound heard said round a) (stepFrom state n source bound heard other round b)
   unfolding stepFrom
   from-view Waiting round a b l e =
       let values = noted-same n (λ j. mem j heard) said other a b l e s in record {
-        state = ap (taking (round + 1)) (choice-same n source f heard (noted n (λ j. mem j heard) said a) (noted n (λ j. mem j heard) other b) values);
+        state = ap (taking (round + 1)) (choice-same n source bound heard (noted n (λ j. mem j heard) said a) (noted n (λ j. mem j heard) other b) values);
         round = refl;
         long = noted-length n (λ j. mem j heard) said a ∙ l ∙ sym (noted-length n (λ j. mem j heard) other b);
         values = values;
       }
   from-view (Taken at value) round a b l e = record { state = refl; round = refl; long = l; values = e }
 
-  step-view : (a b : View) → SameView heard a b → SameView heard (step n source f heard said a) (step n source f heard other b)
+  step-view : (a b : View) → SameView heard a b → SameView heard (step n source bound heard said a) (step n source bound heard other b)
   unfolding step
   step-view a b e =
-      subst (λ (x : State). SameView heard (step n source f heard said a) (stepFrom x n source f heard other (b .round) (b .notes))) (e .state)
-      (subst (λ (x : ℕ). SameView heard (step n source f heard said a) (stepFrom (a .state) n source f heard other x (b .notes))) (e .round)
+      subst (λ (x : State). SameView heard (step n source bound heard said a) (stepFrom x n source bound heard other (b .round) (b .notes))) (e .state)
+      (subst (λ (x : ℕ). SameView heard (step n source bound heard said a) (stepFrom (a .state) n source bound heard other x (b .notes))) (e .round)
       (from-view (a .state) (a .round) (a .notes) (b .notes) (e .long) (e .values)))
 
 -- ---- the code's records
@@ -118,14 +119,14 @@ view-same heard a b wa wb e = record {
       ∙ sym (view-values (b .notes) j);
 }
 
-module _ (n source f own heard : ℕ) where
+module _ (n source : ℕ) (bound : Bound) (own heard : ℕ) where
   -- where the step is accepted, the values of a heard neighbour that it leaves find room
-  module _ (a : Record) (whole : Whole (a .notes)) (said : List ℕ) (accepted : causeOf n source f own heard a (length said) ≡ 0) where
+  module _ (a : Record) (whole : Whole (a .notes)) (said : List ℕ) (accepted : causeOf n source bound own heard a (length said) ≡ 0) where
     abbrev after : View
-    after = step n source f heard (λ j. getD said j 0) (viewOf a)
+    after = step n source bound heard (λ j. getD said j 0) (viewOf a)
 
     small : (j : ℕ) → mem j heard ≡ true → noteOf (a .notes) j .count < 40
-    small = accepted-plays n source f own heard a (length said) accepted .4
+    small = accepted-plays n source bound own heard a (length said) accepted .4
 
     after-few : (j : ℕ) → j < 20 → mem j heard ≡ true → length (valuesOf (after .notes) j) ≤ 40
     unfolding viewOf
@@ -133,7 +134,7 @@ module _ (n source f own heard : ℕ) where
         let c : noteOf (a .notes) j .count < 40 = small j h in
         let l : length (valuesIn (noteOf (a .notes) j)) ≡ noteOf (a .notes) j .count = values-length (noteOf (a .notes) j) (whole .forty j k) (omega arith) in
         let e : length (valuesOf (map valuesIn (a .notes)) j) ≡ length (valuesIn (noteOf (a .notes) j)) = ap length (view-values (a .notes) j) in
-        step-by n source f heard (λ j. getD said j 0) (λ (values : List ℕ). length values ≤ 40) (viewOf a) j (omega arith)
+        step-by n source bound heard (λ j. getD said j 0) (λ (values : List ℕ). length values ≤ 40) (viewOf a) j (omega arith)
         (omega (arith, word-length (mem j heard) (valuesOf (map valuesIn (a .notes)) j) (getD said j 0)))
 
     after-count : (j : ℕ) → j < 20 → mem j heard ≡ true
@@ -157,7 +158,7 @@ module _ (n source f own heard : ℕ) where
         let c : noteOf (a .notes) j .count < 40 = small j h in
         let self : getD (writtenOver (noteOf (a .notes) j) (valuesIn (noteOf (a .notes) j)) .values) i 0 ≡ getD (noteOf (a .notes) j .values) i 0 =
         ap (λ (m : Note). getD (m .values) i 0) (written-self (noteOf (a .notes) j) (whole .forty j k) (omega arith)) in
-        step-by n source f heard (λ j. getD said j 0)
+        step-by n source bound heard (λ j. getD said j 0)
         (λ (values : List ℕ). getD (writtenOver (noteOf (a .notes) j) values .values) i 0 ≡ getD (noteOf (a .notes) j .values) i 0) (viewOf a) j
         (subst (λ (values : List ℕ). getD (writtenOver (noteOf (a .notes) j) values .values) i 0 ≡ getD (noteOf (a .notes) j .values) i 0) (sym (view-values (a .notes) j)) self)
         (subst (λ (values : List ℕ). getD (writtenOver (noteOf (a .notes) j) (withWord (mem j heard) values (getD said j 0)) .values) i 0 ≡ getD (noteOf (a .notes) j .values) i 0)
@@ -179,67 +180,68 @@ module _ (n source f own heard : ℕ) where
       (decide (mem j heard)))
 
   number-same : (a b : Record) → SameRecord heard a b → (said other : List ℕ) → SameHeard heard said other
-      → causeOf n source f own heard a (length said) ≡ causeOf n source f own heard b (length other)
+      → causeOf n source bound own heard a (length said) ≡ causeOf n source bound own heard b (length other)
   unfolding causeOf recordSound
   number-same a b e said other s =
       (λ i.
       firstCause (
-      not (inRange n source f) gives 4
-      ∷ not (hearsSoundly n own heard) gives 5
+      not (inRange n source (bound .kind)) gives 4
+      ∷ not (others n own heard) gives 5
+      ∷ not (groupsSound n source bound) gives 17
       ∷ not (ltb (e .round i) 40 and ltb own n and stateSound (e .state i) (eqb own source) (e .round i) and counts-same a b e i) gives 13
       ∷ not (eqb (s .long i) n) gives 12
       ∷ []
       ))
 
   shown-same : (a b : Record) → Whole (a .notes) → Whole (b .notes) → SameRecord heard a b → (said other : List ℕ) → SameHeard heard said other
-      → causeOf n source f own heard a (length said) ≡ 0 → causeOf n source f own heard b (length other) ≡ 0
-      → SameRecord heard (shownOver (λ j. mem j heard) a (step n source f heard (λ j. getD said j 0) (viewOf a)))
-      (shownOver (λ j. mem j heard) b (step n source f heard (λ j. getD other j 0) (viewOf b)))
+      → causeOf n source bound own heard a (length said) ≡ 0 → causeOf n source bound own heard b (length other) ≡ 0
+      → SameRecord heard (shownOver (λ j. mem j heard) a (step n source bound heard (λ j. getD said j 0) (viewOf a)))
+      (shownOver (λ j. mem j heard) b (step n source bound heard (λ j. getD other j 0) (viewOf b)))
   shown-same a b wa wb e said other s ca cb =
-      let v = step-view n source f heard (λ j. getD said j 0) (λ j. getD other j 0) (s .entries) (viewOf a) (viewOf b) (view-same heard a b wa wb e) in record {
+      let v = step-view n source bound heard (λ j. getD said j 0) (λ j. getD other j 0) (s .entries) (viewOf a) (viewOf b) (view-same heard a b wa wb e) in record {
         state = shown-st a said ∙ v .state ∙ sym (shown-st b other);
         round = shown-rd a said ∙ v .round ∙ sym (shown-rd b other);
         counts = λ j k h. after-count a wa said ca j k h ∙ ap length (v .values j h) ∙ sym (after-count b wb other cb j k h);
         values = λ j k h. after-values a wa said ca j k h ∙ v .values j h ∙ sym (after-values b wb other cb j k h);
       }
     where
-      shown-st : (a : Record) (said : List ℕ) → shownOver (λ j. mem j heard) a (step n source f heard (λ j. getD said j 0) (viewOf a)) .state ≡ step n source f heard (λ j. getD said j 0) (viewOf a) .state
-      shown-st a said = over-state (λ j. mem j heard) a (step n source f heard (λ j. getD said j 0) (viewOf a))
+      shown-st : (a : Record) (said : List ℕ) → shownOver (λ j. mem j heard) a (step n source bound heard (λ j. getD said j 0) (viewOf a)) .state ≡ step n source bound heard (λ j. getD said j 0) (viewOf a) .state
+      shown-st a said = over-state (λ j. mem j heard) a (step n source bound heard (λ j. getD said j 0) (viewOf a))
 
-      shown-rd : (a : Record) (said : List ℕ) → shownOver (λ j. mem j heard) a (step n source f heard (λ j. getD said j 0) (viewOf a)) .round ≡ step n source f heard (λ j. getD said j 0) (viewOf a) .round
-      shown-rd a said = over-round (λ j. mem j heard) a (step n source f heard (λ j. getD said j 0) (viewOf a))
+      shown-rd : (a : Record) (said : List ℕ) → shownOver (λ j. mem j heard) a (step n source bound heard (λ j. getD said j 0) (viewOf a)) .round ≡ step n source bound heard (λ j. getD said j 0) (viewOf a) .round
+      shown-rd a said = over-round (λ j. mem j heard) a (step n source bound heard (λ j. getD said j 0) (viewOf a))
 
   after-same : (a b : Record) → Whole (a .notes) → Whole (b .notes) → SameRecord heard a b → (said other : List ℕ) → SameHeard heard said other
-      → SameRecord heard (recordAfter n source f own heard a said) (recordAfter n source f own heard b other)
+      → SameRecord heard (recordAfter n source bound own heard a said) (recordAfter n source bound own heard b other)
   unfolding recordAfter
   after-same a b wa wb e said other s =
       ⊎-elim
       (λ t.
       let ca = eqb-true _ 0 t in
       let cb = sym (number-same a b e said other s) ∙ ca in
-      subst (λ (x : Record). SameRecord heard x (recordAfter n source f own heard b other)) (sym (pick-yes _ _ _ t))
-      (subst (λ (x : Record). SameRecord heard (shownOver (λ j. mem j heard) a (step n source f heard (λ j. getD said j 0) (viewOf a))) x)
+      subst (λ (x : Record). SameRecord heard x (recordAfter n source bound own heard b other)) (sym (pick-yes _ _ _ t))
+      (subst (λ (x : Record). SameRecord heard (shownOver (λ j. mem j heard) a (step n source bound heard (λ j. getD said j 0) (viewOf a))) x)
       (sym (pick-yes _ _ _ (eq-eqb _ _ cb))) (shown-same a b wa wb e said other s ca cb)))
       (λ t.
-      subst (λ (x : Record). SameRecord heard x (recordAfter n source f own heard b other)) (sym (pick-no _ _ _ t))
+      subst (λ (x : Record). SameRecord heard x (recordAfter n source bound own heard b other)) (sym (pick-no _ _ _ t))
       (subst (λ (x : Record). SameRecord heard a x) (sym (pick-no _ _ _ (ap (λ (k : ℕ). eqb k 0) (sym (number-same a b e said other s)) ∙ t))) e))
-      (decide (eqb (causeOf n source f own heard a (length said)) 0))
+      (decide (eqb (causeOf n source bound own heard a (length said)) 0))
 
   kept : (a : Record) (said : List ℕ) (j : ℕ) → j < 20 → mem j heard ≡ false
-      → noteOf (recordAfter n source f own heard a said .notes) j ≡ noteOf (a .notes) j
+      → noteOf (recordAfter n source bound own heard a said .notes) j ≡ noteOf (a .notes) j
   unfolding recordAfter shownOver
   kept a said j k m =
       pick-case (λ (x : Record). noteOf (x .notes) j ≡ noteOf (a .notes) j)
-      (eqb (causeOf n source f own heard a (length said)) 0) (shownOver (λ j. mem j heard) a (step n source f heard (λ j. getD said j 0) (viewOf a))) a
+      (eqb (causeOf n source bound own heard a (length said)) 0) (shownOver (λ j. mem j heard) a (step n source bound heard (λ j. getD said j 0) (viewOf a))) a
       (λ t. over-unheard (λ j. mem j heard) (a .notes) _ j k m)
       (λ t. refl)
 
   place-kept : (a : Record) → Whole (a .notes) → (said : List ℕ) (j i : ℕ) → j < 20 → (i ≡ noteOf (a .notes) j .count → ⊥)
-      → getD (noteOf (recordAfter n source f own heard a said .notes) j .values) i 0 ≡ getD (noteOf (a .notes) j .values) i 0
+      → getD (noteOf (recordAfter n source bound own heard a said .notes) j .values) i 0 ≡ getD (noteOf (a .notes) j .values) i 0
   unfolding recordAfter shownOver
   place-kept a whole said j i k z =
       pick-case (λ (x : Record). getD (noteOf (x .notes) j .values) i 0 ≡ getD (noteOf (a .notes) j .values) i 0)
-      (eqb (causeOf n source f own heard a (length said)) 0) (shownOver (λ j. mem j heard) a (step n source f heard (λ j. getD said j 0) (viewOf a))) a
+      (eqb (causeOf n source bound own heard a (length said)) 0) (shownOver (λ j. mem j heard) a (step n source bound heard (λ j. getD said j 0) (viewOf a))) a
       (λ t.
       ⊎-elim
       (λ h. ap (λ (m : Note). getD (m .values) i 0) (over-heard (λ j. mem j heard) (a .notes) _ j k h) ∙ after-place a whole said (eqb-true _ 0 t) j i k h z)
@@ -247,5 +249,5 @@ module _ (n source f own heard : ℕ) where
       (decide (mem j heard)))
       (λ t. refl)
 
-  pub unheard : UnheardIgnored n source f own heard
+  pub unheard : UnheardIgnored n source bound own heard
   unheard = record { number = λ a b wa wb e. number-same a b e; after = after-same; unchanged = kept; places = place-kept }

@@ -16,7 +16,8 @@ use Rattle.sets.specs.Sets.{mem, within}
 use Rattle.sets.proofs.Bools.{and-l, and-r, implies-e, not-no, pick-yes, pick-no}
 use Rattle.sets.proofs.Laws.{all-at, mem-below}
 use Rattle.sets.proofs.Causes.{cause-none}
-use Rattle.quorum.specs.Quorum.{inRange, hearsSoundly}
+use Rattle.quorum.specs.declared.Bound.{Bound}
+use Rattle.quorum.specs.Quorum.{inRange, others}
 use Rattle.terminal.specs.declared.State.the-variants.{Taken}
 use Rattle.terminal.specs.declared.Record.{Record}
 use Rattle.terminal.specs.Rule.{among, lesser, least, leastOf, taking, step}
@@ -124,22 +125,23 @@ taking-some round (suc v) h = refl
 
 -- ---- where no cause of refusal applies, whoever is heard is of the site, and the round can be played
 
-pub accepted-hears : (n source f own heard : ℕ) (r : Record) (words : ℕ) → causeOf n source f own heard r words ≡ 0 → (j : ℕ) → mem j heard ≡ true → j < n
-unfolding causeOf hearsSoundly within
-accepted-hears n source f own heard r words h j m =
+pub accepted-hears : (n source : ℕ) (bound : Bound) (own heard : ℕ) (r : Record) (words : ℕ) → causeOf n source bound own heard r words ≡ 0 → (j : ℕ) → mem j heard ≡ true → j < n
+unfolding causeOf others within
+accepted-hears n source bound own heard r words h j m =
     let a = cause-none _ 4 _ (λ z. omega arith) h in
     let b = cause-none _ 5 _ (λ z. omega arith) (a .1) in
-    mem-below n j heard (ltb-true heard (2 ^ n) (and-l _ _ (not-no (hearsSoundly n own heard) (b .0)))) m
+    mem-below n j heard (ltb-true heard (2 ^ n) (and-l _ _ (not-no (others n own heard) (b .0)))) m
 
-pub accepted-plays : (n source f own heard : ℕ) (r : Record) (words : ℕ) → causeOf n source f own heard r words ≡ 0
+pub accepted-plays : (n source : ℕ) (bound : Bound) (own heard : ℕ) (r : Record) (words : ℕ) → causeOf n source bound own heard r words ≡ 0
     → (n ≤ 20) × (source < n) × (n ≤ words) × (r .round < 40) × ((j : ℕ) → mem j heard ≡ true → noteOf (r .notes) j .count < 40)
 unfolding causeOf inRange recordSound countsSound
-accepted-plays n source f own heard r words h =
+accepted-plays n source bound own heard r words h =
     let a = cause-none _ 4 _ (λ z. omega arith) h in
     let b = cause-none _ 5 _ (λ z. omega arith) (a .1) in
-    let d = cause-none _ 13 _ (λ z. omega arith) (b .1) in
+    let g = cause-none _ 17 _ (λ z. omega arith) (b .1) in
+    let d = cause-none _ 13 _ (λ z. omega arith) (g .1) in
     let e : words ≡ n = eqb-true words n (not-no _ (cause-none _ 12 _ (λ z. omega arith) (d .1) .0)) in
-    let range = not-no (inRange n source f) (a .0) in
+    let range = not-no (inRange n source (bound .kind)) (a .0) in
     let s = and-r _ _ (and-r _ _ range) in
     let n20 : n ≤ 20 = leb-true n 20 (and-l _ _ (and-r _ _ range)) in
     let good = not-no (recordSound n source own heard r) (d .0) in
@@ -150,7 +152,7 @@ accepted-plays n source f own heard r words h =
       omega arith,
       early,
       λ j m.
-          let l : j < n = accepted-hears n source f own heard r words h j m in
+          let l : j < n = accepted-hears n source bound own heard r words h j m in
           let c : noteOf (r .notes) j .count ≤ r .round =
           leb-true (noteOf (r .notes) j .count) (r .round)
           (implies-e _ _ (all-at 20 (λ j. mem j heard implies leb (noteOf (r .notes) j .count) (r .round)) counts j (omega arith)) m) in
@@ -159,12 +161,12 @@ accepted-plays n source f own heard r words h =
 
 -- ---- the record that comes back, by the number of the cause
 
-module _ (n source f own heard : ℕ) (r : Record) (said : List ℕ) where
-  pub after-accepted : 0 ≡ causeOf n source f own heard r (length said)
-      → shownOver (λ j. mem j heard) r (step n source f heard (λ j. getD said j 0) (viewOf r)) ≡ recordAfter n source f own heard r said
+module _ (n source : ℕ) (bound : Bound) (own heard : ℕ) (r : Record) (said : List ℕ) where
+  pub after-accepted : 0 ≡ causeOf n source bound own heard r (length said)
+      → shownOver (λ j. mem j heard) r (step n source bound heard (λ j. getD said j 0) (viewOf r)) ≡ recordAfter n source bound own heard r said
   unfolding recordAfter
   after-accepted h = sym (pick-yes _ _ _ (eq-eqb _ _ (sym h)))
 
-  pub after-refused : (k : ℕ) → k ≡ causeOf n source f own heard r (length said) → eqb k 0 ≡ false → r ≡ recordAfter n source f own heard r said
+  pub after-refused : (k : ℕ) → k ≡ causeOf n source bound own heard r (length said) → eqb k 0 ≡ false → r ≡ recordAfter n source bound own heard r said
   unfolding recordAfter
   after-refused k h t = sym (pick-no _ _ _ (ap (λ (x : ℕ). eqb x 0) (sym h) ∙ t))

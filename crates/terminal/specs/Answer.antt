@@ -7,14 +7,15 @@ use lib.ListN.{length, getD}
 use Rattle.sets.specs.Tests.{_and_, _implies_, pick}
 use Rattle.sets.specs.Causes.{_gives_, firstCause}
 use Rattle.sets.specs.Sets.{Terminal, Set, mem, all}
-use Rattle.quorum.specs.Quorum.{mostTerminals, inRange, hearsSoundly}
+use Rattle.quorum.specs.declared.Bound.{Bound}
+use Rattle.quorum.specs.Quorum.{mostTerminals, inRange, others, groupsSound}
 use Rattle.quorum.specs.Words.{mostRounds}
 use Rattle.terminal.specs.declared.State.{State}
 use Rattle.terminal.specs.declared.State.the-variants.{Waiting, Taken}
 use Rattle.terminal.specs.declared.Note.{Note}
 use Rattle.terminal.specs.declared.Record.{Record}
 use Rattle.terminal.specs.declared.Outcome.{Outcome}
-use Rattle.terminal.specs.declared.Outcome.the-variants.{Accepted, WrongRange, WrongLink, WrongLength, WrongRecord}
+use Rattle.terminal.specs.declared.Outcome.the-variants.{Accepted, WrongRange, WrongLink, WrongGroups, WrongLength, WrongRecord}
 use Rattle.terminal.specs.Rule.{Layout, Round, step}
 use Rattle.terminal.specs.Shown.{noteOf, viewOf, shownOver}
 
@@ -23,6 +24,7 @@ abbrev pub numberOf : Outcome → ℕ
 numberOf Accepted = 0
 numberOf WrongRange = 4
 numberOf WrongLink = 5
+numberOf WrongGroups = 17
 numberOf WrongLength = 12
 numberOf WrongRecord = 13
 
@@ -40,12 +42,13 @@ unfoldable pub recordSound : (n : ℕ) (source own : Terminal) (heard : Set) →
 recordSound n source own heard r =
     ltb (r .round) mostRounds and ltb own n and stateSound (r .state) (eqb own source) (r .round) and countsSound heard (r .notes) (r .round)
 
--- the causes, in their order; 0 where none applies
-unfoldable pub causeOf : (n : ℕ) (source : Terminal) (f : ℕ) (own : Terminal) (heard : Set) → Record → (words : ℕ) → ℕ
-causeOf n source f own heard r words =
+-- the causes, in their order (17 with document 02, P10); 0 where none applies
+unfoldable pub causeOf : (n : ℕ) (source : Terminal) (bound : Bound) (own : Terminal) (heard : Set) → Record → (words : ℕ) → ℕ
+causeOf n source bound own heard r words =
     firstCause (
-    not (inRange n source f) gives 4
-    ∷ not (hearsSoundly n own heard) gives 5
+    not (inRange n source (bound .kind)) gives 4
+    ∷ not (others n own heard) gives 5
+    ∷ not (groupsSound n source bound) gives 17
     ∷ not (recordSound n source own heard r) gives 13
     ∷ not (eqb words n) gives 12
     ∷ []
@@ -53,8 +56,8 @@ causeOf n source f own heard r words =
 
 -- the record that comes back: the stepped one, or where the step is refused the one that went in. The step is the rule's on what the record says, shown in
 -- its place: a neighbour that is not heard keeps its note, and of one that is heard only the count and the place of a new value change
-unfoldable pub recordAfter : (n : ℕ) (source : Terminal) (f : ℕ) (own : Terminal) (heard : Set) → Record → (said : List Layout) → Record
-recordAfter n source f own heard r said =
-    pick (eqb (causeOf n source f own heard r (length said)) 0)
-    (shownOver (λ j. mem j heard) r (step n source f heard (λ j. getD said j 0) (viewOf r)))
+unfoldable pub recordAfter : (n : ℕ) (source : Terminal) (bound : Bound) (own : Terminal) (heard : Set) → Record → (said : List Layout) → Record
+recordAfter n source bound own heard r said =
+    pick (eqb (causeOf n source bound own heard r (length said)) 0)
+    (shownOver (λ j. mem j heard) r (step n source bound heard (λ j. getD said j 0) (viewOf r)))
     r

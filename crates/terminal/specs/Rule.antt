@@ -1,6 +1,6 @@
 -- One terminal's round (document 01, "One terminal's round", with document 02, P4), for any number of rounds: the bound of 40 belongs to the code's
--- refusals, and so do its forty places for a neighbour's values (specs/Shown.antt). The rule is given n, the source, f and the set that the terminal
--- hears; what was said is a function of the sender, 0 for silence. Assumes nothing.
+-- refusals, and so do its forty places for a neighbour's values (specs/Shown.antt). The rule is given n, the source, who may be bad together, and the
+-- set that the terminal hears; what was said is a function of the sender, 0 for silence. Assumes nothing.
 use Prim.Native.Nat.{ℕ, zero, suc, _+_, min}
 use mathlib.Core.Bool.{Bool, false, not}
 use mathlib.Core.List.{List, [], _∷_, _++_}
@@ -8,6 +8,7 @@ use lib.Dec.{eqb}
 use lib.ListN.{getD, replicate}
 use Rattle.sets.specs.Tests.{_and_, _or_, pick}
 use Rattle.sets.specs.Sets.{Terminal, Set, mem}
+use Rattle.quorum.specs.declared.Bound.{Bound}
 use Rattle.quorum.specs.Quorum.{mostTerminals, enough}
 use Rattle.terminal.specs.declared.State.{State}
 use Rattle.terminal.specs.declared.State.the-variants.{Waiting, Taken}
@@ -73,9 +74,10 @@ hasNoted notes v j = not (eqb v 0) and among v (valuesOf notes j)
 unfoldable pub holds : View → Layout → Terminal → Bool
 holds r v j = hasNoted (r .notes) v j
 
--- v is noted from more than f different neighbours
-unfoldable pub certified : (n f : ℕ) (heard : Set) (notes : List Values) (v : Layout) → Bool
-certified n f heard notes v = enough n f (λ j. mem j heard and hasNoted notes v j)
+-- v is noted from enough different neighbours: more than f, or some who fit in no group (document 02, P10). For a plan with f this is document 01's rule as
+-- it was: the case `Most f` of `enough` counts them
+unfoldable pub certified : (n : ℕ) (bound : Bound) (heard : Set) (notes : List Values) (v : Layout) → Bool
+certified n bound heard notes v = enough n bound (λ j. mem j heard and hasNoted notes v j)
 
 -- the first of some values, 0 where there is none
 unfoldable pub firstOf : Values → Layout
@@ -96,17 +98,17 @@ leastOf value [] = 0
 leastOf value (v ∷ values) = lesser (value v) (leastOf value values)
 
 -- a value, if it is certified
-unfoldable pub candidate : (n f : ℕ) (heard : Set) (notes : List Values) (v : Layout) → Layout
-candidate n f heard notes v = pick (certified n f heard notes v) v 0
+unfoldable pub candidate : (n : ℕ) (bound : Bound) (heard : Set) (notes : List Values) (v : Layout) → Layout
+candidate n bound heard notes v = pick (certified n bound heard notes v) v 0
 
 -- the least certified value of one neighbour, if it is heard; a certified value is noted from some neighbour, so these are all of them
-unfoldable pub leastFrom : (n f : ℕ) (heard : Set) (notes : List Values) (j : Terminal) → Layout
-leastFrom n f heard notes j = pick (mem j heard) (leastOf (candidate n f heard notes) (valuesOf notes j)) 0
+unfoldable pub leastFrom : (n : ℕ) (bound : Bound) (heard : Set) (notes : List Values) (j : Terminal) → Layout
+leastFrom n bound heard notes j = pick (mem j heard) (leastOf (candidate n bound heard notes) (valuesOf notes j)) 0
 
 -- the first value that the source said, if it hears the source and has one, where 0 is none; otherwise the smallest that is certified
-unfoldable pub choice : (n : ℕ) (source : Terminal) (f : ℕ) (heard : Set) (notes : List Values) → Layout
-choice n source f heard notes =
-    pick (mem source heard and not (eqb (firstOf (valuesOf notes source)) 0)) (firstOf (valuesOf notes source)) (least n (leastFrom n f heard notes))
+unfoldable pub choice : (n : ℕ) (source : Terminal) (bound : Bound) (heard : Set) (notes : List Values) → Layout
+choice n source bound heard notes =
+    pick (mem source heard and not (eqb (firstOf (valuesOf notes source)) 0)) (firstOf (valuesOf notes source)) (least n (leastFrom n bound heard notes))
 
 -- ---- the step
 
@@ -116,16 +118,16 @@ taking round zero = Waiting
 taking round (suc v) = Taken round (suc v)
 
 -- a waiting terminal notes and chooses, and a take keeps the raised round number; one that has taken changes only its round number
-unfoldable pub stepFrom : State → (n : ℕ) (source : Terminal) (f : ℕ) (heard : Set) (said : Terminal → Layout) (round : Round) (notes : List Values) → View
-stepFrom Waiting n source f heard said round notes = record {
-  state = taking (round + 1) (choice n source f heard (noted n (λ j. mem j heard) said notes));
+unfoldable pub stepFrom : State → (n : ℕ) (source : Terminal) (bound : Bound) (heard : Set) (said : Terminal → Layout) (round : Round) (notes : List Values) → View
+stepFrom Waiting n source bound heard said round notes = record {
+  state = taking (round + 1) (choice n source bound heard (noted n (λ j. mem j heard) said notes));
   round = round + 1;
   notes = noted n (λ j. mem j heard) said notes;
 }
-stepFrom (Taken at value) n source f heard said round notes = record { state = Taken at value; round = round + 1; notes = notes }
+stepFrom (Taken at value) n source bound heard said round notes = record { state = Taken at value; round = round + 1; notes = notes }
 
-unfoldable pub step : (n : ℕ) (source : Terminal) (f : ℕ) (heard : Set) (said : Terminal → Layout) → View → View
-step n source f heard said r = stepFrom (r .state) n source f heard said (r .round) (r .notes)
+unfoldable pub step : (n : ℕ) (source : Terminal) (bound : Bound) (heard : Set) (said : Terminal → Layout) → View → View
+step n source bound heard said r = stepFrom (r .state) n source bound heard said (r .round) (r .notes)
 
 -- ---- what it says
 

@@ -7,6 +7,7 @@ use mathlib.Core.Bool.{true, false}
 use mathlib.Core.List.{List}
 use lib.ListN.{length, getD}
 use Rattle.sets.specs.Sets.{mem}
+use Rattle.quorum.specs.declared.Bound.{Bound}
 use Rattle.quorum.specs.Quorum.{mostTerminals}
 use Rattle.terminal.specs.declared.Record.{Record}
 use Rattle.terminal.specs.Shown.{noteOf, valuesIn, Whole}
@@ -24,14 +25,14 @@ pub record SameRecord (heard : ℕ) (a b : Record) : Type 0 where
   pub counts : (j : ℕ) → j < mostTerminals → mem j heard ≡ true → noteOf (a .notes) j .count ≡ noteOf (b .notes) j .count
   pub values : (j : ℕ) → j < mostTerminals → mem j heard ≡ true → valuesIn (noteOf (a .notes) j) ≡ valuesIn (noteOf (b .notes) j)
 
-pub record UnheardIgnored (n source f own heard : ℕ) : Type 0 where
+pub record UnheardIgnored (n source : ℕ) (bound : Bound) (own heard : ℕ) : Type 0 where
   pub number : (a b : Record) → Whole (a .notes) → Whole (b .notes) → SameRecord heard a b → (said other : List ℕ) → SameHeard heard said other
-      → causeOf n source f own heard a (length said) ≡ causeOf n source f own heard b (length other)
+      → causeOf n source bound own heard a (length said) ≡ causeOf n source bound own heard b (length other)
   pub after : (a b : Record) → Whole (a .notes) → Whole (b .notes) → SameRecord heard a b → (said other : List ℕ) → SameHeard heard said other
-      → SameRecord heard (recordAfter n source f own heard a said) (recordAfter n source f own heard b other)
+      → SameRecord heard (recordAfter n source bound own heard a said) (recordAfter n source bound own heard b other)
   -- the note of a terminal that is not heard stays, whatever its count
   pub unchanged : (a : Record) (said : List ℕ) (j : ℕ) → j < mostTerminals → mem j heard ≡ false
-      → noteOf (recordAfter n source f own heard a said .notes) j ≡ noteOf (a .notes) j
+      → noteOf (recordAfter n source bound own heard a said .notes) j ≡ noteOf (a .notes) j
   -- of a note only the count and the place after the values that it had change
   pub places : (a : Record) → Whole (a .notes) → (said : List ℕ) (j i : ℕ) → j < mostTerminals → (i ≡ noteOf (a .notes) j .count → ⊥)
-      → getD (noteOf (recordAfter n source f own heard a said .notes) j .values) i 0 ≡ getD (noteOf (a .notes) j .values) i 0
+      → getD (noteOf (recordAfter n source bound own heard a said .notes) j .values) i 0 ≡ getD (noteOf (a .notes) j .values) i 0

@@ -8,7 +8,9 @@ use lib.Bits.{bitOr}
 use lib.Dec.{eqb, ltb}
 use lib.ListN.{getD}
 use Rattle.sets.specs.Tests.{_and_, pick}
-use Rattle.sets.specs.Sets.{Terminal, Set, mem, mask, size}
+use Rattle.sets.specs.Sets.{Terminal, Set, mem, mask}
+use Rattle.quorum.specs.declared.Bound.{Bound}
+use Rattle.quorum.specs.Quorum.{enough}
 use Rattle.quorum.specs.Words.{mostRounds}
 use Rattle.terminal.specs.declared.Note.{Note}
 use Rattle.terminal.specs.Rule.{Layout, among}
@@ -41,13 +43,13 @@ firstPlace notes j = getD (noteOf notes j .values) 0 0
 unfoldable pub sameIn : (n : ℕ) (firsts : List Layout) (neighbours : Set) (v : Layout) → Set
 sameIn n firsts neighbours v = mask n (λ j. eqb (getD firsts j 0) v and mem j neighbours)
 
--- a value, if more than f have said it
-unfoldable pub ifMany : (f : ℕ) (who : Set) (v : Layout) → Layout
-ifMany f who v = pick (ltb f (size 32 who)) v 0
+-- a value, if enough have said it
+unfoldable pub ifEnough : (bound : Bound) (who : Set) (v : Layout) → Layout
+ifEnough bound who v = pick (enough 32 bound (λ j. mem j who)) v 0
 
--- what terminal j's first place leads to, where it is of those who have said one value: that value, if more than f have said it
-unfoldable pub fromFirst : (n f : ℕ) (notes : List Note) (firsts : List Layout) (single fickle : Set) (j : Terminal) → Layout
-fromFirst n f notes firsts single fickle j =
+-- what terminal j's first place leads to, where it is of those who have said one value: that value, if enough have said it
+unfoldable pub fromFirst : (n : ℕ) (bound : Bound) (notes : List Note) (firsts : List Layout) (single fickle : Set) (j : Terminal) → Layout
+fromFirst n bound notes firsts single fickle j =
     pick (mem j single)
-    (ifMany f (bitOr (sameIn n firsts single (getD firsts j 0)) (votersIn n notes fickle (getD firsts j 0))) (getD firsts j 0))
+    (ifEnough bound (bitOr (sameIn n firsts single (getD firsts j 0)) (votersIn n notes fickle (getD firsts j 0))) (getD firsts j 0))
     0

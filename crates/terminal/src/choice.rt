@@ -1,8 +1,8 @@
 // Which value a waiting terminal takes, from what it has noted; 0 for none.
 //
-// A value that more than f neighbours have said has a voter outside any f of them. So where at most f
-// have said more than one value, as in every run, only what the others have said can be taken: one
-// value each. Where more have, every value of every neighbour is looked at.
+// A value that enough neighbours have said has a voter outside any set that is not enough. So where
+// those who have said more than one value are not enough, as in every run, only what the others have
+// said can be taken: one value each. Where they are, every value of every neighbour is looked at.
 ghost use mathlib.Core.Path.{_≡_};
 ghost use mathlib.Core.Bool.{true};
 ghost use mathlib.Core.List.{map};
@@ -12,8 +12,9 @@ ghost use lib.ListN.{getD};
 ghost use Rattle.sets.specs.Tests.{_and_};
 ghost use Rattle.terminal.specs.Rule.{among, lesser, least, leastOf, leastFrom, candidate, choice};
 ghost use Rattle.terminal.specs.Shown.{valuesIn, Whole};
-ghost use Rattle.terminal.specs.Votes.{HavePlaces, votersIn, singleIn, fickleIn, firstPlace, sameIn, ifMany, fromFirst};
+ghost use Rattle.terminal.specs.Votes.{HavePlaces, votersIn, singleIn, fickleIn, firstPlace, sameIn, ifEnough, fromFirst};
 use super::Note;
+use quorum::Bound;
 
 // Who has said one value, who has said more, and the first place of each note.
 pub(crate) struct FirstValues {
@@ -63,11 +64,11 @@ fn same(firsts: [u16; 20], n: usize, neighbours: u32, value: u16) -> u32
     who & neighbours
 }
 
-// The value, if more than f have said it.
-fn if_many(f: usize, who: u32, value: u16) -> u16
-    ensures { λ r. ⌜ r ≡ ifMany f who value ⌝ }
+// The value, if enough have said it.
+fn if_enough(bound: Bound, who: u32, value: u16) -> u16
+    ensures { λ r. ⌜ r ≡ ifEnough bound who value ⌝ }
 {
-    if f < u32::count_ones(who) as usize {
+    if quorum::enough(bound, who) {
         return value;
     }
     0
@@ -89,9 +90,9 @@ fn lesser(a: u16, b: u16) -> u16
 }
 
 // The least certified value of one neighbour.
-fn least_of(notes: [Note; 20], n: usize, f: usize, heard: u32, note: Note) -> u16
+fn least_of(notes: [Note; 20], n: usize, bound: Bound, heard: u32, note: Note) -> u16
     requires { ⌜ (n ≤ 20) × HavePlaces heard notes × (note .count ≤ 40) ⌝ }
-    ensures { λ r. ⌜ r ≡ leastOf (candidate n f heard (map valuesIn notes)) (valuesIn note) ⌝ }
+    ensures { λ r. ⌜ r ≡ leastOf (candidate n bound heard (map valuesIn notes)) (valuesIn note) ⌝ }
 {
     let count = note.count as usize;
     let values = note.values;
@@ -99,53 +100,56 @@ fn least_of(notes: [Note; 20], n: usize, f: usize, heard: u32, note: Note) -> u1
     let mut i: usize = 0;
     while i < count {
         let value = values[i];
-        best = lesser(best, if_many(f, voters(notes, n, heard, value), value));
+        best = lesser(
+            best,
+            if_enough(bound, voters(notes, n, heard, value), value),
+        );
         i += 1;
     }
     best
 }
 
 // The same of neighbour j, if it is heard.
-fn least_from(notes: [Note; 20], n: usize, f: usize, heard: u32, j: usize) -> u16
+fn least_from(notes: [Note; 20], n: usize, bound: Bound, heard: u32, j: usize) -> u16
     requires { ⌜ (n ≤ 20) × (j < n) × HavePlaces heard notes ⌝ }
-    ensures { λ r. ⌜ r ≡ leastFrom n f heard (map valuesIn notes) j ⌝ }
+    ensures { λ r. ⌜ r ≡ leastFrom n bound heard (map valuesIn notes) j ⌝ }
 {
     if sets::member(heard, j) {
-        return least_of(notes, n, f, heard, notes[j]);
+        return least_of(notes, n, bound, heard, notes[j]);
     }
     0
 }
 
 // The least certified value, by every value of every neighbour.
-fn least_of_all(notes: [Note; 20], n: usize, f: usize, heard: u32) -> u16
+fn least_of_all(notes: [Note; 20], n: usize, bound: Bound, heard: u32) -> u16
     requires { ⌜ (n ≤ 20) × HavePlaces heard notes ⌝ }
-    ensures { λ r. ⌜ r ≡ least n (leastFrom n f heard (map valuesIn notes)) ⌝ }
+    ensures { λ r. ⌜ r ≡ least n (leastFrom n bound heard (map valuesIn notes)) ⌝ }
 {
     let mut best: u16 = 0;
     let mut j: usize = 0;
     while j < n {
-        best = lesser(best, least_from(notes, n, f, heard, j));
+        best = lesser(best, least_from(notes, n, bound, heard, j));
         j += 1;
     }
     best
 }
 
-// The value, if more than f have said it, where `who` has and of `fickle` each may have.
-fn judged(notes: [Note; 20], n: usize, f: usize, who: u32, fickle: u32, value: u16) -> u16
+// The value, if enough have said it, where `who` has and of `fickle` each may have.
+fn judged(notes: [Note; 20], n: usize, bound: Bound, who: u32, fickle: u32, value: u16) -> u16
     requires { ⌜ (n ≤ 20) × HavePlaces fickle notes ⌝ }
-    ensures { λ r. ⌜ r ≡ ifMany f (bitOr who (votersIn n notes fickle value)) value ⌝ }
+    ensures { λ r. ⌜ r ≡ ifEnough bound (bitOr who (votersIn n notes fickle value)) value ⌝ }
 {
-    if u32::count_ones(who | fickle) as usize <= f {
-        return 0;
+    if quorum::enough(bound, who | fickle) {
+        return if_enough(bound, who | voters(notes, n, fickle, value), value);
     }
-    if_many(f, who | voters(notes, n, fickle, value), value)
+    0
 }
 
 // The least certified value of those who have said one. Each value is looked at once: whoever
 // said the same has been looked at with it.
-fn least_of_firsts(notes: [Note; 20], n: usize, f: usize, first: FirstValues) -> u16
+fn least_of_firsts(notes: [Note; 20], n: usize, bound: Bound, first: FirstValues) -> u16
     requires { ⌜ (n ≤ 20) × HavePlaces (first .fickle) notes ⌝ }
-    ensures { λ r. ⌜ r ≡ least n (fromFirst n f notes (first .values) (first .single) (first .fickle)) ⌝ }
+    ensures { λ r. ⌜ r ≡ least n (fromFirst n bound notes (first .values) (first .single) (first .fickle)) ⌝ }
 {
     let values = first.values;
     let mut best: u16 = 0;
@@ -155,7 +159,7 @@ fn least_of_firsts(notes: [Note; 20], n: usize, f: usize, first: FirstValues) ->
         if sets::member(rest, j) {
             let value = values[j];
             let who = same(values, n, first.single, value);
-            best = lesser(best, judged(notes, n, f, who, first.fickle, value));
+            best = lesser(best, judged(notes, n, bound, who, first.fickle, value));
             rest = rest & !who;
             j += 1;
         } else {
@@ -190,21 +194,21 @@ fn first_values(notes: [Note; 20], n: usize, heard: u32) -> FirstValues
     }
 }
 
-// The least certified value: by the single values, where those who have said more are at most f.
-fn least_certified(notes: [Note; 20], n: usize, f: usize, heard: u32, first: FirstValues) -> u16
+// The least certified value: by the single values, where those who have said more are not enough.
+fn least_certified(notes: [Note; 20], n: usize, bound: Bound, heard: u32, first: FirstValues) -> u16
     requires { ⌜ (n ≤ 20) × Whole notes × HavePlaces heard notes × (first .single ≡ singleIn n notes heard) × (first .fickle ≡ fickleIn n notes heard) × ((j : ℕ) → j < n → getD (first .values) j 0 ≡ firstPlace notes j) ⌝ }
-    ensures { λ r. ⌜ r ≡ least n (leastFrom n f heard (map valuesIn notes)) ⌝ }
+    ensures { λ r. ⌜ r ≡ least n (leastFrom n bound heard (map valuesIn notes)) ⌝ }
 {
-    if u32::count_ones(first.fickle) as usize <= f {
-        return least_of_firsts(notes, n, f, first);
+    if quorum::enough(bound, first.fickle) {
+        return least_of_all(notes, n, bound, heard);
     }
-    least_of_all(notes, n, f, heard)
+    least_of_firsts(notes, n, bound, first)
 }
 
 // The source's first value is taken before any other.
-pub(crate) fn choice(notes: [Note; 20], n: usize, source: usize, f: usize, heard: u32) -> u16
+pub(crate) fn choice(notes: [Note; 20], n: usize, source: usize, bound: Bound, heard: u32) -> u16
     requires { ⌜ (n ≤ 20) × (source < n) × Whole notes × HavePlaces heard notes ⌝ }
-    ensures { λ r. ⌜ r ≡ choice n source f heard (map valuesIn notes) ⌝ }
+    ensures { λ r. ⌜ r ≡ choice n source bound heard (map valuesIn notes) ⌝ }
 {
     let first = first_values(notes, n, heard);
     let values = first.values;
@@ -214,5 +218,5 @@ pub(crate) fn choice(notes: [Note; 20], n: usize, source: usize, f: usize, heard
             return word;
         }
     }
-    least_certified(notes, n, f, heard, first)
+    least_certified(notes, n, bound, heard, first)
 }

@@ -13,6 +13,7 @@ ghost use Rattle.terminal.specs.Rule.{start, sourceStart, among, isNew, 
 ghost use Rattle.terminal.specs.Shown.{valuesIn, Whole, viewOf, noNote, notesOver, shownOver, shown, says};
 ghost use Rattle.terminal.specs.Votes.{HavePlaces, HaveRoom};
 ghost use Rattle.terminal.specs.Answer.{numberOf, stateSound, countsSound, recordSound, causeOf, recordAfter};
+use quorum::Bound;
 
 // A terminal waits, or it has taken a layout in a round and keeps both.
 pub enum State {
@@ -40,6 +41,7 @@ pub enum Outcome {
     Accepted,
     WrongRange,
     WrongLink,
+    WrongGroups,
     WrongLength,
     WrongRecord,
 }
@@ -52,6 +54,7 @@ pub fn number(o: Outcome) -> u8
         Outcome::Accepted => 0,
         Outcome::WrongRange => 4,
         Outcome::WrongLink => 5,
+        Outcome::WrongGroups => 17,
         Outcome::WrongLength => 12,
         Outcome::WrongRecord => 13,
     }
@@ -158,13 +161,13 @@ impl Record {
     }
 
     // It takes what it chose, in the round that its record shows.
-    fn decide(mut self, n: usize, source: usize, f: usize, heard: u32) -> Record
+    fn decide(mut self, n: usize, source: usize, bound: Bound, heard: u32) -> Record
         requires { ⌜ (n ≤ 20) × (source < n) × Whole (self .notes) × HavePlaces heard (self .notes) ⌝ }
-        ensures { λ r. ⌜ r ≡ record { state = taking (self .round) (choice n source f heard (map valuesIn (self .notes))); round = self .round; notes = self .notes } ⌝ }
+        ensures { λ r. ⌜ r ≡ record { state = taking (self .round) (choice n source bound heard (map valuesIn (self .notes))); round = self .round; notes = self .notes } ⌝ }
     {
         let notes = self.notes;
         let round = self.round;
-        let value = choice::choice(notes, n, source, f, heard);
+        let value = choice::choice(notes, n, source, bound, heard);
         if value == 0 {
             return Record {
                 state: State::Waiting,
@@ -250,23 +253,27 @@ fn record_sound(n: usize, source: usize, own: usize, heard: u32, before: Record)
 fn first_cause(
     n: usize,
     source: usize,
-    f: usize,
+    bound: Bound,
     own: usize,
     heard: u32,
     before: Record,
     words: usize,
 ) -> Outcome
-    ensures { λ r. ⌜ (numberOf r ≡ causeOf n source f own heard before words) × (numberOf r ≡ 0 → Whole (before .notes)) ⌝ }
+    ensures { λ r. ⌜ (numberOf r ≡ causeOf n source bound own heard before words) × (numberOf r ≡ 0 → Whole (before .notes)) ⌝ }
 {
-    if quorum::in_range(n, source, f) {
-        if quorum::hears_soundly(n, own, heard) {
-            if record_sound(n, source, own, heard, before) {
-                if words == n {
-                    return Outcome::Accepted;
+    let kind = bound.kind;
+    if quorum::in_range(n, source, kind) {
+        if quorum::others(n, own, heard) {
+            if quorum::groups_sound(n, source, bound) {
+                if record_sound(n, source, own, heard, before) {
+                    if words == n {
+                        return Outcome::Accepted;
+                    }
+                    return Outcome::WrongLength;
                 }
-                return Outcome::WrongLength;
+                return Outcome::WrongRecord;
             }
-            return Outcome::WrongRecord;
+            return Outcome::WrongGroups;
         }
         return Outcome::WrongLink;
     }
@@ -274,36 +281,36 @@ fn first_cause(
 }
 
 // The round of a record that can be stepped. It is raised first: a take keeps the raised number.
-fn play(n: usize, source: usize, f: usize, heard: u32, before: Record, said: &[u16]) -> Record
+fn play(n: usize, source: usize, bound: Bound, heard: u32, before: Record, said: &[u16]) -> Record
     requires { ⌜ (n ≤ 20) × (source < n) × (n ≤ length (now said)) × (before .round < 40) × Whole (before .notes) × HaveRoom heard (before .notes) ⌝ }
-    ensures { λ r. ⌜ r ≡ shownOver (λ j. mem j heard) before (step n source f heard (λ j. getD (now (said .entry)) j 0) (viewOf before)) ⌝ }
+    ensures { λ r. ⌜ r ≡ shownOver (λ j. mem j heard) before (step n source bound heard (λ j. getD (now (said .entry)) j 0) (viewOf before)) ⌝ }
 {
     let state = before.state;
     let raised = before.advance();
     match state {
-        State::Waiting => raised.note(n, heard, said).decide(n, source, f, heard),
+        State::Waiting => raised.note(n, heard, said).decide(n, source, bound, heard),
         State::Taken(_, _) => raised,
     }
 }
 
 // One round of terminal `own`, which hears the set `heard`; said[j] is what terminal j said, 0 for
-// nothing. A refused step gives the record back as it went in.
+// nothing. `bound` is the plan's f or its groups. A refused step gives the record back as it went in.
 pub fn step(
     n: usize,
     source: usize,
-    f: usize,
+    bound: Bound,
     own: usize,
     heard: u32,
     before: Record,
     said: &[u16],
 ) -> Stepped
-    ensures { λ r. ⌜ (numberOf (r .outcome) ≡ causeOf n source f own heard before (length (now (said .entry)))) × (r .after ≡ recordAfter n source f own heard before (now (said .entry))) ⌝ }
+    ensures { λ r. ⌜ (numberOf (r .outcome) ≡ causeOf n source bound own heard before (length (now (said .entry)))) × (r .after ≡ recordAfter n source bound own heard before (now (said .entry))) ⌝ }
 {
-    let outcome = first_cause(n, source, f, own, heard, before, said.len());
+    let outcome = first_cause(n, source, bound, own, heard, before, said.len());
     if let Outcome::Accepted = outcome {
         return Stepped {
             outcome: Outcome::Accepted,
-            after: play(n, source, f, heard, before, said),
+            after: play(n, source, bound, heard, before, said),
         };
     }
     Stepped {

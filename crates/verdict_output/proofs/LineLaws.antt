@@ -14,7 +14,7 @@ use Rattle.closure.proofs.Faults.{fault-below}
 use Rattle.closure.proofs.Growth.{reached-below}
 use Rattle.closure.proofs.Witness.{cut-below}
 use Rattle.partition.specs.declared.Judgement.{Judgement}
-use Rattle.partition.specs.declared.Judgement.the-variants.{Pass, Fail, WrongRange, WrongLink}
+use Rattle.partition.specs.declared.Judgement.the-variants.{Pass, Fail, WrongRange, WrongLink, WrongGroups}
 use Rattle.partition.specs.Answer.{answered}
 use Rattle.closure.specs.Answer.{Answer, answerOf}
 use Rattle.partition.proofs.Laws.{Failed, answer-fails}
@@ -44,6 +44,7 @@ answer-small p (Fail w) e =
     failed-small p (answered (Fail w)) (subst (Failed p) (sym e) (answer-fails p (sym (ap (λ (a : Answer). a .failed) e))))
 answer-small p WrongRange e = omega arith
 answer-small p WrongLink e = omega arith
+answer-small p WrongGroups e = omega arith
 
 -- such a set is its low three bytes
 pub low : (bytes : List ℕ) (s : ℕ) {last : List ℕ} → s < 16777216 → last ≡ joined bytes (hexTriple (s % 16777216)) → last ≡ joined bytes (hexTriple s)

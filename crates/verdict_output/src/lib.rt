@@ -36,6 +36,7 @@ fn answer(j: Judgement) -> Text
         Judgement::Fail(w) => line(1, w.f, w.l, w.r),
         Judgement::WrongRange => output::refusal(4, 0),
         Judgement::WrongLink => output::refusal(5, 0),
+        Judgement::WrongGroups => output::refusal(17, 0),
     }
 }
 

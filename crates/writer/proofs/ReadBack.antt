@@ -1,36 +1,43 @@
 -- A sound plan that is written and read again is the same plan. Assumes nothing.
 use Prim.Native.Nat.{ℕ, zero, suc, _+_, _*_, _/_, _%_, _^_, _≤_, _<_}
-use mathlib.Core.Path.{_≡_, refl, sym, ap, _∙_, subst}
+use mathlib.Core.Path.{_≡_, refl, sym, ap, ap₂, _∙_, subst}
 use mathlib.Core.Logic.{_⊎_, inl, inr, ⊎-elim}
 use mathlib.Core.Bool.{Bool, true, false}
-use mathlib.Core.List.{List, [], _++_}
-use native.Mathlib.Nat.{lt-of-lt-of-le}
+use mathlib.Core.List.{List, [], _++_, append-assoc}
+use native.Mathlib.Nat.{lt-of-lt-of-le, add-zero}
+use native.Mathlib.Numerals.{add-one}
 use native.Mathlib.Omega.{arith}
 use lib.Dec.{eqb, ltb}
-use lib.ListN.{length, getD, set, replicate, length-append, length-set, length-replicate, getD-replicate}
+use lib.ListN.{length, getD, set, replicate, length-set, length-replicate, getD-replicate}
 use lib.Pow.{pow-mono}
 use lib.Seq.{getD-set-same, getD-set-other, ext-getD}
-use borrow.Author.Tests.{eq-eqb, ne-eqb, lt-ltb, le-ltb, ltb-true, le-leb, lt-leb}
-use Rattle.sets.specs.Tests.{_and_, _or_}
-use Rattle.sets.specs.Sets.{mem, with}
-use Rattle.sets.proofs.Bools.{and-i, and-yes, and-swap, and-no-l, and-no-r, or-r, or-no, not-yes, same-test, pick-yes, pick-case, clash}
+use borrow.Author.Tests.{eq-eqb, ne-eqb, eqb-true, lt-ltb, le-ltb, ltb-true, le-leb, lt-leb, leb-true}
+use Rattle.sets.specs.Tests.{_and_, _or_, pick}
+use Rattle.sets.specs.Causes.{firstCause}
+use Rattle.sets.specs.Sets.{mem, with, within}
+use Rattle.sets.proofs.Bools.{clash, decide, and-l, and-r, and-i, and-yes, and-swap, and-no-l, and-no-r, or-r, or-no, not-yes, same-test, pick-yes, pick-no, pick-case}
 use Rattle.sets.proofs.Causes.{cause-later, cause-last}
 use Rattle.sets.proofs.Operations.{mem-with}
-use Rattle.sets.proofs.Laws.{equal-or-not, below-or-not, mem-zero, mem-above, set-ext, mask-lt}
-use Rattle.quorum.specs.Quorum.{inRange}
+use Rattle.sets.proofs.Laws.{equal-or-not, below-or-not, mem-zero, mem-above, set-ext, mask-lt, all-at}
+use Rattle.quorum.specs.declared.BoundKind.{BoundKind}
+use Rattle.quorum.specs.declared.BoundKind.the-variants.{Most, Groups}
+use Rattle.quorum.specs.declared.Bound.{Bound}
+use Rattle.quorum.specs.Quorum.{noGroups, listed, groupAt, inRange, others, listedSound, groupsSound}
 use Rattle.plan.specs.declared.Plan.{Plan}
 use Rattle.plan.specs.Plan.{heardBy, hears, causeOf}
 use Rattle.plan.specs.Deaf.{deafSet}
 use Rattle.plan.proofs.Laws.{Sound, sound, tests}
-use Rattle.lines.specs.declared.Frame.the-variants.{Head, Link}
-use Rattle.frames.specs.declared.Stage.the-variants.{Links}
+use Rattle.lines.specs.declared.Frame.the-variants.{Head, Link, Group}
+use Rattle.frames.specs.declared.Stage.{Stage}
+use Rattle.frames.specs.declared.Stage.the-variants.{Links, Grouped}
 use Rattle.frames.specs.declared.Progress.{Progress}
 use Rattle.frames.specs.Lines.{lastLine, linesFrom}
-use Rattle.frames.specs.Reading.{mostBytes, planKinds, archiveReader, isAt, nothingRead, noWords, headCause, linkCause, causeIn, linked, after, wordsAfter, Reading, told, reading, planReading, archiveReading}
+use Rattle.frames.specs.Reading.{mostBytes, planKinds, archiveReader, isAt, inPlan, nothingRead, noWords, kindRead, listsNone, headCause, linkCause, groupCause, causeIn, endsLinks, linksCause, endCause, linked, grouped, after, wordsAfter, Reading, told, reading, planReading, archiveReading}
 use Rattle.frames.proofs.Archive.{kept-line, kept-end, beside}
-use Rattle.writer.specs.Written.{headLine, linkLine, linkLines, planText}
-use Rattle.writer.proofs.Digits.{headDigits, linkDigits, head-frame, link-frame}
-use Rattle.writer.proofs.Lines.{head-lines, link-lines, head-length, links-length}
+use Rattle.writer.specs.Written.{boundByte, headLine, linkLine, linkLines, groupLine, groupLines, planText}
+use Rattle.writer.proofs.Digits.{headDigits, linkDigits, groupDigits, head-frame, link-frame, group-frame}
+use Rattle.writer.proofs.Lines.{head-lines, link-lines, group-lines}
+use Rattle.writer.proofs.Laws.{sound-listed, text-length, text-short}
 
 or-false : (x y : Bool) → y ≡ false → x or y ≡ x
 unfolding _or_
@@ -114,11 +121,34 @@ module _ (p : Plan) (k : ℕ) (rows : List ℕ) (passed : Passed p k rows) where
 
 -- ---- the links told
 
-abbrev pub planWith : Plan → List ℕ → Plan
-planWith p rows = record { n = p .n; source = p .source; f = p .f; rows = rows }
+-- what is known after the head and some links: no groups yet
+abbrev noneYet : Plan → Bound
+noneYet p = record { kind = kindRead (boundByte (p .bound .kind)); groups = noGroups }
 
-abbrev pub progressWith : Plan → List ℕ → Progress
-progressWith p rows = record { stage = Links; plan = planWith p rows; faulty = 0; value = 0; rounds = 0 }
+abbrev progressWith : Plan → List ℕ → Progress
+progressWith p rows = record {
+  stage = Links;
+  plan = record { n = p .n; source = p .source; bound = noneYet p; rows = rows };
+  faulty = 0;
+  value = 0;
+  rounds = 0;
+}
+
+-- the head's last byte, and what is read of it
+pub byte-low : (kind : BoundKind) (n : ℕ) → n ≤ 20 → ((f : ℕ) → kind ≡ Most f → f < n) → boundByte kind < 256
+byte-low (Most f) n t l = let k = l f refl in omega arith
+byte-low (Groups count) n t l = omega arith
+
+kind-again : (f : ℕ) → f < 255 → kindRead f ≡ Most f
+unfolding kindRead
+kind-again f h = pick-no _ _ _ (ne-eqb f 255 (λ e. omega arith))
+
+-- groups are read of ff, whatever their count
+range-again : (n source : ℕ) (kind : BoundKind) → ((f : ℕ) → kind ≡ Most f → f < 255) → inRange n source kind ≡ true
+    → inRange n source (kindRead (boundByte kind)) ≡ true
+unfolding inRange kindRead pick
+range-again n source (Most f) l h = subst (λ (k : BoundKind). inRange n source k ≡ true) (sym (kind-again f (l f refl))) h
+range-again n source (Groups count) l h = h
 
 module _ (p : Plan) (s : Sound p) where
   row-lt : (b : ℕ) → b < 20 → heardBy p b < 2 ^ 20
@@ -160,74 +190,259 @@ module _ (p : Plan) (s : Sound p) where
       ∙ cause-last _ _ (passed .bits from to (omega arith) b ∙ and-no-r _ _ (le-ltb (20 * from + to) k (omega arith)))
 
   module _ (t : length (p .rows) ≡ 20) (words : List ℕ) where
-    abbrev Read : Reading
-    Read = record { number = 0; line = 0; progress = progressWith p (p .rows); words = words }
-
-    links-end : (j : ℕ) (rows : List ℕ) → Passed p 400 rows → told archiveReader (progressWith p rows) words j (linesFrom [] []) ≡ Read
-    unfolding linesFrom lastLine
-    links-end j rows passed =
-        kept-end planKinds (progressWith p rows) words j
-        ∙ ap (λ (r : List ℕ). record { number = 0; line = 0; progress = progressWith p r; words = words }) (all-passed rows t passed)
-
     link-told : (k j : ℕ) (rows rest : List ℕ) → Passed p k rows → (from to : ℕ) → 20 * from + to ≡ k → from < 20 → to < 20 → hears p to from ≡ true
         → told archiveReader (progressWith p rows) words j (linesFrom [] (linkLine from to ++ rest))
         ≡ told archiveReader (progressWith p (set rows to (with 32 (getD rows to 0) from))) words (j + 1) (linesFrom [] rest)
-    unfolding after linked wordsAfter heardBy
+    unfolding after linked wordsAfter heardBy endCause endsLinks pick
     link-told k j rows rest passed from to here a b e =
         ap (told archiveReader (progressWith p rows) words j) (link-lines from to rest)
-        ∙ kept-line planKinds (progressWith p rows) words j (linkDigits from to) (linesFrom [] rest) (Link from to) (link-frame from to (omega arith) (omega arith))
+        ∙ kept-line planKinds (progressWith p rows) words j (linkDigits from to) (linesFrom [] rest) (Link from to) (link-frame from to (omega arith) (omega arith)) refl
         (link-accepted k rows words passed from to here a b e)
 
-    links-told : (m k j : ℕ) (rows : List ℕ) → k + m ≡ 400 → Passed p k rows → told archiveReader (progressWith p rows) words j (linesFrom [] (linkLines p m k)) ≡ Read
-    unfolding linkLines
-    links-told zero k j rows e passed = links-end j rows (subst (λ (i : ℕ). Passed p i rows) (omega arith) passed)
-    links-told (suc m) k j rows e passed =
-        pick-case (λ (l : List ℕ). told archiveReader (progressWith p rows) words j (linesFrom [] (l ++ linkLines p m (suc k))) ≡ Read)
+    -- from some line on, the file is what follows the links
+    Then : List ℕ → Reading → Type 0
+    Then rest r = (i : ℕ) × (r ≡ told archiveReader (progressWith p (p .rows)) words i (linesFrom [] rest))
+
+    links-told : (rest : List ℕ) (m k j : ℕ) (rows : List ℕ) → k + m ≡ 400 → Passed p k rows
+        → Then rest (told archiveReader (progressWith p rows) words j (linesFrom [] (linkLines p m k ++ rest)))
+    unfolding linkLines Then
+    links-told rest zero k j rows e passed = (
+      j,
+      ap (λ (r : List ℕ). told archiveReader (progressWith p r) words j (linesFrom [] rest))
+          (all-passed rows t (subst (λ (i : ℕ). Passed p i rows) (omega arith) passed)),
+    )
+    links-told rest (suc m) k j rows e passed =
+        pick-case (λ (l : List ℕ). Then rest (told archiveReader (progressWith p rows) words j (linesFrom [] ((l ++ linkLines p m (suc k)) ++ rest))))
         (hears p (k % 20) (k / 20)) (linkLine (k / 20) (k % 20)) []
         (λ h.
         let here : 20 * (k / 20) + k % 20 ≡ k = omega arith in
         let a : k / 20 < 20 = omega arith in
         let b : k % 20 < 20 = omega arith in
-        link-told k j rows (linkLines p m (suc k)) passed (k / 20) (k % 20) here a b h
-        ∙ links-told m (suc k) (j + 1) (set rows (k % 20) (with 32 (getD rows (k % 20) 0) (k / 20))) (omega arith)
-        (place-linked p k rows passed (k / 20) (k % 20) here b h))
-        (λ h. links-told m (suc k) j rows (omega arith) (place-skipped p k rows passed h))
+        let then =
+        links-told rest m (suc k) (j + 1) (set rows (k % 20) (with 32 (getD rows (k % 20) 0) (k / 20))) (omega arith)
+        (place-linked p k rows passed (k / 20) (k % 20) here b h) in (
+          then .0,
+          ap (λ (l : List ℕ). told archiveReader (progressWith p rows) words j (linesFrom [] l)) (append-assoc (linkLine (k / 20) (k % 20)) (linkLines p m (suc k)) rest)
+              ∙ link-told k j rows (linkLines p m (suc k) ++ rest) passed (k / 20) (k % 20) here a b h
+              ∙ then .1,
+        ))
+        (λ h. links-told rest m (suc k) j rows (omega arith) (place-skipped p k rows passed h))
 
-    head-told : (rest : List ℕ) → inRange (p .n) (p .source) (p .f) ≡ true
+    head-told-cause : inRange (p .n) (p .source) (p .bound .kind) ≡ true → causeIn nothingRead words (Head (p .n) (p .source) (boundByte (p .bound .kind))) ≡ 0
+    unfolding causeIn headCause isAt
+    head-told-cause r =
+        cause-later _ _ _ (not-yes refl)
+        ∙ cause-last _ _ (not-yes (range-again (p .n) (p .source) (p .bound .kind) (λ f m. let l = s .f-below f m in let t = s .twenty in omega arith) r))
+
+    head-told : (rest : List ℕ) → inRange (p .n) (p .source) (p .bound .kind) ≡ true
         → told archiveReader nothingRead words 1 (linesFrom [] (headLine p ++ rest)) ≡ told archiveReader (progressWith p (replicate 20 0)) words 2 (linesFrom [] rest)
-    unfolding causeIn headCause isAt after wordsAfter
+    unfolding isAt after wordsAfter endCause endsLinks linksCause inPlan firstCause pick _and_ _or_
     head-told rest r =
         let n : p .n < 256 = omega (arith, s .twenty) in
         let source : p .source < 256 = omega (arith, s .source-below) in
-        let f : p .f < 256 = omega (arith, s .f-below) in
+        let f : boundByte (p .bound .kind) < 256 = byte-low (p .bound .kind) (p .n) (s .twenty) (s .f-below) in
         ap (told archiveReader nothingRead words 1) (head-lines p rest)
-        ∙ kept-line planKinds nothingRead words 1 (headDigits (p .n) (p .source) (p .f)) (linesFrom [] rest) (Head (p .n) (p .source) (p .f))
-        (head-frame (p .n) (p .source) (p .f) n source f) (cause-later _ _ _ (not-yes refl) ∙ cause-last _ _ (not-yes r))
+        ∙ kept-line planKinds nothingRead words 1 (headDigits (p .n) (p .source) (boundByte (p .bound .kind))) (linesFrom [] rest)
+        (Head (p .n) (p .source) (boundByte (p .bound .kind))) (head-frame (p .n) (p .source) (boundByte (p .bound .kind)) n source f) refl
+        (head-told-cause r)
 
-    text-told : inRange (p .n) (p .source) (p .f) ≡ true → told archiveReader nothingRead words 1 (linesFrom [] (planText p)) ≡ Read
-    unfolding planText
-    text-told r = head-told (linkLines p 400 0) r ∙ links-told 400 0 2 (replicate 20 0) refl (none-passed p)
+-- ---- the groups told
 
-pub text-length : (p : Plan) → (1 ≤ length (planText p)) × (length (planText p) ≤ mostBytes)
-unfolding planText
-text-length p =
-    let e : length (headLine p ++ linkLines p 400 0) ≡ length (headLine p) + length (linkLines p 400 0) = length-append (headLine p) (linkLines p 400 0) in
-    let h : length (headLine p) ≡ 9 = head-length p in
-    let l : length (linkLines p 400 0) ≤ 2800 = links-length p 400 0 in
-    (omega arith, omega arith)
+-- the first i groups, and nothing after them
+firstGroups : Plan → ℕ → List ℕ
+firstGroups p zero = noGroups
+firstGroups p (suc i) = set (firstGroups p i) i (groupAt (p .bound) i)
+
+first-length : (p : Plan) (i : ℕ) → length (firstGroups p i) ≡ 16
+unfolding firstGroups
+first-length p zero = length-replicate {A = ℕ} 16 0
+first-length p (suc i) = length-set (firstGroups p i) i (groupAt (p .bound) i) ∙ first-length p i
+
+first-at : (p : Plan) (i j : ℕ) → i ≤ 16 → j < 16 → getD (firstGroups p i) j 0 ≡ pick (ltb j i) (groupAt (p .bound) j) 0
+unfolding firstGroups
+first-at p zero j h k = getD-replicate {A = ℕ} 16 j 0 0 k ∙ sym (pick-no _ _ _ (le-ltb j 0 (omega arith)))
+first-at p (suc i) j h k =
+    ⊎-elim
+    (λ e.
+    ap (λ (x : ℕ). getD (set (firstGroups p i) i (groupAt (p .bound) i)) x 0) e
+    ∙ getD-set-same (firstGroups p i) i (groupAt (p .bound) i) 0 (omega (arith, first-length p i))
+    ∙ sym (ap (groupAt (p .bound)) e)
+    ∙ sym (pick-yes _ _ _ (lt-ltb j (suc i) (omega arith))))
+    (λ n.
+    getD-set-other (firstGroups p i) i j (groupAt (p .bound) i) 0 n
+    ∙ first-at p i j (omega arith) k
+    ∙ ap (λ (b : Bool). pick b (groupAt (p .bound) j) 0) (next-place j i n))
+    (equal-or-not j i)
+
+-- a group is a number of three bytes
+pub group-low : (p : Plan) → causeOf p ≡ 0 → (i : ℕ) → i < 16 → groupAt (p .bound) i < 16777216
+unfolding others within
+group-low p e i k =
+    let s = sound p e in
+    let l = lt-of-lt-of-le (ltb-true (groupAt (p .bound) i) (2 ^ p .n) (and-l _ _ (s .group-others i k))) (pow-mono (s .twenty)) in
+    omega arith
+
+module _ (p : Plan) (e : causeOf p ≡ 0) (u : length (p .bound .groups) ≡ 16) where
+  -- all that are listed are all
+  all-groups : firstGroups p (listed (p .bound .kind)) ≡ p .bound .groups
+  unfolding groupAt groupsSound
+  all-groups =
+      ext-getD 0 (firstGroups p (listed (p .bound .kind))) (p .bound .groups) (first-length p (listed (p .bound .kind)) ∙ sym u)
+      (λ j h.
+      let k : j < 16 = omega (arith, first-length p (listed (p .bound .kind))) in
+      let place = all-at 16 (λ i. pick (ltb i (listed (p .bound .kind))) (others (p .n) (p .source) (groupAt (p .bound) i)) (eqb (groupAt (p .bound) i) 0)) (and-r _ _ (tests p e .groups)) j k in
+      first-at p (listed (p .bound .kind)) j (sound-listed p e) k
+      ∙ ⊎-elim (λ b. pick-yes _ _ _ b)
+      (λ b. pick-no _ _ _ b ∙ sym (eqb-true (groupAt (p .bound) j) 0 (sym (pick-no _ _ _ b) ∙ place)))
+      (decide (ltb j (listed (p .bound .kind)))))
+
+  module _ (words : List ℕ) where
+    -- i groups are known; the stage tells whether there is one
+    abbrev progressAfter : Stage → ℕ → Progress
+    progressAfter stage i = record {
+      stage = stage;
+      plan = record { n = p .n; source = p .source; bound = record { kind = Groups i; groups = firstGroups p i }; rows = p .rows };
+      faulty = 0;
+      value = 0;
+      rounds = 0;
+    }
+
+    group-told : (stage : Stage) → inPlan (progressAfter stage 0) ≡ true → (i j : ℕ) (rest : List ℕ) → i < 16
+        → told archiveReader (progressAfter stage i) words j (linesFrom [] (groupLine (groupAt (p .bound) i) ++ rest))
+        ≡ told archiveReader (progressAfter Grouped (suc i)) words (j + 1) (linesFrom [] rest)
+    unfolding after grouped wordsAfter endCause endsLinks pick firstGroups causeIn groupCause inPlan isAt
+    group-told stage h i j rest k =
+        ap (told archiveReader (progressAfter stage i) words j) (group-lines (groupAt (p .bound) i) rest)
+        ∙ kept-line planKinds (progressAfter stage i) words j (groupDigits (groupAt (p .bound) i)) (linesFrom [] rest) (Group (groupAt (p .bound) i))
+        (group-frame (groupAt (p .bound) i) (group-low p e i k)) refl
+        (cause-later _ _ _ (not-yes (and-i _ _ h refl))
+        ∙ cause-last _ _ (not-yes (and-i _ _ (lt-ltb i 16 k) (sound p e .group-others i k))))
+        ∙ ap (λ (c : ℕ). told archiveReader (record {
+          stage = Grouped;
+          plan = record { n = p .n; source = p .source; bound = record { kind = Groups c; groups = firstGroups p (suc i) }; rows = p .rows };
+          faulty = 0;
+          value = 0;
+          rounds = 0;
+        }) words (j + 1) (linesFrom [] rest)) (add-one i)
+
+    groups-told : (m i j : ℕ) → suc i + m ≤ 16
+        → told archiveReader (progressAfter Grouped (suc i)) words j (linesFrom [] (groupLines (p .bound .groups) m (suc i)))
+        ≡ record { number = 0; line = 0; progress = progressAfter Grouped (suc i + m); words = words }
+    unfolding groupLines groupAt linesFrom lastLine inPlan isAt _or_
+    groups-told zero i j h =
+        kept-end planKinds (progressAfter Grouped (suc i)) words j (ne-eqb (suc i) 0 (λ z. omega arith))
+        ∙ ap (λ (c : ℕ). record { number = 0; line = 0; progress = progressAfter Grouped c; words = words }) (sym (add-zero (suc i)))
+    groups-told (suc m) i j h =
+        group-told Grouped refl (suc i) j (groupLines (p .bound .groups) m (suc (suc i))) (omega arith)
+        ∙ groups-told m (suc i) (j + 1) (omega arith)
+        ∙ ap (λ (c : ℕ). record { number = 0; line = 0; progress = progressAfter Grouped c; words = words }) (let q : suc (suc i) + m ≡ suc i + suc m = omega arith in q)
+
+-- ---- the text
+
+-- the last stage of a plan file: links, or groups where they are listed
+abbrev pub lastStage : BoundKind → Stage
+lastStage (Most f) = Links
+lastStage (Groups count) = Grouped
 
 -- what is read of a text that has this plan alone
 abbrev pub asRead : Plan → Reading
-asRead p = record { number = 0; line = 0; progress = record { stage = Links; plan = p; faulty = 0; value = 0; rounds = 0 }; words = noWords }
+asRead p = record {
+  number = 0;
+  line = 0;
+  progress = record { stage = lastStage (p .bound .kind); plan = p; faulty = 0; value = 0; rounds = 0 };
+  words = noWords;
+}
+
+module _ (p : Plan) (e : causeOf p ≡ 0) (t : length (p .rows) ≡ 20) (u : length (p .bound .groups) ≡ 16) (words : List ℕ) where
+  -- what is read of the plan, with this kind of bound
+  abbrev Whole : BoundKind → Reading
+  Whole kind = record {
+    number = 0;
+    line = 0;
+    progress = record {
+      stage = lastStage kind;
+      plan = record { n = p .n; source = p .source; bound = record { kind = kind; groups = p .bound .groups }; rows = p .rows };
+      faulty = 0;
+      value = 0;
+      rounds = 0;
+    };
+    words = words;
+  }
+
+  abbrev linked-by : BoundKind → Progress
+  linked-by kind = record {
+    stage = Links;
+    plan = record { n = p .n; source = p .source; bound = record { kind = kindRead (boundByte kind); groups = noGroups }; rows = p .rows };
+    faulty = 0;
+    value = 0;
+    rounds = 0;
+  }
+
+  -- a plan has a group, if it lists them
+  some-listed : (count : ℕ) → p .bound .kind ≡ Groups count → 1 ≤ count
+  unfolding groupsSound
+  some-listed count m =
+      leb-true 1 count (and-l _ _ (subst (λ (k : BoundKind). listedSound k ≡ true) m (and-l _ _ (tests p e .groups))))
+
+  groups-are : (count : ℕ) → listed (p .bound .kind) ≡ count → firstGroups p count ≡ p .bound .groups
+  groups-are count l = sym (ap (firstGroups p) l) ∙ all-groups p e u
+
+  ends : (kind : BoundKind) → p .bound .kind ≡ kind → (j : ℕ)
+      → told archiveReader (linked-by kind) words j (linesFrom [] (groupLines (p .bound .groups) (listed kind) 0)) ≡ Whole kind
+  unfolding groupLines groupAt linesFrom lastLine firstGroups kindRead pick inPlan isAt _or_
+  ends (Most f) m j =
+      let s = sound p e in
+      let l = s .f-below f m in
+      let same : kindRead f ≡ Most f = kind-again f (let n = s .twenty in omega arith) in
+      kept-end planKinds (linked-by (Most f)) words j (ap listsNone same)
+      ∙ ap₂ (λ (k : BoundKind) (g : List ℕ). record {
+        number = 0;
+        line = 0;
+        progress = record {
+          stage = Links;
+          plan = record { n = p .n; source = p .source; bound = record { kind = k; groups = g }; rows = p .rows };
+          faulty = 0;
+          value = 0;
+          rounds = 0;
+        };
+        words = words;
+      }) same (groups-are 0 (ap listed m))
+  ends (Groups zero) m j = absurd (let l = some-listed zero m in omega arith)
+  ends (Groups (suc count)) m j =
+      let most : suc count ≤ 16 = subst (λ (k : BoundKind). listed k ≤ 16) m (sound-listed p e) in
+      group-told p e u words Links refl 0 j (groupLines (p .bound .groups) count 1) (omega arith)
+      ∙ groups-told p e u words count 0 (j + 1) (omega arith)
+      ∙ ap₂ (λ (c : ℕ) (g : List ℕ). record {
+        number = 0;
+        line = 0;
+        progress = record {
+          stage = Grouped;
+          plan = record { n = p .n; source = p .source; bound = record { kind = Groups c; groups = g }; rows = p .rows };
+          faulty = 0;
+          value = 0;
+          rounds = 0;
+        };
+        words = words;
+      }) (let q : suc zero + count ≡ suc count = omega arith in q) (ap (firstGroups p) (let q : suc zero + count ≡ suc count = omega arith in q) ∙ groups-are (suc count) (ap listed m))
+
+  text-told : told archiveReader nothingRead words 1 (linesFrom [] (planText p)) ≡ Whole (p .bound .kind)
+  unfolding planText Then
+  text-told =
+      let groups = groupLines (p .bound .groups) (listed (p .bound .kind)) 0 in
+      let then = links-told p (sound p e) t words groups 400 0 2 (replicate 20 0) refl (none-passed p) in
+      head-told p (sound p e) t words (linkLines p 400 0 ++ groups) (tests p e .range)
+      ∙ then .1
+      ∙ ends (p .bound .kind) refl (then .0)
 
 -- by the archive
-module _ (p : Plan) (e : causeOf p ≡ 0) (t : length (p .rows) ≡ 20) where
+module _ (p : Plan) (e : causeOf p ≡ 0) (t : length (p .rows) ≡ 20) (u : length (p .bound .groups) ≡ 16) where
   pub read-back : archiveReading (planText p) ≡ asRead p
   unfolding archiveReading reading
   read-back =
+      let short = text-short p e in
       let long = text-length p in
-      pick-yes _ _ _ (and-i _ _ (le-leb 1 (length (planText p)) (long .0)) (le-leb (length (planText p)) mostBytes (long .1)))
-      ∙ text-told p (sound p e) t noWords (tests p e .0)
+      pick-yes _ _ _ (and-i _ _ (le-leb 1 (length (planText p)) (omega arith)) (le-leb (length (planText p)) mostBytes (omega arith)))
+      ∙ text-told p e t u noWords
 
   -- and where nobody is deaf, by the reader of new plans too
   pub read-new : deafSet p ≡ 0 → planReading (planText p) ≡ asRead p

@@ -1,4 +1,4 @@
--- An accepted file written again has the same head and links, whether it is a file for the archive, for `verdict` or for `run`. Assumes nothing.
+-- An accepted file written again has the same head, links and groups, whether it is a file for the archive, for `verdict` or for `run`. Assumes nothing.
 use mathlib.Core.Path.{_≡_, sym, ap, _∙_, subst}
 use mathlib.Core.List.{List}
 use Prim.Native.Nat.{ℕ}
@@ -6,7 +6,8 @@ use Rattle.plan.specs.declared.Plan.{Plan}
 use Rattle.plan.specs.Deaf.{deafSet}
 use Rattle.frames.specs.declared.Reader.{Reader}
 use Rattle.frames.specs.Reading.{planKinds, runKinds, planReader, archiveReader, runReader, Reading, reading, planReading, archiveReading, runReading}
-use Rattle.frames.proofs.Accepted.{reading-known, run-is}
+use Rattle.frames.proofs.Accepted.{reading-whole, run-is}
+use Rattle.frames.proofs.GroupLaws.{reading-groups}
 use Rattle.frames.proofs.Archive.{plan-hears, run-hears}
 use Rattle.writer.specs.Written.{planText}
 use Rattle.writer.specs.RoundTrip.{Says, Again, RoundTrip}
@@ -16,7 +17,7 @@ use Rattle.writer.proofs.TextLinks.{reading-links}
 
 -- an accepted file says the plan that was read, whoever reads it
 says : (reader : Reader) (file : List ℕ) → reading reader file .number ≡ 0 → Says (reader .kinds) file (reading reader file .progress .plan)
-says reader file h = record { head = reading-begins reader file h; links = reading-links reader file h }
+says reader file h = record { head = reading-begins reader file h; links = reading-links reader file h; groups = reading-groups reader file h }
 
 -- and so does what is written of it, which some reader reads as the plan
 module _ (reader : Reader) (file : List ℕ) (h : reading reader file .number ≡ 0) where
@@ -24,10 +25,10 @@ module _ (reader : Reader) (file : List ℕ) (h : reading reader file .number �
   found = reading reader file .progress .plan
 
   back : archiveReading (planText found) ≡ asRead found
-  back = let w = reading-known reader file h .plan-whole in read-back found (w .0) (w .1)
+  back = let w = reading-whole reader file h in read-back found (w .0) (w .1) (w .2)
 
   back-new : deafSet found ≡ 0 → planReading (planText found) ≡ asRead found
-  back-new = let w = reading-known reader file h .plan-whole in read-new found (w .0) (w .1)
+  back-new = let w = reading-whole reader file h in read-new found (w .0) (w .1) (w .2)
 
   again : (read : List ℕ → Reading) → read (planText found) ≡ asRead found → Again (reader .kinds) read file found
   unfolding archiveReading

@@ -16,18 +16,20 @@ use Rattle.sets.specs.Sets.{mem, with}
 use Rattle.sets.proofs.Bools.{clash, or-l, or-r, or-e}
 use Rattle.sets.proofs.Operations.{mem-with-any}
 use Rattle.sets.proofs.Laws.{equal-or-not, below-or-not, mem-zero}
+use Rattle.quorum.specs.declared.Bound.{Bound}
+use Rattle.quorum.specs.Quorum.{noGroups, atMost}
 use Rattle.plan.specs.declared.Plan.{Plan}
 use Rattle.plan.specs.Plan.{heardBy, hears}
-use Rattle.plan.proofs.Laws.{sound}
 use Rattle.lines.specs.declared.Frame.{Frame}
-use Rattle.lines.specs.declared.Frame.the-variants.{Foreign, Unknown, Head, Link, FaultSet, Start, Message}
+use Rattle.lines.specs.declared.Frame.the-variants.{Foreign, Unknown, Head, Link, Group, FaultSet, Start, Message}
 use Rattle.lines.specs.Frames.{frameOf}
 use Rattle.frames.specs.declared.Progress.{Progress}
 use Rattle.frames.specs.declared.Reader.{Reader}
 use Rattle.frames.specs.Lines.{Line, ended, cut, linesFrom}
-use Rattle.frames.specs.Reading.{stageOf, nothingRead, noWords, causeIn, linked, after, wordsAfter, Reading, told, reading}
+use Rattle.frames.specs.Reading.{stageOf, nothingRead, noWords, kindRead, causeIn, linked, grouped, after, wordsAfter, Reading, told, reading}
 use Rattle.frames.specs.Tells.{Tells}
-use Rattle.frames.proofs.Accepted.{Whole, head-accepted, link-accepted, frame-stage, frame-whole, line-read, end-read, text-read}
+use Rattle.frames.proofs.Built.{Built, built-twenty, built-row}
+use Rattle.frames.proofs.Accepted.{head-accepted, link-accepted, frame-stage, frame-built, line-read, end-read, text-read}
 
 -- no links
 no-row : (b : ℕ) → getD {A = ℕ} (replicate 20 0) b 0 ≡ 0
@@ -35,28 +37,26 @@ no-row b =
     ⊎-elim (λ h. getD-replicate {A = ℕ} 20 b 0 0 h) (λ h. List·getD-eq-default {A = ℕ} (replicate 20 0) 0 h)
     (below-or-not b 20)
 
-no-link : (n source f a b : ℕ) → hears (record { n = n; source = source; f = f; rows = replicate 20 0 }) b a ≡ false
+no-link : (n source : ℕ) (bound : Bound) (a b : ℕ) → hears (record { n = n; source = source; bound = bound; rows = replicate 20 0 }) b a ≡ false
 unfolding hears heardBy
-no-link n source f a b = ap (mem a) (no-row b) ∙ mem-zero a
+no-link n source bound a b = ap (mem a) (no-row b) ∙ mem-zero a
 
 -- ---- one link more
 
-module _ (p : Plan) (w : Whole p) (from to : ℕ) (f : from < p .n) (t : to < p .n) (a b : ℕ) where
+module _ (p : Plan) (w : Built p) (from to : ℕ) (f : from < p .n) (t : to < p .n) (a b : ℕ) where
   abbrev row : ℕ
   row = with 32 (heardBy p to) from
 
   row-more : mem a row ≡ hears p to a or eqb a from
   unfolding hears
   row-more =
-      let s = sound p (w .0) in
-      let n : p .n ≤ 32 = omega (arith, s .twenty) in
-      mem-with-any 32 (heardBy p to) from a (lt-of-lt-of-le (s .row-below to t) (pow-mono n)) (omega arith)
+      let n : p .n ≤ 32 = omega (arith, built-twenty p w) in
+      mem-with-any 32 (heardBy p to) from a (lt-of-lt-of-le (built-row p w to t) (pow-mono n)) (omega arith)
 
   hears-same : b ≡ to → hears (linked p from to) b a ≡ hears p to a or eqb a from
   unfolding hears heardBy linked
   hears-same e =
-      let s = sound p (w .0) in
-      let there : to < length (p .rows) = omega (arith, s .twenty, w .1) in
+      let there : to < length (p .rows) = omega (arith, built-twenty p w, w .rows-length) in
       ap (λ (i : ℕ). mem a (getD (set (p .rows) to row) i 0)) e ∙ ap (mem a) (getD-set-same (p .rows) to row 0 there) ∙ row-more
 
   hears-other : (b ≡ to → ⊥) → hears (linked p from to) b a ≡ hears p b a
@@ -78,14 +78,14 @@ module _ (p : Plan) (w : Whole p) (from to : ℕ) (f : from < p .n) (t : to < p 
 
 -- ---- an accepted frame
 
--- a whole plan once something was read, and no link before
+-- a plan once something was read, and no link before
 record Ready (p : Progress) : Type 0 where
-  begun : (stageOf (p .stage) ≡ 0 → ⊥) → Whole (p .plan)
+  begun : (stageOf (p .stage) ≡ 0 → ⊥) → Built (p .plan)
   empty : stageOf (p .stage) ≡ 0 → (a b : ℕ) → hears (p .plan) b a ≡ false
 
 module _ (p : Progress) (words : List ℕ) (r : Ready p) where
   frame-ready : (frame : Frame) → causeIn p words frame ≡ 0 → Ready (after p frame)
-  frame-ready frame h = record { begun = λ n. frame-whole p words frame (r .begun) h; empty = λ z. absurd (frame-stage p words frame h z) }
+  frame-ready frame h = record { begun = λ n. frame-built p words frame (r .begun) h; empty = λ z. absurd (frame-stage p words frame h z) }
 
   -- a frame that is no link and keeps the plan
   same-plan : (frame : Frame) (a b : ℕ) → (frame ≡ Link a b → ⊥) → (hears (p .plan) b a ≡ true) ↔ ((hears (p .plan) b a ≡ true) ⊎ (frame ≡ Link a b))
@@ -93,16 +93,17 @@ module _ (p : Progress) (words : List ℕ) (r : Ready p) where
 
   frame-links : (frame : Frame) → causeIn p words frame ≡ 0 → (a b : ℕ)
       → (hears (after p frame .plan) b a ≡ true) ↔ ((hears (p .plan) b a ≡ true) ⊎ (frame ≡ Link a b))
-  unfolding after
+  unfolding after grouped hears heardBy
   frame-links Foreign h a b = same-plan Foreign a b (λ e. let z : _≡_ {A = ℕ} 0 1 = cc in omega arith)
   frame-links Unknown h a b = same-plan Unknown a b (λ e. let z : _≡_ {A = ℕ} 0 1 = cc in omega arith)
   frame-links (Head n source f) h a b = (
-    λ x. clash x (no-link n source f a b),
+    λ x. clash x (no-link n source (record { kind = kindRead f; groups = noGroups }) a b),
     ⊎-elim (λ x. clash x (r .empty (head-accepted p words n source f h .0) a b)) (λ e. absurd (let z : _≡_ {A = ℕ} 0 1 = cc in omega arith)),
   )
   frame-links (Link from to) h a b =
       let c = link-accepted p words from to h in
       link-more (p .plan) (r .begun (λ z. omega (arith, c .0))) from to (c .1) (c .2) a b (equal-or-not b to)
+  frame-links (Group s) h a b = same-plan (Group s) a b (λ e. let z : _≡_ {A = ℕ} 0 1 = cc in omega arith)
   frame-links (FaultSet s) h a b = same-plan (FaultSet s) a b (λ e. let z : _≡_ {A = ℕ} 0 1 = cc in omega arith)
   frame-links (Start value rounds) h a b = same-plan (Start value rounds) a b (λ e. let z : _≡_ {A = ℕ} 0 1 = cc in omega arith)
   frame-links (Message round from to value) h a b = same-plan (Message round from to value) a b (λ e. let z : _≡_ {A = ℕ} 0 1 = cc in omega arith)
@@ -134,7 +135,7 @@ told-links reader p words k (ended line ∷ rest) r =
     a b))
 
 nothing-ready : Ready nothingRead
-nothing-ready = record { begun = λ n. absurd (n refl); empty = λ z a b. no-link 0 0 0 a b }
+nothing-ready = record { begun = λ n. absurd (n refl); empty = λ z a b. no-link 0 0 (atMost 0) a b }
 
 -- b hears a exactly if some line of the file is the link from a to b
 pub reading-links : (reader : Reader) (text : List ℕ) → reading reader text .number ≡ 0 → (a b : ℕ)
@@ -144,4 +145,4 @@ reading-links reader text =
     text-read reader text (λ (r : Reading). (a b : ℕ) → (hears (r .progress .plan) b a ≡ true) ↔ Tells (reader .kinds) (Link a b) (linesFrom [] text))
     (λ one z a b.
     let g = told-links reader nothingRead noWords 1 (linesFrom [] text) nothing-ready z a b in
-    (λ h. ⊎-elim (λ x. clash x (no-link 0 0 0 a b)) (λ x. x) (g .0 h), λ x. g .1 (inr x)))
+    (λ h. ⊎-elim (λ x. clash x (no-link 0 0 (atMost 0) a b)) (λ x. x) (g .0 h), λ x. g .1 (inr x)))

@@ -1,27 +1,28 @@
 -- Lists put into a list one after the other, and the links from one place on. Assumes nothing.
-use Prim.Native.Nat.{ℕ, suc, _+_, _-_, _/_, _%_, _≤_, _<_}
+use Prim.Native.Nat.{ℕ, suc, _+_, _-_, _*_, _/_, _%_, _≤_, _<_}
 use mathlib.Core.Path.{_≡_, refl, sym, ap, ap₂, _∙_}
 use mathlib.Core.Logic.{_⊎_, inl, inr, ⊎-elim}
 use mathlib.Core.Bool.{Bool, true, false}
 use mathlib.Core.List.{List, [], _∷_, _++_}
-use native.Mathlib.Nat.{add-zero}
-use native.Mathlib.Numerals.{add-one, add-two, add-four, add-six}
+use native.Mathlib.Nat.{add-zero, sub-zero}
+use native.Mathlib.Numerals.{add-one, add-two, add-four, add-six, add-eight}
 use native.Mathlib.Omega.{arith}
-use lib.ListN.{length, set, length-append}
+use lib.ListN.{length, getD, set, length-append}
 use lib.Seq.{sets, length-sets}
 use borrow.Author.Tests.{ne-eqb}
 use Rattle.sets.specs.Tests.{pick}
 use Rattle.sets.proofs.Bools.{pick-yes, pick-no}
+use Rattle.quorum.specs.Quorum.{listed}
 use Rattle.plan.specs.declared.Plan.{Plan}
 use Rattle.plan.specs.Plan.{hears, causeOf}
 use Rattle.text.specs.declared.Written.{Written}
 use Rattle.digits.specs.Digits.{characterOf}
-use Rattle.text.specs.Digits.{hexByte}
+use Rattle.text.specs.Digits.{hexByte, hexPair, hexTriple}
 use Rattle.text.specs.Texts.{writtenOf, putInto}
 use Rattle.text.proofs.Laws.{put-fits, put-short, written-fits}
-use Rattle.writer.specs.Written.{headLine, linkLine, linkLines, planText, writtenText}
-use Rattle.writer.proofs.Lines.{head-length, link-length}
-use Rattle.writer.proofs.Laws.{sound-text}
+use Rattle.writer.specs.Written.{boundByte, headLine, linkLine, linkLines, groupLine, groupLines, planText, writtenText}
+use Rattle.writer.proofs.Lines.{head-length, link-length, group-length}
+use Rattle.writer.proofs.Laws.{sound-text, text-length}
 
 -- one list after another
 pub sets-append : (l : List ℕ) (i : ℕ) (xs ys : List ℕ) → sets l i (xs ++ ys) ≡ sets (sets l i xs) (i + length xs) ys
@@ -120,44 +121,86 @@ pub byte-put : (out : List ℕ) (at b x y : ℕ) → x ≡ characterOf (b / 16) 
 unfolding hexByte
 byte-put out at b x y e f = rw (e, f, add-one) refl
 
-pub head-put : (p : Plan) (out o₁ o₂ o₃ o₄ : List ℕ) → o₁ ≡ sets out 0 (hexByte 1) → o₂ ≡ sets o₁ 2 (hexByte (p .n)) → o₃ ≡ sets o₂ 4 (hexByte (p .source))
-    → o₄ ≡ sets o₃ 6 (hexByte (p .f)) → set o₄ 8 10 ≡ sets out 0 (headLine p)
+pub head-put : (p : Plan) (out o₁ o₂ o₃ o₄ : List ℕ) (f : ℕ) → f ≡ boundByte (p .bound .kind) → o₁ ≡ sets out 0 (hexByte 1) → o₂ ≡ sets o₁ 2 (hexByte (p .n)) → o₃ ≡ sets o₂ 4 (hexByte (p .source))
+    → o₄ ≡ sets o₃ 6 (hexByte f) → set o₄ 8 10 ≡ sets out 0 (headLine p)
 unfolding hexByte headLine
-head-put p out o₁ o₂ o₃ o₄ a b c d = rw (d, c, b, a) refl
+head-put p out o₁ o₂ o₃ o₄ f e a b c d = rw (d, c, b, a, e) refl
 
 pub link-put : (out o₁ o₂ o₃ : List ℕ) (at from to : ℕ) → o₁ ≡ sets out at (hexByte 2) → o₂ ≡ sets o₁ (at + 2) (hexByte from)
     → o₃ ≡ sets o₂ (at + 4) (hexByte to) → set o₃ (at + 6) 10 ≡ sets out at (linkLine from to)
 unfolding hexByte linkLine
 link-put out o₁ o₂ o₃ at from to a b c = rw (c, b, a, add-two, add-four, add-six) refl
 
+pub group-put : (out o₁ o₂ o₃ o₄ : List ℕ) (at s : ℕ) → o₁ ≡ sets out at (hexByte 7) → o₂ ≡ sets o₁ (at + 2) (hexByte (s / 65536))
+    → o₃ ≡ sets o₂ (at + 4) (hexByte (s % 65536 / 256)) → o₄ ≡ sets o₃ (at + 6) (hexByte (s % 65536 % 256)) → set o₄ (at + 8) 10 ≡ sets out at (groupLine s)
+unfolding hexByte hexPair hexTriple groupLine
+group-put out o₁ o₂ o₃ o₄ at s a b c d = rw (d, c, b, a, add-two, add-four, add-six, add-eight) refl
+
+-- ---- a turn of the loop over the groups
+
+-- the first i of so many groups are put
+abbrev pub PuttingGroups : List ℕ → ℕ → List ℕ → List ℕ → ℕ → ℕ → Type 0
+PuttingGroups groups count before out from i =
+    (i ≤ count) × (length out ≡ length before) × (sets out (from + 9 * i) (groupLines groups (count - i) i) ≡ sets before from (groupLines groups count 0))
+
+module _ (groups : List ℕ) (count : ℕ) (before out : List ℕ) (from i : ℕ) where
+  pub groups-start : PuttingGroups groups count before before from 0
+  groups-start =
+      (omega arith, refl, ap₂ (λ (j m : ℕ). sets before j (groupLines groups m 0)) (let e : from + 9 * 0 ≡ from = omega arith in e) (sub-zero count))
+
+  pub groups-room : i < count → from + 9 * count ≤ length before → PuttingGroups groups count before out from i → from + 9 * i + 9 ≤ length out
+  groups-room h l (a, b, c) = omega arith
+
+  pub groups-turn : (next : List ℕ) → i < count → next ≡ sets out (from + 9 * i) (groupLine (getD groups i 0)) → PuttingGroups groups count before out from i
+      → PuttingGroups groups count before next from (i + 1)
+  unfolding groupLines
+  groups-turn next h e (a, b, c) =
+      let one : count - i ≡ suc (count - (i + 1)) = omega arith in
+      let on : from + 9 * (i + 1) ≡ from + 9 * i + length (groupLine (getD groups i 0)) = omega (arith, group-length (getD groups i 0)) in (
+        omega arith,
+        ap length e ∙ length-sets out (from + 9 * i) (groupLine (getD groups i 0)) ∙ b,
+        ap₂ (λ (l : List ℕ) (j : ℕ). sets l j (groupLines groups (count - (i + 1)) (i + 1))) e on
+            ∙ ap (λ (j : ℕ). sets (sets out (from + 9 * i) (groupLine (getD groups i 0))) (from + 9 * i + length (groupLine (getD groups i 0))) (groupLines groups (count - (i + 1)) j)) (add-one i)
+            ∙ sym (sets-append out (from + 9 * i) (groupLine (getD groups i 0)) (groupLines groups (count - (i + 1)) (suc i)))
+            ∙ sym (ap (λ (m : ℕ). sets out (from + 9 * i) (groupLines groups m i)) one)
+            ∙ c,
+      )
+
+  pub groups-done : count ≤ i → PuttingGroups groups count before out from i → out ≡ sets before from (groupLines groups count 0)
+  unfolding groupLines
+  groups-done h (a, b, c) =
+      let e : count - i ≡ 0 = omega arith in
+      sym (ap (λ (m : ℕ). sets out (from + 9 * i) (groupLines groups m i)) e) ∙ c
+
 -- ---- the answers
 
-text-length : (p : Plan) → length (planText p) ≡ 9 + length (linkLines p 400 0)
-unfolding planText
-text-length p = length-append (headLine p) (linkLines p 400 0) ∙ ap (λ (n : ℕ). n + length (linkLines p 400 0)) (head-length p)
-
 -- a plan's text is not put
-pub short : (p : Plan) (out : List ℕ) (links : ℕ) → links ≡ length (linkLines p 400 0) → length out < 9 + links → out ≡ putInto (planText p) out
-short p out links l h = sym (put-short (planText p) out (omega (arith, text-length p)))
+pub short : (p : Plan) (out : List ℕ) (links groups : ℕ) → links ≡ length (linkLines p 400 0) → groups ≡ listed (p .bound .kind)
+    → length out < 9 + links + 9 * groups → out ≡ putInto (planText p) out
+short p out links groups l g h = sym (put-short (planText p) out (omega (arith, text-length p)))
 
 -- or it is
-pub done : (p : Plan) (out o₁ o₂ : List ℕ) (links : ℕ) → links ≡ length (linkLines p 400 0) → 9 + links ≤ length out → o₁ ≡ sets out 0 (headLine p)
-    → o₂ ≡ sets o₁ 9 (linkLines p 400 0) → o₂ ≡ putInto (planText p) out
+pub done : (p : Plan) (out o₁ o₂ o₃ : List ℕ) (links groups : ℕ) → links ≡ length (linkLines p 400 0) → groups ≡ listed (p .bound .kind)
+    → 9 + links + 9 * groups ≤ length out → o₁ ≡ sets out 0 (headLine p) → o₂ ≡ sets o₁ 9 (linkLines p 400 0) → o₃ ≡ sets o₂ (9 + links) (groupLines (p .bound .groups) (listed (p .bound .kind)) 0)
+    → o₃ ≡ putInto (planText p) out
 unfolding planText
-done p out o₁ o₂ links l h a b =
+done p out o₁ o₂ o₃ links count l g h a b c =
+    let groups = groupLines (p .bound .groups) (listed (p .bound .kind)) 0 in
     let nine : 9 ≡ 0 + length (headLine p) = omega (arith, head-length p) in
     let fits : length (planText p) ≤ length out = omega (arith, text-length p) in
-    b
-    ∙ ap (λ (l : List ℕ). sets l 9 (linkLines p 400 0)) a
-    ∙ ap (λ (j : ℕ). sets (sets out 0 (headLine p)) j (linkLines p 400 0)) nine
-    ∙ sym (sets-append out 0 (headLine p) (linkLines p 400 0))
+    c
+    ∙ ap₂ (λ (x : List ℕ) (j : ℕ). sets x j groups) b (ap (λ (n : ℕ). 9 + n) l)
+    ∙ sym (sets-append o₁ 9 (linkLines p 400 0) groups)
+    ∙ ap (λ (x : List ℕ). sets x 9 (linkLines p 400 0 ++ groups)) a
+    ∙ ap (λ (j : ℕ). sets (sets out 0 (headLine p)) j (linkLines p 400 0 ++ groups)) nine
+    ∙ sym (sets-append out 0 (headLine p) (linkLines p 400 0 ++ groups))
     ∙ sym (put-fits (planText p) out fits)
 
 -- the length that was counted is the text's
-pub counted : (p : Plan) (w : Written) (links room : ℕ) → links ≡ length (linkLines p 400 0) → w ≡ writtenOf 0 (9 + links) room
-    → w ≡ writtenOf 0 (length (planText p)) room
-counted p w links room l e =
-    let all : 9 + links ≡ length (planText p) = omega (arith, text-length p) in
+pub counted : (p : Plan) (w : Written) (links groups room : ℕ) → links ≡ length (linkLines p 400 0) → groups ≡ listed (p .bound .kind)
+    → w ≡ writtenOf 0 (9 + links + 9 * groups) room → w ≡ writtenOf 0 (length (planText p)) room
+counted p w links groups room l g e =
+    let all : 9 + links + 9 * groups ≡ length (planText p) = omega (arith, text-length p) in
     e ∙ ap (λ (k : ℕ). writtenOf 0 k room) all
 
 -- ---- what is written of any record

@@ -24,10 +24,10 @@ module _ (p : Plan) (out : List ℕ) where
       let b = put-back (causeOf p) (writtenText p) out h in
       b .1 ∙ sound-text p (b .0)
 
-  pub written-back : length (p .rows) ≡ 20 → answer .number ≡ 0 → archiveReading (take (answer .len) (putInto (writtenText p) out)) ≡ asRead p
-  written-back t h = ap archiveReading (written-text h) ∙ read-back p (put-back (causeOf p) (writtenText p) out h .0) t
+  pub written-back : length (p .rows) ≡ 20 → length (p .bound .groups) ≡ 16 → answer .number ≡ 0 → archiveReading (take (answer .len) (putInto (writtenText p) out)) ≡ asRead p
+  written-back t u h = ap archiveReading (written-text h) ∙ read-back p (put-back (causeOf p) (writtenText p) out h .0) t u
 
   -- where nobody is deaf, by the reader of new plans too
-  pub written-new : length (p .rows) ≡ 20 → answer .number ≡ 0 → deafSet p ≡ 0
+  pub written-new : length (p .rows) ≡ 20 → length (p .bound .groups) ≡ 16 → answer .number ≡ 0 → deafSet p ≡ 0
       → planReading (take (answer .len) (putInto (writtenText p) out)) ≡ asRead p
-  written-new t h d = ap planReading (written-text h) ∙ read-new p (put-back (causeOf p) (writtenText p) out h .0) t d
+  written-new t u h d = ap planReading (written-text h) ∙ read-new p (put-back (causeOf p) (writtenText p) out h .0) t u d

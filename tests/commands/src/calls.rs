@@ -66,7 +66,7 @@ fn help_on(checks: &mut Checks, word: &str) {
     checks.ends(&format!("help {word}"), &by_help, 0, &own.out, "");
 }
 
-/// Document 01's table of kinds and its limits, and document 02's cause of a deaf terminal.
+/// Document 01's table of kinds and its limits, and document 02's groups and further causes.
 fn frames_page(checks: &mut Checks) {
     let page = checks.call(&["help", "frames"]).out;
     for words in [
@@ -77,7 +77,9 @@ fn frames_page(checks: &mut Checks) {
         "05    round, from, to, value (2) ",
         "24,576",
         "high byte",
+        "07    set (3) ",
         " 15 a terminal",
+        " 17 a seventeenth group",
     ] {
         checks.holds(&format!("help frames has {words:?}"), page.contains(words));
     }

@@ -5,6 +5,11 @@ mod builds;
 mod calls;
 mod checks;
 mod deaf;
+mod group_frames;
+mod group_mends;
+mod group_pictures;
+mod group_texts;
+mod groups;
 mod mends;
 mod pictures;
 mod plans;
@@ -20,7 +25,7 @@ use std::process::ExitCode;
 
 type Topic = (&'static str, fn(&mut Checks));
 
-const TOPICS: [Topic; 11] = [
+const TOPICS: [Topic; 12] = [
     ("answers", answers::check),
     ("calls", calls::check),
     ("plans", plans::check),
@@ -28,6 +33,7 @@ const TOPICS: [Topic; 11] = [
     ("text", text_form::check),
     ("runs", runs::check),
     ("deaf", deaf::check),
+    ("groups", groups::check),
     ("mends", mends::check),
     ("pictures", pictures::check),
     ("readme", readme::check),

@@ -4,8 +4,8 @@ use crate::checks::{read, Checks};
 use crate::svg::{elements, Element};
 use std::collections::{BTreeMap, BTreeSet};
 
-type Spot = (f64, f64);
-type Links = BTreeSet<(u8, u8)>;
+pub type Spot = (f64, f64);
+pub type Links = BTreeSet<(u8, u8)>;
 
 pub fn check(checks: &mut Checks) {
     verdicts(checks);
@@ -20,16 +20,16 @@ pub fn check(checks: &mut Checks) {
 }
 
 /// What a picture shows.
-struct Shown {
-    all: Vec<Element>,
-    at: BTreeMap<u8, Spot>,
+pub struct Shown {
+    pub all: Vec<Element>,
+    pub at: BTreeMap<u8, Spot>,
     links: Links,
-    new_links: Links,
+    pub new_links: Links,
     lines: usize,
     roles: BTreeMap<u8, String>,
 }
 
-fn distance(one: Spot, other: Spot) -> f64 {
+pub fn distance(one: Spot, other: Spot) -> f64 {
     (one.0 - other.0).hypot(one.1 - other.1)
 }
 
@@ -129,7 +129,7 @@ fn links_of(frames: &str) -> Links {
         .collect()
 }
 
-fn drawn(checks: &Checks, words: &[&str], input: &str) -> Shown {
+pub fn drawn(checks: &Checks, words: &[&str], input: &str) -> Shown {
     let done = checks.call_with(&[&["draw"], words].concat(), input.as_bytes());
     assert_eq!(done.status, 0, "draw {words:?}: {}", done.err);
     read_picture(&done.out)
@@ -141,7 +141,7 @@ fn with_role(shown: &Shown, role: &str) -> String {
     numbers.join(" ")
 }
 
-fn texts(shown: &Shown, class: &str) -> String {
+pub fn texts(shown: &Shown, class: &str) -> String {
     let those = shown
         .all
         .iter()
@@ -227,7 +227,7 @@ fn nothing_covers(checks: &mut Checks, name: &str, shown: &Shown) {
     );
 }
 
-fn height_of_key(key: &Element) -> Option<f64> {
+pub fn height_of_key(key: &Element) -> Option<f64> {
     let place = key.get("transform").trim_end_matches(')');
     place.rsplit(' ').next()?.parse().ok()
 }

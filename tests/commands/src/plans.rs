@@ -1,7 +1,8 @@
 //! The committed plans: document 01's drawings, and the sites, whose sets are the second
-//! implementation's. Text and frames say the same, both ways.
+//! implementation's. Text and frames say the same, both ways. Those with groups are in groups.rs.
 
 use crate::checks::{lines, read, Checks};
+use crate::groups;
 
 /// A verdict as the paper has it; the sets of a pass are the rounds until the last one takes if
 /// nobody is bad, worked out by hand.
@@ -81,7 +82,7 @@ pub fn check(checks: &mut Checks) {
     }
     refused_drawing(checks);
     let known = DRAWINGS.iter().chain(&SITES).map(|row| row.0);
-    let mut known: Vec<&str> = known.chain(["j"]).collect();
+    let mut known: Vec<&str> = known.chain(["j"]).chain(groups::PLANS).collect();
     known.sort_unstable();
     let folder = std::fs::read_dir(checks.top.join("plans")).expect("plans");
     let mut there: Vec<String> = folder
@@ -227,7 +228,7 @@ fn failed(checks: &Checks, row: &Row) -> String {
 }
 
 /// The committed text without its comments is in the fixed form, names and places kept.
-fn both_ways(checks: &mut Checks, name: &str) {
+pub fn both_ways(checks: &mut Checks, name: &str) {
     let frames = read(&checks.top.join(format!("plans/{name}.hex")));
     let text = read(&checks.top.join(format!("plans/{name}.txt")));
     let plain: Vec<&str> = text.lines().filter(|line| !line.starts_with('#')).collect();

@@ -145,11 +145,11 @@ const WRONG: [(&str, &str); 8] = [
     ),
     (
         "terminals 4\nsource 0\n0 > 1",
-        "line 3: expected 'bound NUMBER' before the first link",
+        "line 3: expected 'bound NUMBER' or 'group TERMINAL..' before the first link",
     ),
     (
         "terminals 4\nsource 0\nname 1 \"a\"",
-        "line 3: expected 'bound NUMBER' before 'name'",
+        "line 3: expected 'bound NUMBER' or 'group TERMINAL..' before 'name'",
     ),
     (
         "# nothing",
@@ -157,7 +157,7 @@ const WRONG: [(&str, &str); 8] = [
     ),
     (
         "source 0\nterminals 4",
-        "end of the file: expected 'bound NUMBER'",
+        "end of the file: expected 'bound NUMBER' or 'group TERMINAL..'",
     ),
 ];
 

@@ -1,11 +1,14 @@
 //! Damage to valid files: single bytes, lines, sizes, and each cause of refusal by design.
 
 use crate::draft::{
-    bad_set_line, head_line, join, link_line, long_run, start_line, word_line, Draft,
+    bad_set_line, group_line, head_line, join, link_line, long_run, start_line, word_line, Draft,
 };
+use crate::faults::Fault;
 use crate::generate::Kind;
-use crate::output::digits;
-use crate::plan::{number_of, Set};
+use crate::groups::{Bound, MOST_GROUPS};
+use crate::output::{digits, GROUPS_LISTED};
+use crate::plan::{bound_holds, number_of, Plan, Set};
+use crate::plans::source_first;
 use crate::reader::LONGEST_FILE;
 use crate::rng::Rng;
 
@@ -118,16 +121,25 @@ pub fn noise(rng: &mut Rng) -> Vec<u8> {
             .map(|_| rng.pick(b"0000111122345689abcdef\n\n\n"))
             .collect(),
         _ => {
-            let lengths = [4, 3, 4, 4, 6];
-            let mut lines = vec![digits(&[1, rng.between(2, 6) as u8, 0, 1])];
+            let bound = rng.pick(&[1, 1, GROUPS_LISTED]);
+            let mut lines = vec![digits(&[1, rng.between(2, 6) as u8, 0, bound])];
             for _ in 0..rng.below(12) {
-                let kind = rng.below(5);
-                let mut frame = vec![kind as u8 + 1];
-                frame.extend((1..lengths[kind]).map(|_| rng.pick(&[0, 0, 1, 2, 3, 4, 41])));
+                let (kind, length) =
+                    rng.pick(&[(1, 4), (2, 3), (3, 4), (4, 4), (5, 6), (7, 4), (7, 4)]);
+                let mut frame = vec![kind];
+                frame.extend((1..length).map(|_| rng.pick(&[0, 0, 1, 2, 3, 4, 41])));
                 lines.push(digits(&frame));
             }
             join(&lines)
         }
+    }
+}
+
+/// The causes that a file can have on a line, in the order in which they are looked for there.
+pub fn causes(kind: Kind) -> &'static [u32] {
+    match kind {
+        Kind::Verdict => &[1, 2, 3, 4, 5, 6, 17],
+        Kind::Run => &[1, 2, 3, 4, 5, 6, 17, 7, 8, 9, 10, 11],
     }
 }
 
@@ -144,6 +156,7 @@ pub fn plant(rng: &mut Rng, kind: Kind, draft: &Draft, lines: &mut Lines, cause:
         8 => plant_bad_bound(rng, draft, lines),
         9 => plant_start(rng, lines),
         10 => plant_word(rng, draft, lines),
+        17 => plant_group(rng, draft, lines),
         _ => plant_word_twice(rng, draft, lines),
     }
 }
@@ -179,9 +192,10 @@ fn plant_kind(rng: &mut Rng, kind: Kind, lines: &mut Lines) -> usize {
             ];
             *line = lacking[rng.below(3)].clone();
         }
-        2 => line.truncate(2),
+        2 if rng.chance(50) => line.truncate(2),
+        2 => *line = digits(&[7, 0, 0, 1, 0, 0][..rng.pick(&[1, 2, 3, 5, 6])]),
         _ => {
-            let unknown = digits(&[rng.pick(&[0, 6, 7, 16, 32, 128, 129, 130, 255])]);
+            let unknown = digits(&[rng.pick(&[0, 6, 8, 9, 16, 17, 32, 128, 129, 130, 255])]);
             line.splice(0..line.len().min(2), unknown);
         }
     }
@@ -190,8 +204,11 @@ fn plant_kind(rng: &mut Rng, kind: Kind, lines: &mut Lines) -> usize {
 
 fn plant_order(rng: &mut Rng, kind: Kind, lines: &mut Lines) -> usize {
     let head = lines[0].clone();
-    let last = if kind == Kind::Run { 5 } else { 2 };
-    match rng.below(6) {
+    let kinds: &[u8] = match kind {
+        Kind::Verdict => &[2, 7],
+        Kind::Run => &[2, 3, 4, 5, 7],
+    };
+    match rng.below(10) {
         0 => drop(lines.remove(0)),
         1 => {
             let at = 1 + rng.below(lines.len());
@@ -203,10 +220,24 @@ fn plant_order(rng: &mut Rng, kind: Kind, lines: &mut Lines) -> usize {
             lines.insert(at, repeated);
             return at;
         }
-        2 => lines.insert(0, link_line(0, 1)),
+        2 => lines.insert(0, rng.pick(&[&b"020001"[..], b"07000002"]).to_vec()),
+        6 | 8 => {
+            // A group beside f, or after the bad set.
+            let after = place_of(lines, 3).map_or(1, |at| at + 1);
+            let any = 1 + rng.below(lines.len());
+            let at = rng.pick(&[after, after, any]);
+            lines.insert(at, group_line(rng.pick(&[0, 0, 2, 4])));
+            return at;
+        }
+        7 | 9 => {
+            // A link after a group, where there are groups.
+            let at = places(lines, 7).last().map_or(lines.len(), |at| at + 1);
+            lines.insert(at, link_line(rng.pick(&[0, 1]), rng.pick(&[0, 1, 2])));
+            return at;
+        }
         choice => {
             // A line of some kind is lost, or stands at some other place.
-            let found = places(lines, rng.between(2, last) as u8);
+            let found = places(lines, rng.pick(kinds));
             if let Some(&from) = found.get(rng.below(found.len().max(1))) {
                 let line = if choice == 3 {
                     lines[from].clone()
@@ -234,16 +265,17 @@ fn plant_head(rng: &mut Rng, draft: &Draft, lines: &mut Lines) -> usize {
         match rng.below(3) {
             0 => plan.n = rng.pick(&[0, 1, 21, 22, 255]),
             1 => plan.source = rng.pick(&[n, n + 1, 20, 255]),
-            _ => plan.f = rng.pick(&[n, n + 1, 20, 255]),
+            _ => plan.bound = Bound::f(rng.pick(&[n, n + 1, 20, 254])),
         }
     }
     lines[0] = head_line(&plan);
     0
 }
 
-/// A place among the links, between the head and the bad set.
+/// A place among the links, between the head and the first group or the bad set.
 fn link_place(rng: &mut Rng, lines: &Lines) -> usize {
-    let end = place_of(lines, 3).unwrap_or(lines.len()).max(1);
+    let next = place_of(lines, 7).or(place_of(lines, 3));
+    let end = next.unwrap_or(lines.len()).max(1);
     (1 + rng.below(end)).min(lines.len())
 }
 
@@ -277,6 +309,47 @@ fn plant_link_twice(rng: &mut Rng, lines: &mut Lines) -> usize {
     at
 }
 
+/// A group that names the source or a number that the site lacks, one too many, or no group at all.
+fn plant_group(rng: &mut Rng, draft: &Draft, lines: &mut Lines) -> usize {
+    let plan = &draft.plan;
+    let groups = places(lines, 7);
+    let Some(&first) = groups.first() else {
+        // A plan with f gets a head that promises groups.
+        let groups = Plan {
+            bound: Bound::groups(&[]),
+            ..plan.clone()
+        };
+        lines[0] = head_line(&groups);
+        return 0;
+    };
+    match rng.below(8) {
+        0 => {
+            lines.retain(|line| !line.starts_with(b"07"));
+            first.min(lines.len().saturating_sub(1))
+        }
+        1 | 2 => {
+            let at = groups[groups.len() - 1] + 1;
+            let more = (MOST_GROUPS as usize + 1).saturating_sub(groups.len());
+            for _ in 0..more {
+                lines.insert(at, lines[rng.pick(&groups)].clone());
+            }
+            at + more - 1
+        }
+        choice => {
+            let mut group = plan.bound.at(rng.below(groups.len()) as u32);
+            group.insert(match choice {
+                3 | 4 => plan.source,
+                5 => plan.n,
+                6 => rng.between(20, 23),
+                _ => rng.between(plan.n, 19.max(plan.n)),
+            });
+            let at = rng.pick(&groups);
+            lines[at] = group_line(number_of(&group));
+            at
+        }
+    }
+}
+
 fn plant_bad_member(rng: &mut Rng, draft: &Draft, lines: &mut Lines) -> usize {
     let plan = &draft.plan;
     let mut bad = draft.bad.clone();
@@ -291,6 +364,48 @@ fn plant_bad_member(rng: &mut Rng, draft: &Draft, lines: &mut Lines) -> usize {
 
 fn plant_bad_bound(rng: &mut Rng, draft: &Draft, lines: &mut Lines) -> usize {
     let plan = &draft.plan;
+    let mut bad = if plan.bound.has_groups() {
+        in_no_group(rng, plan)
+    } else {
+        heard_too_much(rng, plan)
+    };
+    if rng.chance(10) {
+        bad.insert(plan.source);
+    }
+    replace(lines, 3, bad_set_line(number_of(&bad)))
+}
+
+/// Part of no group: mostly as few members as that takes, often all of groups that overlap; else
+/// more than any group has.
+fn in_no_group(rng: &mut Rng, plan: &Plan) -> Set {
+    let members = plan.bound.listed().into_iter().flatten();
+    let named: Set = members.collect();
+    let mut order = source_first(rng, plan).split_off(1);
+    if rng.chance(70) {
+        // Members of groups come first.
+        order.sort_by_key(|terminal| !named.contains(terminal));
+    }
+    let mut bad = Set::new();
+    for terminal in order {
+        bad.insert(terminal);
+        if !bound_holds(plan, &bad, Fault::None) && rng.chance(80) {
+            break;
+        }
+    }
+    let least = bad.clone();
+    for terminal in least {
+        let mut fewer = bad.clone();
+        fewer.remove(&terminal);
+        if rng.chance(60) && !bound_holds(plan, &fewer, Fault::None) {
+            bad = fewer;
+        }
+    }
+    bad
+}
+
+/// More than f of them are heard by someone.
+fn heard_too_much(rng: &mut Rng, plan: &Plan) -> Set {
+    let f = plan.bound.number as usize;
     let mut hearers: Vec<u32> = (0..plan.n).collect();
     rng.shuffle(&mut hearers);
     if rng.chance(40) {
@@ -304,15 +419,12 @@ fn plant_bad_bound(rng: &mut Rng, draft: &Draft, lines: &mut Lines) -> usize {
         let mut heard: Vec<u32> = plan.heard_by(hearer).into_iter().collect();
         heard.retain(|&sender| sender != plan.source);
         rng.shuffle(&mut heard);
-        if heard.len() > plan.f as usize {
-            bad = heard.into_iter().take(plan.f as usize + 1).collect();
+        if heard.len() > f {
+            bad = heard.into_iter().take(f + 1).collect();
             break;
         }
     }
-    if rng.chance(10) {
-        bad.insert(plan.source);
-    }
-    replace(lines, 3, bad_set_line(number_of(&bad)))
+    bad
 }
 
 /// Puts a line in the place of the first one of its kind.

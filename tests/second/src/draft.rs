@@ -1,6 +1,7 @@
 //! Valid files as lists of lines, ready to be joined or damaged.
 
-use crate::output::digits;
+use crate::groups::{Bound, MOST_GROUPS};
+use crate::output::{digits, head_frame};
 use crate::plan::{number_of, Plan, Set};
 use crate::plans::random_bad_set;
 use crate::reader::LONGEST_FILE;
@@ -43,7 +44,7 @@ pub fn join(lines: &[Vec<u8>]) -> Vec<u8> {
 }
 
 pub fn head_line(plan: &Plan) -> Vec<u8> {
-    digits(&[1, plan.n as u8, plan.source as u8, plan.f as u8])
+    digits(&head_frame(plan))
 }
 
 pub fn link_line(from: u32, to: u32) -> Vec<u8> {
@@ -53,6 +54,11 @@ pub fn link_line(from: u32, to: u32) -> Vec<u8> {
 pub fn bad_set_line(number: u32) -> Vec<u8> {
     let [_, high, middle, low] = number.to_be_bytes();
     digits(&[3, high, middle, low])
+}
+
+pub fn group_line(number: u32) -> Vec<u8> {
+    let [_, high, middle, low] = number.to_be_bytes();
+    digits(&[7, high, middle, low])
 }
 
 pub fn start_line(value: u16, rounds: Option<u32>) -> Vec<u8> {
@@ -70,6 +76,8 @@ pub fn word_line(round: u32, from: u32, to: u32, value: u16) -> Vec<u8> {
 pub fn plan_draft(plan: Plan) -> Draft {
     let mut lines = vec![head_line(&plan)];
     lines.extend(plan.links.iter().map(|&(from, to)| link_line(from, to)));
+    let groups = plan.bound.listed();
+    lines.extend(groups.iter().map(|group| group_line(number_of(group))));
     Draft {
         plan,
         bad: Set::new(),
@@ -162,16 +170,20 @@ fn staggered(bad: &Set, value: u16, round: u32, from: u32) -> u16 {
 /// A run file of exactly `size` bytes (about 24,576) in which every line is accepted.
 pub fn long_run(rng: &mut Rng, size: usize) -> Vec<u8> {
     let mut plan = Plan::new(20, 0, 19);
+    let bad: Set = (10..20).collect();
+    let groups = rng.pick(&[0, 0, MOST_GROUPS]);
+    if groups > 0 {
+        plan.bound = Bound::groups(&vec![bad.clone(); groups as usize]);
+    }
     let mut pairs: Vec<(u32, u32)> = (0..400).map(|place| (place / 20, place % 20)).collect();
     pairs.retain(|(from, to)| from != to);
     rng.shuffle(&mut pairs);
-    // Head, bad set and start take 27 bytes, a link 7 and a word 13.
-    let room = |links: &usize| size - 27 - 7 * links;
+    // Head, bad set and start take 27 bytes, a link 7, a group 9 and a word 13.
+    let room = |links: &usize| size - 27 - 7 * links - 9 * groups as usize;
     let links = (300..380)
         .find(|links| room(links) % 13 == 0)
         .unwrap_or(300);
     plan.links = pairs[..links].iter().copied().collect();
-    let bad: Set = (10..20).collect();
     let mut places: Vec<(u32, u32, u32)> = (1..=40)
         .flat_map(|round| plan.links.iter().map(move |&(from, to)| (round, from, to)))
         .filter(|(_, from, _)| bad.contains(from))

@@ -1,6 +1,7 @@
-//! The drawings A to J of the specification, with their outcomes.
+//! The drawings A to J of the specification, and drawing F with groups, with their outcomes.
 
-use crate::plan::Plan;
+use crate::groups::Bound;
+use crate::plan::{Plan, Set};
 
 /// F, L and R of a failing plan.
 pub type Witness = (&'static [u32], &'static [u32], &'static [u32]);
@@ -16,6 +17,8 @@ pub struct Drawing {
     pub name: char,
     pub n: u32,
     pub f: u32,
+    /// Groups instead of f, where there are some.
+    pub groups: &'static [&'static [u32]],
     pub links: &'static str,
     pub outcome: Outcome,
 }
@@ -29,12 +32,17 @@ const fn drawing(name: char, n: u32, f: u32, links: &'static str, outcome: Outco
         name,
         n,
         f,
+        groups: &[],
         links,
         outcome,
     }
 }
 
-pub const DRAWINGS: [Drawing; 10] = [
+const fn grouped(groups: &'static [&'static [u32]], drawing: Drawing) -> Drawing {
+    Drawing { groups, ..drawing }
+}
+
+pub const DRAWINGS: [Drawing; 12] = [
     drawing('A', 2, 0, "0>1", Outcome::Pass),
     drawing('B', 2, 0, "", Outcome::Fail((&[], &[0], &[1]))),
     drawing('C', 3, 0, "0>1 1>2", Outcome::Pass),
@@ -57,11 +65,22 @@ pub const DRAWINGS: [Drawing; 10] = [
     ),
     drawing('I', 7, 1, PAIR_HEARD, Outcome::Pass),
     drawing('J', 1, 0, "", Outcome::Refused(4)),
+    grouped(
+        &[&[1, 2], &[3]],
+        drawing('F', 5, 0, FAN, Outcome::Fail((&[3], &[0, 1, 2], &[4]))),
+    ),
+    grouped(&[&[1], &[2], &[3]], drawing('F', 5, 0, FAN, Outcome::Pass)),
 ];
 
 impl Drawing {
     pub fn plan(&self) -> Plan {
-        let mut plan = Plan::new(self.n, 0, self.f);
+        let members = |group: &&[u32]| group.iter().copied().collect();
+        let groups: Vec<Set> = self.groups.iter().map(members).collect();
+        let bound = match self.groups {
+            [] => Bound::f(self.f),
+            _ => Bound::groups(&groups),
+        };
+        let mut plan = Plan::with(self.n, 0, bound);
         for link in self.links.split_whitespace() {
             let ends: Vec<u32> = link
                 .split('>')

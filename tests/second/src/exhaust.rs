@@ -1,7 +1,9 @@
-//! The whole space of sites with three terminals: every plan, bad set and script of two or three
-//! rounds. The liars say other values in other rounds as they like.
+//! The whole space of sites with three terminals: every plan with f, with one group or with two
+//! different ones, every bad set and script of two or three rounds. The liars say other values in
+//! other rounds as they like.
 
 use crate::faults::Fault;
+use crate::groups::Bound;
 use crate::plan::{number_of, Plan, Set};
 use crate::run::{run, Order};
 use crate::step::{Record, State};
@@ -26,14 +28,29 @@ pub struct Totals {
 /// Plays the whole space; a violation is told with the plan it was found on.
 pub fn exhaust(fault: Fault) -> Result<Totals, String> {
     let mut totals = Totals::default();
-    for f in 0..TERMINALS {
+    for bound in all_bounds() {
         for links in subsets(&all_links()) {
-            let mut plan = Plan::new(TERMINALS, 0, f);
+            let mut plan = Plan::with(TERMINALS, 0, bound.clone());
             plan.links = links.into_iter().collect();
             check_plan(&plan, &mut totals, fault).map_err(|what| format!("{what}: {plan:?}"))?;
         }
     }
     Ok(totals)
+}
+
+/// Every f, every group, and every two different groups in either order.
+fn all_bounds() -> Vec<Bound> {
+    let groups: Vec<Set> = subsets(&[1, 2])
+        .into_iter()
+        .map(|members| members.into_iter().collect())
+        .collect();
+    let mut bounds: Vec<Bound> = (0..TERMINALS).map(Bound::f).collect();
+    for one in &groups {
+        bounds.push(Bound::groups(std::slice::from_ref(one)));
+        let others = groups.iter().filter(|other| *other != one);
+        bounds.extend(others.map(|other| Bound::groups(&[one.clone(), other.clone()])));
+    }
+    bounds
 }
 
 fn all_links() -> Vec<(u32, u32)> {
@@ -55,8 +72,12 @@ fn subsets<T: Copy>(list: &[T]) -> Vec<Vec<T>> {
 fn check_plan(plan: &Plan, totals: &mut Totals, fault: Fault) -> Result<(), String> {
     totals.plans += 1;
     let answer = verdict(plan, fault).map_err(|cause| format!("verdict refused {cause:?}"))?;
-    let lengths = [ROUNDS, ROUNDS + 1];
-    let mut someone_waits = lengths.map(|_| false);
+    // A round more shows what liars can do who change their words, which is one with groups or f.
+    let lengths: &[u32] = match plan.bound.has_groups() {
+        false => &[ROUNDS, ROUNDS + 1],
+        true => &[ROUNDS],
+    };
+    let mut someone_waits = vec![false; lengths.len()];
     let mut least: Option<(usize, u32)> = None;
     for bad in subsets(&[1, 2]) {
         let bad: Set = bad.into_iter().collect();
@@ -65,14 +86,14 @@ fn check_plan(plan: &Plan, totals: &mut Totals, fault: Fault) -> Result<(), Stri
         }
         totals.bad_sets += 1;
         for (waits, rounds) in someone_waits.iter_mut().zip(lengths) {
-            *waits |= play_scripts(plan, &bad, rounds, totals, fault)?;
+            *waits |= play_scripts(plan, &bad, *rounds, totals, fault)?;
         }
         if !silent_waiting(plan, &bad, ROUNDS, totals, fault)?.is_empty() {
             let key = (bad.len(), number_of(&bad));
             least = Some(least.map_or(key, |other| other.min(key)));
         }
     }
-    if someone_waits != lengths.map(|_| answer.fails) {
+    if someone_waits.iter().any(|&waits| waits != answer.fails) {
         return Err("the verdict differs from what the runs show".to_string());
     }
     if answer.fails {
@@ -91,7 +112,10 @@ fn check_witness(
     totals: &mut Totals,
     fault: Fault,
 ) -> Result<(), String> {
-    if witness_check(plan, &answer.bad, &answer.reached, &answer.left) != Ok(true) {
+    let Verdict {
+        bad, reached, left, ..
+    } = answer;
+    if witness_check(plan, bad, reached, left, fault) != Ok(true) {
         return Err("the witness doesn't pass its check".to_string());
     }
     if least != Some((answer.bad.len(), number_of(&answer.bad))) {

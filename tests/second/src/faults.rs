@@ -2,9 +2,10 @@
 //! would find it.
 
 use crate::generate::{case, Kind};
-use crate::output::{archive_text, run_text, verdict_text};
+use crate::output::{archive_text, rewritten_text, run_text, verdict_text};
 use crate::plan::Cause;
 use crate::reader::{read_archive, Filed, Refusal};
+use crate::records::{record_answer, record_case, RecordAnswer, RecordCase};
 use crate::step::{step, Record};
 use crate::steps::{step_case, StepCase};
 
@@ -66,9 +67,63 @@ pub enum Fault {
     DeafAtEndOnly,
     DeafAtBadSetOnly,
     MissingBeforeDeaf,
+    MembersCounted,
+    FitInAllGroups,
+    UnionOfGroups,
+    LastGroupForgotten,
+    FirstGroupOnly,
+    BadSetInUnion,
+    BadSetInAllGroups,
+    BadSetBySize,
+    WholeGroupsOnly,
+    WitnessOfFirstGroup,
+    LeftCountedTogether,
+    SourceInGroupAccepted,
+    GroupMemberNAccepted,
+    GroupMembersAbove19Accepted,
+    SeventeenthGroupAccepted,
+    EmptyGroupRefused,
+    EmptyGroupDropped,
+    GroupTwiceRefused,
+    GroupTwiceDropped,
+    HeadOfGroupsRefused,
+    GroupKindUnknown,
+    GroupLengthNotChecked,
+    GroupBeforeOrder,
+    LinkAfterGroupAccepted,
+    LateLinkEndsPlan,
+    GroupAfterBadSetAccepted,
+    GroupBesideNumberNoPlace,
+    FirstGroupEndsLinks,
+    NoGroupAccepted,
+    NoGroupInArchiveAccepted,
+    NoGroupWithLine,
+    NoGroupBeforeText,
+    NoGroupBeforeKind,
+    NoGroupAfterLine,
+    NoGroupAtEndOnly,
+    NoGroupAfterDeaf,
+    MissingBeforeNoGroup,
+    GroupsWrittenBeforeLinks,
+    GroupsWrittenSorted,
+    EmptyGroupsNotWritten,
+    NoGroupInRecord,
+    CountAbove16InRecord,
+    PastCountAccepted,
+    PastCountUsed,
+    GroupsBesideNumber,
+    GroupsBeforeLinkEnds,
+    GroupsAfterBadSet,
+    GroupsAfterRecord,
+    CountTakenForF,
+    NoMembersTakenForF,
+    GroupHighByteIgnored,
+    GroupLowByteFirst,
+    DeafNotWithGroups,
+    CountWrittenInHead,
 }
 
-pub const PLANTED: [(Fault, &str); 54] = [
+pub const PLANTED: [(Fault, &str); 108] = [
     (Fault::VotesWithoutOne, "f instead of f+1 votes in the step"),
     (Fault::ClosureWithoutOne, "f instead of f+1 in the closure"),
     (
@@ -219,6 +274,159 @@ pub const PLANTED: [(Fault, &str); 54] = [
         Fault::MissingBeforeDeaf,
         "a missing frame before cause 15 at the end",
     ),
+    (
+        Fault::MembersCounted,
+        "members counted instead of fitting in a group",
+    ),
+    (
+        Fault::FitInAllGroups,
+        "enough unless they fit in every group",
+    ),
+    (Fault::UnionOfGroups, "all groups taken for one"),
+    (Fault::LastGroupForgotten, "the last group not looked at"),
+    (Fault::FirstGroupOnly, "only the first group looked at"),
+    (
+        Fault::BadSetInUnion,
+        "bad set part of all groups together accepted",
+    ),
+    (
+        Fault::BadSetInAllGroups,
+        "bad set refused that is not part of every group",
+    ),
+    (
+        Fault::BadSetBySize,
+        "bad set with no more members than a group accepted",
+    ),
+    (
+        Fault::WholeGroupsOnly,
+        "bad sets are whole groups, or empty, and not their parts",
+    ),
+    (
+        Fault::WitnessOfFirstGroup,
+        "witness of the first group that has one",
+    ),
+    (
+        Fault::LeftCountedTogether,
+        "the neighbours of all of R counted together in the witness check",
+    ),
+    (
+        Fault::SourceInGroupAccepted,
+        "group naming the source accepted",
+    ),
+    (Fault::GroupMemberNAccepted, "group naming n accepted"),
+    (
+        Fault::GroupMembersAbove19Accepted,
+        "group naming 20 or above accepted",
+    ),
+    (
+        Fault::SeventeenthGroupAccepted,
+        "seventeenth group accepted",
+    ),
+    (Fault::EmptyGroupRefused, "group without members refused"),
+    (Fault::EmptyGroupDropped, "group without members not kept"),
+    (Fault::GroupTwiceRefused, "group given twice refused"),
+    (Fault::GroupTwiceDropped, "group given twice kept once"),
+    (Fault::HeadOfGroupsRefused, "ff for f refused by cause 4"),
+    (Fault::GroupKindUnknown, "kind 07 not known"),
+    (
+        Fault::GroupLengthNotChecked,
+        "kind 07 with more than 3 bytes accepted",
+    ),
+    (Fault::GroupBeforeOrder, "cause 17 of a group before 3"),
+    (Fault::LinkAfterGroupAccepted, "link after a group accepted"),
+    (
+        Fault::LateLinkEndsPlan,
+        "a link after a group taken for the end of the plan",
+    ),
+    (
+        Fault::GroupAfterBadSetAccepted,
+        "group after the bad set accepted",
+    ),
+    (
+        Fault::GroupBesideNumberNoPlace,
+        "kind 07 beside f: cause 3 before 15",
+    ),
+    (
+        Fault::FirstGroupEndsLinks,
+        "cause 15 checked at the first group",
+    ),
+    (Fault::NoGroupAccepted, "no group accepted"),
+    (
+        Fault::NoGroupInArchiveAccepted,
+        "no group accepted by the archive",
+    ),
+    (
+        Fault::NoGroupWithLine,
+        "cause 17 of no group told with the line's number",
+    ),
+    (Fault::NoGroupBeforeText, "cause 17 of no group before 1"),
+    (Fault::NoGroupBeforeKind, "cause 17 of no group before 2"),
+    (
+        Fault::NoGroupAfterLine,
+        "cause 17 of no group after the other causes of the line",
+    ),
+    (
+        Fault::NoGroupAtEndOnly,
+        "cause 17 of no group at the end of the file only",
+    ),
+    (Fault::NoGroupAfterDeaf, "cause 17 of no group after 15"),
+    (
+        Fault::MissingBeforeNoGroup,
+        "a missing frame before cause 17 of no group at the end",
+    ),
+    (
+        Fault::GroupsWrittenBeforeLinks,
+        "groups written before the links",
+    ),
+    (
+        Fault::GroupsWrittenSorted,
+        "groups written by their numbers instead of in their order",
+    ),
+    (
+        Fault::EmptyGroupsNotWritten,
+        "groups without members not written",
+    ),
+    (
+        Fault::NoGroupInRecord,
+        "a record with groups and the count 0 accepted",
+    ),
+    (
+        Fault::CountAbove16InRecord,
+        "a record with a count above 16 accepted",
+    ),
+    (
+        Fault::PastCountAccepted,
+        "a group past a record's count accepted",
+    ),
+    (Fault::PastCountUsed, "a group past a record's count used"),
+    (
+        Fault::GroupsBesideNumber,
+        "a group in a record with f accepted",
+    ),
+    (Fault::GroupsBeforeLinkEnds, "cause 17 of a record before 5"),
+    (Fault::GroupsAfterBadSet, "cause 17 of a record after 7"),
+    (Fault::GroupsAfterRecord, "cause 17 of a step after 13"),
+    (
+        Fault::CountTakenForF,
+        "the count of groups taken for f by the step and in the verdict",
+    ),
+    (
+        Fault::NoMembersTakenForF,
+        "groups without any member taken for f = 0",
+    ),
+    (
+        Fault::GroupHighByteIgnored,
+        "the high byte of a group not looked at",
+    ),
+    (Fault::GroupLowByteFirst, "a group read low byte first"),
+    (
+        Fault::DeafNotWithGroups,
+        "deaf terminals not looked for where groups are listed",
+    ),
+    (
+        Fault::CountWrittenInHead,
+        "the count of groups written instead of ff",
+    ),
 ];
 
 /// Larger sites cost time in the verdict and show no fault that smaller ones hide.
@@ -231,11 +439,12 @@ pub struct Found {
     pub archive: u64,
     pub runs: u64,
     pub steps: u64,
+    pub records: u64,
 }
 
 impl Found {
     pub fn all(&self) -> u64 {
-        self.verdicts + self.archive + self.runs + self.steps
+        self.verdicts + self.archive + self.runs + self.steps + self.records
     }
 }
 
@@ -245,10 +454,11 @@ pub struct Sound {
     archive: Vec<(Vec<u8>, Opened)>,
     runs: Vec<(Vec<u8>, Vec<u8>)>,
     steps: Vec<(StepCase, StepAnswer)>,
+    records: Vec<(RecordCase, RecordAnswer)>,
 }
 
-/// What the archive prints of a file, and what its reader answers.
-type Opened = (Vec<u8>, Result<Filed, Refusal>);
+/// What the archive prints of a file, the plan written anew, and what the archive's reader answers.
+type Opened = (Vec<u8>, Vec<u8>, Result<Filed, Refusal>);
 
 type StepAnswer = Result<Record, (Cause, Record)>;
 
@@ -263,6 +473,7 @@ impl Sound {
             .collect();
         let runs = (0..count).map(|index| case(Kind::Run, seed, index));
         let steps = (0..count).map(|index| step_case(seed, index));
+        let records = (0..count).map(|index| record_case(seed, index));
         Sound {
             verdicts: plans
                 .iter()
@@ -278,6 +489,9 @@ impl Sound {
             steps: steps
                 .map(|call| (call.clone(), answer(&call, Fault::None)))
                 .collect(),
+            records: records
+                .map(|case| (case.clone(), record_answer(&case, Fault::None)))
+                .collect(),
         }
     }
 
@@ -288,6 +502,7 @@ impl Sound {
             archive: self.archive.len() as u64,
             runs: self.runs.len() as u64,
             steps: self.steps.len() as u64,
+            records: self.records.len() as u64,
         }
     }
 
@@ -309,17 +524,26 @@ impl Sound {
             .steps
             .iter()
             .filter(|(call, was)| !same(&answer(call, fault), was));
+        let records = self
+            .records
+            .iter()
+            .filter(|(case, was)| record_answer(case, fault) != *was);
         Found {
             verdicts: verdicts.count() as u64,
             archive: archive.count() as u64,
             runs: runs.count() as u64,
             steps: steps.count() as u64,
+            records: records.count() as u64,
         }
     }
 }
 
 fn opened(text: &[u8], fault: Fault) -> Opened {
-    (archive_text(text, fault), read_archive(text, fault))
+    (
+        archive_text(text, fault),
+        rewritten_text(text, fault),
+        read_archive(text, fault),
+    )
 }
 
 fn answer(call: &StepCase, fault: Fault) -> StepAnswer {
@@ -342,8 +566,12 @@ fn told(found: &Found) -> String {
         archive,
         runs,
         steps,
+        records,
     } = found;
-    format!("{verdicts} verdicts, {archive} of the archive, {runs} runs, {steps} steps")
+    format!(
+        "{verdicts} verdicts, {archive} of the archive, {runs} runs, {steps} steps, \
+         {records} plan records"
+    )
 }
 
 /// Prints one line a fault; true if every fault was found.

@@ -1,14 +1,18 @@
 //! The seeded cases: valid files of many sorts, and damaged ones.
 
-use crate::damage::{change_byte, change_lines, change_text, noise, plant, sized, spoil_line};
+use crate::damage::{
+    causes, change_byte, change_lines, change_text, noise, plant, sized, spoil_line,
+};
 use crate::draft::{join, plan_draft, run_draft, Draft, Manner};
 use crate::drawings::DRAWINGS;
 use crate::faults::Fault;
+use crate::grouping::{group_thinly, group_up, maybe_grouped, GROUPED};
+use crate::groups::Bound;
 use crate::place::{placed, THERE};
 use crate::plan::Plan;
 use crate::plans::{
-    border_plan, deaf_plan, deafen, deep_plan, hear_at_source, joined_plan, mend, random_plan,
-    strong_plan, thin_plan, weak_plan,
+    any_plan, border_plan, deaf_plan, deafen, deep_plan, hear_at_source, joined_plan, mend,
+    random_plan, strong_plan, thin_plan, weak_plan,
 };
 use crate::rng::Rng;
 use std::fs;
@@ -31,7 +35,7 @@ impl Kind {
 }
 
 /// Sorts of cases; they take turns by index. The first ones are of valid files.
-pub const SORTS: u64 = 18;
+pub const SORTS: u64 = 19;
 pub const VALID_SORTS: u64 = 8;
 
 /// Of a hundred valid files so many have a deaf terminal, and of those that get damaged.
@@ -68,13 +72,16 @@ fn terminals(turn: u64, low: u32, high: u32) -> u32 {
 
 fn plan_case(rng: &mut Rng, sort: u64, turn: u64) -> Draft {
     let plan = if rng.chance(DEAF) {
-        deaf_plan(rng, terminals(turn, 2, 20))
+        let mut plan = deaf_plan(rng, terminals(turn, 2, 20));
+        maybe_grouped(rng, &mut plan);
+        plan
     } else {
         hearing_plan(rng, sort, turn)
     };
+    let links = plan.links.len();
     let mut draft = plan_draft(plan);
     if sort == 7 || rng.chance(30) {
-        rng.shuffle(&mut draft.lines[1..]);
+        rng.shuffle(&mut draft.lines[1..=links]);
     }
     draft
 }
@@ -83,6 +90,9 @@ fn plan_case(rng: &mut Rng, sort: u64, turn: u64) -> Draft {
 fn hearing_plan(rng: &mut Rng, sort: u64, turn: u64) -> Plan {
     if sort == 4 && turn.is_multiple_of(2) {
         return drawing(turn / 2);
+    }
+    if sort == 6 && rng.chance(GROUPED) {
+        return large_groups(rng, turn);
     }
     let mut plan = match sort {
         0 => random_plan(rng, terminals(turn, 2, 8), None),
@@ -96,6 +106,17 @@ fn hearing_plan(rng: &mut Rng, sort: u64, turn: u64) -> Plan {
         _ => deep_plan(rng, terminals(turn, 2, 11)),
     };
     mend(rng, &mut plan);
+    if sort != 6 {
+        maybe_grouped(rng, &mut plan);
+    }
+    plan
+}
+
+/// More than 14 terminals and groups, of which the parts are looked through soon: any links.
+fn large_groups(rng: &mut Rng, turn: u64) -> Plan {
+    let mut plan = any_plan(rng, terminals(turn, 15, 20));
+    mend(rng, &mut plan);
+    group_up(rng, &mut plan);
     plan
 }
 
@@ -128,6 +149,7 @@ fn run_case(rng: &mut Rng, sort: u64, turn: u64) -> Draft {
         1 => {
             let mut plan = random_plan(rng, n, None);
             mend(rng, &mut plan);
+            maybe_grouped(rng, &mut plan);
             run_draft(rng, plan, rounds, Manner::Wild)
         }
         2 => named_run(rng, weak_plan, n, rounds, Manner::Wild),
@@ -142,7 +164,9 @@ fn run_case(rng: &mut Rng, sort: u64, turn: u64) -> Draft {
             let plan = if turn.is_multiple_of(2) {
                 drawing(turn / 2)
             } else {
-                joined_plan(rng)
+                let mut plan = joined_plan(rng);
+                maybe_grouped(rng, &mut plan);
+                plan
             };
             run_draft(rng, plan, rounds, manner)
         }
@@ -168,13 +192,28 @@ fn named_run(
     if rng.chance(20) {
         hear_at_source(rng, &mut plan);
     }
+    if !plan.bound.has_groups() {
+        maybe_grouped(rng, &mut plan);
+    }
     run_draft(rng, plan, rounds, manner)
+}
+
+/// A plan with groups in which nobody is to spare.
+fn thin_groups(rng: &mut Rng, n: u32) -> Plan {
+    let mut plan = thin_plan(rng, n);
+    group_thinly(rng, &mut plan);
+    plan
 }
 
 /// Liars that say one value early and another later. Where nobody is to spare, whoever hears them
 /// waits for the true one.
 pub fn turning_run(rng: &mut Rng, n: u32, rounds: Option<u32>) -> Draft {
-    let make = rng.pick(&[weak_plan as fn(&mut Rng, u32) -> Plan, thin_plan, thin_plan]);
+    let make = rng.pick(&[
+        weak_plan as fn(&mut Rng, u32) -> Plan,
+        thin_plan,
+        thin_plan,
+        thin_groups,
+    ]);
     let manner = rng.pick(&[
         Manner::Turncoat,
         Manner::Faithless,
@@ -195,6 +234,7 @@ pub fn edge_run(rng: &mut Rng, n: u32) -> Draft {
         let make = rng.pick(&[
             thin_plan as fn(&mut Rng, u32) -> Plan,
             thin_plan,
+            thin_groups,
             weak_plan,
             deep_plan,
         ]);
@@ -214,13 +254,14 @@ fn some_word(draft: &Draft) -> bool {
 fn shuffled_run(rng: &mut Rng, n: u32, rounds: Option<u32>) -> Draft {
     let mut draft = named_run(rng, deep_plan, n, rounds, Manner::Wild);
     let links = draft.plan.links.len();
+    let groups = draft.plan.bound.listed().len();
     rng.shuffle(&mut draft.lines[1..=links]);
-    rng.shuffle(&mut draft.lines[links + 3..]);
+    rng.shuffle(&mut draft.lines[links + groups + 3..]);
     draft
 }
 
-/// A small valid file to be damaged.
-fn base(rng: &mut Rng, kind: Kind) -> Draft {
+/// A small valid file to be damaged, with groups or not.
+fn base(rng: &mut Rng, kind: Kind, groups: bool) -> Draft {
     let n = rng.between(2, 9);
     let make = rng.pick(&[
         strong_plan as fn(&mut Rng, u32) -> Plan,
@@ -234,25 +275,45 @@ fn base(rng: &mut Rng, kind: Kind) -> Draft {
     if rng.chance(DEAF_AND_DAMAGED) {
         deafen(rng, &mut plan);
     }
+    let most = plan.bound.number.max(rng.between(0, 1));
+    if kind == Kind::Run {
+        plan.bound = Bound::f(most);
+    }
+    if groups {
+        group_up(rng, &mut plan);
+    }
     if kind == Kind::Verdict {
         return plan_draft(plan);
     }
-    plan.f = plan.f.max(rng.between(0, 1));
     let rounds = rng.pick(&[None, Some(0), Some(1), Some(2), Some(3), Some(40)]);
     run_draft(rng, plan, rounds, Manner::Wild)
 }
 
+/// Whether a file for this cause lists groups. Some causes are about groups.
+fn groups_for(rng: &mut Rng, cause: u32) -> bool {
+    rng.chance(match cause {
+        17 => 90,
+        8 => 60,
+        3 => 50,
+        _ => GROUPED,
+    })
+}
+
 fn damaged(rng: &mut Rng, kind: Kind, sort: u64, turn: u64) -> Vec<u8> {
     if sort >= 16 {
-        // All that can stand where the links end, with a deaf plan and with any.
+        // All that can stand where a plan ends, of a deaf one and of another, with groups and not;
+        // and where groups are promised and none is there.
         let there = THERE[(turn % THERE.len() as u64) as usize];
-        let deaf = sort == 16 || rng.chance(30);
-        return placed(rng, kind, there, deaf);
+        let deaf = sort == 16 || (sort == 18 && rng.chance(50));
+        let listing = there.listing(rng, sort == 18);
+        return placed(rng, kind, there, deaf, listing);
     }
-    let draft = base(rng, kind);
+    let causes = causes(kind);
+    let cause = causes[(turn % causes.len() as u64) as usize];
+    let planted = (11..=13).contains(&sort);
+    let groups = groups_for(rng, if planted { cause } else { 0 });
+    let draft = base(rng, kind, groups);
     let mut lines = draft.lines.clone();
-    let causes = if kind == Kind::Run { 11 } else { 6 };
-    let cause = (turn % u64::from(causes)) as u32 + 1;
     match sort {
         8 => {
             let mut text = join(&lines);
@@ -268,7 +329,7 @@ fn damaged(rng: &mut Rng, kind: Kind, sort: u64, turn: u64) -> Vec<u8> {
         }
         13 => {
             plant(rng, kind, &draft, &mut lines, cause);
-            let other = rng.between(1, causes);
+            let other = rng.pick(causes);
             plant(rng, kind, &draft, &mut lines, other);
         }
         14 if turn.is_multiple_of(2) => return sized(rng, kind, &draft),
@@ -280,11 +341,12 @@ fn damaged(rng: &mut Rng, kind: Kind, sort: u64, turn: u64) -> Vec<u8> {
 
 /// The later causes are hidden by any other one, so they come alone more often, and in a file in
 /// which somebody lies if one is soon found.
-fn late_cause(rng: &mut Rng, kind: Kind, draft: Draft, causes: u32) -> Vec<u8> {
-    let mut tries = (0..8).map(|_| base(rng, kind));
+fn late_cause(rng: &mut Rng, kind: Kind, draft: Draft, causes: &[u32]) -> Vec<u8> {
+    let late = rng.pick(&causes[causes.len() - 7..]);
+    let groups = groups_for(rng, late);
+    let mut tries = (0..8).map(|_| base(rng, kind, groups));
     let lying = |draft: &Draft| some_word(draft) && draft.plan.deaf(Fault::None).is_empty();
     let draft = tries.find(lying).unwrap_or(draft);
-    let late = rng.between(causes - 5, causes);
     let mut lines = draft.lines.clone();
     plant(rng, kind, &draft, &mut lines, late);
     join(&lines)

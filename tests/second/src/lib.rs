@@ -4,7 +4,8 @@
 //! it is compared with: sets are ordered sets of terminal numbers, files are split into
 //! lines, bad sets are listed by size, the closure is a work list, a row of a record is a map
 //! of the places that hold something. The programs `verdict` and `run` read new plans; `archive`
-//! and `rewrite` open those on file too, in which a terminal may be deaf.
+//! and `rewrite` open those on file too, in which a terminal may be deaf. A plan bounds the bad by
+//! a number f, or by named groups that fail together.
 
 pub mod characters;
 pub mod compare;
@@ -14,12 +15,15 @@ pub mod drawings;
 pub mod exhaust;
 pub mod faults;
 pub mod generate;
+pub mod grouping;
+pub mod groups;
 pub mod output;
 pub mod place;
 pub mod plan;
 pub mod plans;
 pub mod reader;
 pub mod record;
+pub mod records;
 pub mod rng;
 pub mod run;
 pub mod step;

@@ -21,13 +21,43 @@ pub fn line(frame: &[u8]) -> Vec<u8> {
     text
 }
 
-/// The head, then the links by sender, then by hearer.
-pub fn plan_text(plan: &Plan) -> Vec<u8> {
-    let mut text = line(&[1, plan.n as u8, plan.source as u8, plan.f as u8]);
-    for &(from, to) in &plan.links {
-        text.extend(line(&[2, from as u8, to as u8]));
+/// What the head has in the place of f where groups are listed.
+pub const GROUPS_LISTED: u8 = 0xff;
+
+pub fn head_frame(plan: &Plan) -> [u8; 4] {
+    let bound = if plan.bound.has_groups() {
+        GROUPS_LISTED
+    } else {
+        plan.bound.number as u8
+    };
+    [1, plan.n as u8, plan.source as u8, bound]
+}
+
+pub fn group_frame(group: &Set) -> [u8; 4] {
+    let [_, high, middle, low] = number_of(group).to_be_bytes();
+    [7, high, middle, low]
+}
+
+/// The head, then the links by sender, then by hearer, then the groups in their order.
+pub fn plan_text(plan: &Plan, fault: Fault) -> Vec<u8> {
+    let links = plan.links.iter();
+    let links = links.flat_map(|&(from, to)| line(&[2, from as u8, to as u8]));
+    let mut groups = plan.bound.listed();
+    match fault {
+        Fault::GroupsWrittenSorted => groups.sort_by_key(number_of),
+        Fault::EmptyGroupsNotWritten => groups.retain(|group| !group.is_empty()),
+        _ => {}
     }
-    text
+    let groups = groups.iter().flat_map(|group| line(&group_frame(group)));
+    let mut head = head_frame(plan);
+    if fault == Fault::CountWrittenInHead {
+        head[3] = plan.bound.number as u8;
+    }
+    let head = line(&head).into_iter();
+    match fault {
+        Fault::GroupsWrittenBeforeLinks => head.chain(groups).chain(links).collect(),
+        _ => head.chain(links).chain(groups).collect(),
+    }
 }
 
 pub fn verdict_line(answer: &Verdict, fault: Fault) -> Vec<u8> {
@@ -87,7 +117,7 @@ pub fn archive_text(text: &[u8], fault: Fault) -> Vec<u8> {
 /// All of the program `rewrite`, from text to text. It opens plans as the archive does.
 pub fn rewritten_text(text: &[u8], fault: Fault) -> Vec<u8> {
     match read_archive(text, fault) {
-        Ok(filed) => plan_text(&filed.plan),
+        Ok(filed) => plan_text(&filed.plan, fault),
         Err(refusal) => refusal_line(refusal),
     }
 }

@@ -1,13 +1,16 @@
-//! Files about the place where the links end: what stands there, on the line before, or after it.
+//! Files about the place where the links end, or the groups: what stands there, on the line before,
+//! or after it.
 
 use crate::damage::{plant, FOREIGN};
 use crate::draft::{
-    bad_set_line, head_line, join, link_line, run_draft, start_line, word_line, Manner,
+    bad_set_line, group_line, head_line, join, link_line, run_draft, start_line, word_line, Manner,
 };
 use crate::faults::Fault;
 use crate::generate::Kind;
+use crate::grouping::group_up;
+use crate::groups::{Bound, MOST_GROUPS};
 use crate::output::digits;
-use crate::plan::Plan;
+use crate::plan::{Plan, Set};
 use crate::plans::{deafen, deep_plan, hear_at_source, strong_plan, thin_plan, weak_plan};
 use crate::rng::Rng;
 
@@ -38,9 +41,22 @@ pub enum There {
     LinkLengthBefore,
     LinkCut,
     NoHeadBefore,
+    /// A group where f is the bound; a wrong one there.
+    Group,
+    WrongGroup,
+    GroupLength,
+    GroupAfter,
+    GroupAfterBadSet,
+    LinkAfterGroup,
+    GroupSourceBefore,
+    GroupOutsideBefore,
+    SeventeenthBefore,
+    GroupTextBefore,
+    GroupLengthBefore,
+    GroupCut,
 }
 
-pub const THERE: [There; 22] = [
+pub const THERE: [There; 34] = [
     There::RightBadSet,
     There::BadSetMember,
     There::BadSetBound,
@@ -63,13 +79,65 @@ pub const THERE: [There; 22] = [
     There::LinkLengthBefore,
     There::LinkCut,
     There::NoHeadBefore,
+    There::Group,
+    There::WrongGroup,
+    There::GroupLength,
+    There::GroupAfter,
+    There::GroupAfterBadSet,
+    There::LinkAfterGroup,
+    There::GroupSourceBefore,
+    There::GroupOutsideBefore,
+    There::SeventeenthBefore,
+    There::GroupTextBefore,
+    There::GroupLengthBefore,
+    There::GroupCut,
 ];
 
-/// A file with this at the place, and a plan that is deaf or not.
-pub fn placed(rng: &mut Rng, kind: Kind, there: There, deaf: bool) -> Vec<u8> {
+/// What the plan has: f, groups, or ff for f and no group.
+#[derive(Clone, Copy, Debug, PartialEq, Eq)]
+pub enum Listing {
+    Number,
+    Groups,
+    NoGroup,
+}
+
+impl There {
+    /// Whether this can stand in such a file. A group is the end only where f is the bound, and a
+    /// line after a group, or a wrong one, wants groups.
+    fn suits(self, listing: Listing) -> bool {
+        match self {
+            There::Group | There::WrongGroup => listing == Listing::Number,
+            There::GroupAfterBadSet
+            | There::LinkAfterGroup
+            | There::GroupSourceBefore
+            | There::GroupOutsideBefore
+            | There::SeventeenthBefore => listing == Listing::Groups,
+            There::GroupTextBefore | There::GroupLengthBefore | There::GroupCut => {
+                listing != Listing::Number
+            }
+            _ => true,
+        }
+    }
+
+    /// One of the listings that suit; no group at all only where it is asked for.
+    pub fn listing(self, rng: &mut Rng, no_group: bool) -> Listing {
+        if no_group && self.suits(Listing::NoGroup) {
+            return Listing::NoGroup;
+        }
+        let mut others = vec![Listing::Number, Listing::Groups];
+        others.retain(|&listing| self.suits(listing));
+        rng.pick(&others)
+    }
+}
+
+/// A file with this at the place, and a plan that is deaf or not and lists groups or not.
+pub fn placed(rng: &mut Rng, kind: Kind, there: There, deaf: bool, listing: Listing) -> Vec<u8> {
     let mut plan = small_plan(rng, deaf);
+    if listing != Listing::Number {
+        group_up(rng, &mut plan);
+    }
     if there == There::BadSetBound {
-        plan.f = 0;
+        refuse_many(rng, &mut plan);
     }
     let rounds = rng.pick(&[None, Some(2), Some(40)]);
     let draft = run_draft(rng, plan, rounds, Manner::Wild);
@@ -80,16 +148,32 @@ pub fn placed(rng: &mut Rng, kind: Kind, there: There, deaf: bool) -> Vec<u8> {
         There::Start if rng.chance(50) => drop(plant(rng, kind, &draft, &mut lines, 9)),
         _ => {}
     }
-    let mut rest = lines.split_off(1 + draft.plan.links.len());
+    let mut groups = lines.split_off(1 + draft.plan.links.len());
+    let mut rest = groups.split_off(draft.plan.bound.listed().len());
+    if listing == Listing::NoGroup || there == There::LinkCut {
+        groups.clear();
+    }
     rng.shuffle(&mut lines[1..]);
     change_links(rng, &draft.plan, &mut lines, there);
+    change_groups(rng, &draft.plan, &mut groups, there);
     change_rest(rng, &draft.plan, &mut rest, there);
+    lines.extend(groups);
     lines.extend(rest);
     let mut text = join(&lines);
-    if matches!(there, There::Cut | There::LinkCut) {
+    if matches!(there, There::Cut | There::LinkCut | There::GroupCut) {
         text.pop();
     }
     text
+}
+
+/// So few may be bad that some bad set is refused.
+fn refuse_many(rng: &mut Rng, plan: &mut Plan) {
+    let single = Set::from([(plan.source + 1) % plan.n]);
+    plan.bound = match plan.bound.has_groups() {
+        false => Bound::f(0),
+        true if plan.n > 2 && rng.chance(60) => Bound::groups(&[Set::new(), single]),
+        true => Bound::groups(&[Set::new()]),
+    };
 }
 
 /// Few terminals, of which one is heard beside the source, so that no cause is out of reach.
@@ -138,9 +222,39 @@ fn change_links(rng: &mut Rng, plan: &Plan, lines: &mut Lines, there: There) {
         }
         There::LinkCut => lines.push(late_link(rng, plan)),
         There::NoHeadBefore => {
-            let first = [known, bad_set_line(0), start_line(7, None)];
-            lines.insert(0, first[rng.below(3)].clone());
+            let first = [known, bad_set_line(0), start_line(7, None), group_line(0)];
+            lines.insert(0, first[rng.below(4)].clone());
         }
+        _ => {}
+    }
+}
+
+/// The line before the place, where that one is a group and has a cause.
+fn change_groups(rng: &mut Rng, plan: &Plan, groups: &mut Lines, there: There) {
+    let known = group_line(0);
+    match there {
+        There::LinkAfterGroup => groups.push(late_link(rng, plan)),
+        There::GroupSourceBefore => {
+            let with_others = rng.between(0, 2u32.pow(plan.n) - 1);
+            groups.push(group_line(with_others | 2u32.pow(plan.source)));
+        }
+        There::GroupOutsideBefore => {
+            let outside = rng.between(plan.n, 23);
+            let outside = rng.pick(&[plan.n, 20, 23, outside]).max(plan.n);
+            groups.push(group_line(2u32.pow(outside)));
+        }
+        There::SeventeenthBefore => {
+            let last = groups[groups.len() - 1].clone();
+            groups.resize(MOST_GROUPS as usize + 1, last);
+        }
+        There::GroupTextBefore => {
+            let mut line = known;
+            line[1 + rng.below(7)] = rng.pick(&FOREIGN);
+            line.truncate(rng.pick(&[7, 8, 8]));
+            groups.push(line);
+        }
+        There::GroupLengthBefore => groups.push(group_of_wrong_length(rng)),
+        There::GroupCut => groups.push(known),
         _ => {}
     }
 }
@@ -159,7 +273,7 @@ fn change_rest(rng: &mut Rng, plan: &Plan, rest: &mut Lines, there: There) {
             rest.insert(0, wrong.to_vec());
         }
         There::UnknownKind => {
-            let kind = rng.pick(&[0, 6, 7, 16, 18, 129, 255]);
+            let kind = rng.pick(&[0, 6, 8, 16, 17, 18, 129, 255]);
             rest.insert(0, digits(&[kind, 0, 1, 0][..rng.below(4) + 1]));
         }
         There::WrongLength => wrong_length(rng, &mut rest[0]),
@@ -173,13 +287,27 @@ fn change_rest(rng: &mut Rng, plan: &Plan, rest: &mut Lines, there: There) {
             let last = [rest[0].clone(), head_line(plan), start_line(7, None)];
             *rest = vec![last[rng.below(3)].clone()];
         }
-        There::End | There::LinkCut => rest.clear(),
+        There::End | There::LinkCut | There::GroupCut => rest.clear(),
         There::EndAfterBadSet => rest.truncate(1),
         There::LinkAfter => {
             if rng.chance(50) {
                 rest[0] = head_line(plan);
             }
             rest.insert(1, late_link(rng, plan));
+        }
+        There::Group => rest.insert(0, group_line(0)),
+        There::WrongGroup => {
+            let wrong = rng.pick(&[plan.source, plan.n, 23]);
+            rest.insert(0, group_line(2u32.pow(wrong)));
+        }
+        There::GroupLength => rest.insert(0, group_of_wrong_length(rng)),
+        There::GroupAfterBadSet => rest.insert(1, group_line(0)),
+        There::GroupAfter => {
+            let group = rng.pick(&[0, 0, 2u32.pow(plan.source), 2u32.pow(plan.n)]);
+            if rng.chance(25) {
+                rest[0] = head_line(plan);
+            }
+            rest.insert(rng.pick(&[1, 1, 2]), group_line(group));
         }
         _ => {}
     }
@@ -192,6 +320,10 @@ fn wrong_length(rng: &mut Rng, line: &mut Vec<u8>) {
         1 => line.extend(b"00"),
         _ => *line = digits(&[rng.pick(&[1, 3, 4, 5]), 2, 0, 0, 0][..rng.pick(&[1, 2, 5])]),
     }
+}
+
+fn group_of_wrong_length(rng: &mut Rng) -> Vec<u8> {
+    digits(&[7, 0, 0, 0, 0, 0][..rng.pick(&[1, 2, 3, 5, 6])])
 }
 
 /// The link that a deaf terminal lacks; any other where nobody is deaf.

@@ -1,6 +1,7 @@
 //! The site plan, its sets of terminals, and the numbers of the refusals.
 
 use crate::faults::Fault;
+use crate::groups::{part_of_one, Bound, Rule};
 use crate::output;
 use std::collections::BTreeSet;
 
@@ -10,29 +11,47 @@ pub type Set = BTreeSet<u32>;
 pub const FEWEST_TERMINALS: u32 = 2;
 pub const MOST_TERMINALS: u32 = 20;
 
-/// Why a file or a call is refused; the order is the order of the numbers. 15 has a place of its
-/// own in a file and is never ranked by its number.
+/// Why a file or a call is refused. The order is the one in which they are looked for on a line and
+/// in a call, but for 13, which is looked for before 12. 15 has a place of its own in a file and is
+/// never ranked, and so has 17 where it says that there is no group.
 #[derive(Clone, Copy, Debug, PartialEq, Eq, PartialOrd, Ord)]
 pub enum Cause {
-    Text = 1,
-    Kind = 2,
-    Order = 3,
-    Head = 4,
-    LinkEnd = 5,
-    LinkTwice = 6,
-    BadSetMember = 7,
-    BadSetBound = 8,
-    Start = 9,
-    Word = 10,
-    WordTwice = 11,
-    Length = 12,
-    Record = 13,
-    Deaf = 15,
+    Text,
+    Kind,
+    Order,
+    Head,
+    LinkEnd,
+    LinkTwice,
+    Group,
+    BadSetMember,
+    BadSetBound,
+    Start,
+    Word,
+    WordTwice,
+    Length,
+    Record,
+    Deaf,
 }
 
 impl Cause {
     pub fn number(self) -> u8 {
-        self as u8
+        match self {
+            Cause::Text => 1,
+            Cause::Kind => 2,
+            Cause::Order => 3,
+            Cause::Head => 4,
+            Cause::LinkEnd => 5,
+            Cause::LinkTwice => 6,
+            Cause::BadSetMember => 7,
+            Cause::BadSetBound => 8,
+            Cause::Start => 9,
+            Cause::Word => 10,
+            Cause::WordTwice => 11,
+            Cause::Length => 12,
+            Cause::Record => 13,
+            Cause::Deaf => 15,
+            Cause::Group => 17,
+        }
     }
 }
 
@@ -41,34 +60,49 @@ impl Cause {
 pub struct Plan {
     pub n: u32,
     pub source: u32,
-    pub f: u32,
+    pub bound: Bound,
     /// Links as (sender, hearer); this order is also the order of writing.
     pub links: BTreeSet<(u32, u32)>,
 }
 
 impl Plan {
+    /// A plan with the bound f, and without links.
     pub fn new(n: u32, source: u32, f: u32) -> Plan {
+        Plan::with(n, source, Bound::f(f))
+    }
+
+    /// A plan with any bound, and without links.
+    pub fn with(n: u32, source: u32, bound: Bound) -> Plan {
         Plan {
             n,
             source,
-            f,
+            bound,
             links: BTreeSet::new(),
         }
     }
 
-    /// Causes 4 and 5, the lower number first.
-    pub fn check(&self) -> Result<(), Cause> {
-        if !head_in_range(self.n, self.source, self.f) {
+    /// Causes 4, 5 and 17, in this order.
+    pub fn check(&self, fault: Fault) -> Result<(), Cause> {
+        self.check_links(fault)?;
+        self.check_groups(fault)
+    }
+
+    pub fn check_links(&self, fault: Fault) -> Result<(), Cause> {
+        if !head_in_range(self.n, self.source, &self.bound) {
             return Err(Cause::Head);
         }
-        if self
-            .links
-            .iter()
-            .any(|&(from, to)| !link_in_range(self.n, from, to))
-        {
+        if fault == Fault::GroupsBeforeLinkEnds {
+            self.check_groups(fault)?;
+        }
+        let mut links = self.links.iter();
+        if links.any(|&(from, to)| !link_in_range(self.n, from, to)) {
             return Err(Cause::LinkEnd);
         }
         Ok(())
+    }
+
+    pub fn check_groups(&self, fault: Fault) -> Result<(), Cause> {
+        self.bound.check(self.n, self.source, fault)
     }
 
     /// The terminals that `hearer` hears.
@@ -98,8 +132,9 @@ impl Plan {
     }
 }
 
-pub fn head_in_range(n: u32, source: u32, f: u32) -> bool {
-    (FEWEST_TERMINALS..=MOST_TERMINALS).contains(&n) && source < n && f < n
+pub fn head_in_range(n: u32, source: u32, bound: &Bound) -> bool {
+    let right_n = (FEWEST_TERMINALS..=MOST_TERMINALS).contains(&n);
+    right_n && source < n && bound.number_in_range(n)
 }
 
 pub fn link_in_range(n: u32, from: u32, to: u32) -> bool {
@@ -134,10 +169,24 @@ pub fn members_allowed(plan: &Plan, bad: &Set, fault: Fault) -> bool {
         .all(|&member| member < plan.n && (source_allowed || member != plan.source))
 }
 
-/// The second half: every terminal outside, the source too, hears at most f of it (cause 8).
-pub fn bound_holds(plan: &Plan, lists: &Neighbours, bad: &Set, fault: Fault) -> bool {
+/// The second half (cause 8): every terminal outside, the source too, hears at most f of it; or it
+/// is part of a group.
+pub fn bound_holds(plan: &Plan, bad: &Set, fault: Fault) -> bool {
+    let rule = Rule::of(&plan.bound, fault);
+    rule_holds(&rule, plan, &Neighbours::of(plan), bad, fault)
+}
+
+/// The same, of a plan whose rule and lists are at hand.
+pub fn rule_holds(rule: &Rule, plan: &Plan, lists: &Neighbours, bad: &Set, fault: Fault) -> bool {
+    match rule {
+        Rule::AtMost(f) => few_heard(plan, lists, bad, *f, fault),
+        Rule::WithinOne(groups) => part_of_one(groups, bad, fault),
+    }
+}
+
+fn few_heard(plan: &Plan, lists: &Neighbours, bad: &Set, f: u32, fault: Fault) -> bool {
     if fault == Fault::BadSetBoundedInAll {
-        return bad.len() <= plan.f as usize;
+        return bad.len() <= f as usize;
     }
     let mut heard = vec![0; plan.n as usize];
     for &member in bad {
@@ -147,7 +196,7 @@ pub fn bound_holds(plan: &Plan, lists: &Neighbours, bad: &Set, fault: Fault) -> 
     }
     (0..plan.n).all(|terminal| {
         let excused = fault == Fault::SourceUnbounded && terminal == plan.source;
-        excused || heard[terminal as usize] <= plan.f || bad.contains(&terminal)
+        excused || heard[terminal as usize] <= f || bad.contains(&terminal)
     })
 }
 
@@ -170,9 +219,9 @@ pub fn set_of(number: u32) -> Set {
 }
 
 /// Writes the plan into a lent list and returns the text's length.
-pub fn write_plan(plan: &Plan, list: &mut [u8]) -> Result<usize, Cause> {
-    plan.check()?;
-    let text = output::plan_text(plan);
+pub fn write_plan(plan: &Plan, list: &mut [u8], fault: Fault) -> Result<usize, Cause> {
+    plan.check(fault)?;
+    let text = output::plan_text(plan, fault);
     if list.len() < text.len() {
         return Err(Cause::Length);
     }

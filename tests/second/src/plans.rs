@@ -1,7 +1,8 @@
-//! Seeded valid plans: of every density, sure to pass, near the border, and joined drawings.
+//! Seeded valid plans with a number f: of every density, sure to pass, near the border, and joined drawings.
 
 use crate::drawings::DRAWINGS;
 use crate::faults::Fault;
+use crate::groups::Bound;
 use crate::plan::{Plan, Set};
 use crate::rng::Rng;
 use crate::verdict::{is_bad_set, verdict};
@@ -42,7 +43,7 @@ pub fn random_plan(rng: &mut Rng, n: u32, density: Option<u32>) -> Plan {
 }
 
 /// The terminals in random order, the source first.
-fn source_first(rng: &mut Rng, plan: &Plan) -> Vec<u32> {
+pub fn source_first(rng: &mut Rng, plan: &Plan) -> Vec<u32> {
     let mut order: Vec<u32> = (0..plan.n).collect();
     rng.shuffle(&mut order);
     order.retain(|&terminal| terminal != plan.source);
@@ -119,7 +120,7 @@ fn ladder(rng: &mut Rng, n: u32, f: u32, width: u32) -> Plan {
 /// Passing, but no more once the next link goes; given before or after it goes.
 pub fn border_plan(rng: &mut Rng, n: u32) -> Plan {
     let mut plan = random_plan(rng, n, Some(70));
-    plan.f = rng.between(0, (n - 1).min(2));
+    plan.bound = Bound::f(rng.between(0, (n - 1).min(2)));
     let mut links = all_links(n);
     rng.shuffle(&mut links);
     for &link in &links {
@@ -143,7 +144,7 @@ pub fn border_plan(rng: &mut Rng, n: u32) -> Plan {
     plan
 }
 
-fn passes(plan: &Plan) -> bool {
+pub fn passes(plan: &Plan) -> bool {
     verdict(plan, Fault::None).is_ok_and(|answer| !answer.fails)
 }
 

@@ -1,9 +1,10 @@
 //! Plan files and run files: from lines of hexadecimal digits to a plan or a run.
 
 use crate::faults::Fault;
+use crate::groups::{group_allowed, Bound, MOST_GROUPS};
+use crate::output::GROUPS_LISTED;
 use crate::plan::{
-    bound_holds, head_in_range, link_in_range, members_allowed, set_of, Cause, Neighbours, Plan,
-    Set,
+    bound_holds, head_in_range, link_in_range, members_allowed, set_of, Cause, Plan, Set,
 };
 use crate::run::last_round;
 use std::collections::BTreeMap;
@@ -51,7 +52,8 @@ pub fn read_run(text: &[u8], fault: Fault) -> Result<RunFile, Refusal> {
     read(text, Reader::Run, fault).map(|reading| reading.file)
 }
 
-/// Who reads. Only the archive opens plans with deaf terminals.
+/// Who reads. Only the archive opens plans with deaf terminals; nobody opens one that has ff for f
+/// and no group.
 #[derive(Clone, Copy, PartialEq, Eq)]
 enum Reader {
     Plan,
@@ -60,11 +62,20 @@ enum Reader {
 }
 
 impl Reader {
-    fn last_kind(self) -> u8 {
-        if self == Reader::Run {
-            5
-        } else {
-            2
+    fn knows(self, kind: u8, fault: Fault) -> bool {
+        match kind {
+            1 | 2 => true,
+            7 => fault != Fault::GroupKindUnknown,
+            3..=5 => self == Reader::Run,
+            _ => false,
+        }
+    }
+
+    fn refuses_no_group(self, fault: Fault) -> bool {
+        match fault {
+            Fault::NoGroupAccepted => false,
+            Fault::NoGroupInArchiveAccepted => self != Reader::Archive,
+            _ => true,
         }
     }
 
@@ -82,6 +93,7 @@ impl Reader {
 enum Stage {
     Head,
     Links,
+    Groups,
     Start,
     Words,
 }
@@ -90,6 +102,21 @@ struct Reading {
     reader: Reader,
     stage: Stage,
     file: RunFile,
+}
+
+/// Why a line is refused, and whether the cause is one of the whole plan.
+struct Found {
+    cause: Cause,
+    whole: bool,
+}
+
+impl From<Cause> for Found {
+    fn from(cause: Cause) -> Found {
+        Found {
+            cause,
+            whole: false,
+        }
+    }
 }
 
 fn read(text: &[u8], reader: Reader, fault: Fault) -> Result<Reading, Refusal> {
@@ -111,12 +138,14 @@ fn read(text: &[u8], reader: Reader, fault: Fault) -> Result<Reading, Refusal> {
     };
     let first = if fault == Fault::LinesFromZero { 0 } else { 1 };
     for (line, piece) in (first..).zip(text.split_inclusive(|&byte| byte == 10)) {
-        if let Err(cause) = reading.take_line(piece, fault) {
-            return refuse(cause, line, fault);
+        if let Err(found) = reading.take_line(piece, fault) {
+            // What is wrong with the whole plan is told with line 0, wherever it was seen.
+            let line = if found.whole { 0 } else { line };
+            return refuse(found.cause, line, fault);
         }
     }
     match reading.take_end(fault) {
-        Err(cause) => refuse(cause, 0, fault),
+        Err(found) => refuse(found.cause, 0, fault),
         Ok(()) => Ok(reading),
     }
 }
@@ -127,13 +156,10 @@ fn refuse(cause: Cause, line: u16, fault: Fault) -> Result<Reading, Refusal> {
         (Fault::KindAndOrderExchanged, Cause::Order) => Cause::Kind,
         _ => cause,
     };
-    // Deaf terminals are a fault of the whole drawing, wherever its links end.
-    let whole = cause == Cause::Deaf && fault != Fault::DeafWithLine;
-    let line = if whole { 0 } else { line };
     Err(Refusal { cause, line })
 }
 
-/// The lowest of the causes that were found on a line.
+/// The first of the causes that were found on a line.
 fn lowest(found: &[(bool, Cause)]) -> Result<(), Cause> {
     let causes = found
         .iter()
@@ -143,71 +169,155 @@ fn lowest(found: &[(bool, Cause)]) -> Result<(), Cause> {
 }
 
 impl Reading {
-    fn take_line(&mut self, piece: &[u8], fault: Fault) -> Result<(), Cause> {
+    fn take_line(&mut self, piece: &[u8], fault: Fault) -> Result<(), Found> {
         let Some(frame) = frame_bytes(piece, fault) else {
-            if fault == Fault::DeafBeforeText && !piece.starts_with(b"02") {
-                self.links_end(fault)?;
+            if !piece.starts_with(b"02") && !piece.starts_with(b"07") {
+                self.ends_early(None, Cause::Text, fault)?;
             }
-            return Err(Cause::Text);
+            return Err(Cause::Text.into());
         };
         let kind = frame[0];
-        if kind > self.reader.last_kind() || !length_fits(kind, frame.len()) {
-            if fault == Fault::DeafBeforeKind && kind != 2 {
-                self.links_end(fault)?;
+        if !self.reader.knows(kind, fault) || !length_fits(kind, frame.len(), fault) {
+            if self.is_place(kind, fault) {
+                self.ends_early(Some(kind), Cause::Kind, fault)?;
             }
-            return Err(Cause::Kind);
+            return Err(Cause::Kind.into());
         }
         let rest: Vec<u32> = frame[1..].iter().map(|&byte| u32::from(byte)).collect();
-        let ended = if is_place(kind, fault) {
-            self.links_end(fault)
+        let ended = if self.is_place(kind, fault) {
+            self.plan_ends(Some(kind), fault)
+        } else if kind == 7 && fault == Fault::FirstGroupEndsLinks {
+            self.check_deaf(Some(kind), fault)
         } else {
             Ok(())
         };
-        match fault {
-            Fault::DeafAfterLine => self.take_frame(kind, &rest, fault).and(ended),
-            _ => ended.and_then(|()| self.take_frame(kind, &rest, fault)),
+        let after_line = match fault {
+            Fault::DeafAfterLine => Some(Cause::Deaf),
+            Fault::NoGroupAfterLine => Some(Cause::Group),
+            _ => None,
+        };
+        match ended {
+            Err(found) if Some(found.cause) != after_line => Err(found),
+            ended => {
+                self.take_frame(kind, &rest, fault)?;
+                ended
+            }
         }
     }
 
-    /// Cause 15. The links end at the first line that is none of them, so not after a bad set.
-    fn links_end(&self, fault: Fault) -> Result<(), Cause> {
-        let first = self.stage == Stage::Links || fault == Fault::DeafAtEndOnly;
-        let asked = first && self.reader.refuses_deaf(fault);
-        if asked && !self.file.plan.deaf(fault).is_empty() {
-            return Err(Cause::Deaf);
+    /// Whether a frame of this kind ends the plan: the first one after the head that is no link,
+    /// and no group either where groups are listed.
+    fn is_place(&self, kind: u8, fault: Fault) -> bool {
+        let in_plan = match kind {
+            2 => self.stage != Stage::Groups || fault != Fault::LateLinkEndsPlan,
+            7 if self.file.plan.bound.has_groups() => true,
+            7 => fault == Fault::GroupBesideNumberNoPlace,
+            _ => false,
+        };
+        matches!(self.stage, Stage::Links | Stage::Groups) && !in_plan
+    }
+
+    /// Where the plan ends, at a frame or at the end of the file: cause 17 of a plan that has ff
+    /// for f and no group, then cause 15.
+    fn plan_ends(&self, at: Option<u8>, fault: Fault) -> Result<(), Found> {
+        if fault == Fault::NoGroupAfterDeaf {
+            self.check_deaf(at, fault)?;
+        }
+        self.check_no_group(at, fault)?;
+        self.check_deaf(at, fault)
+    }
+
+    /// The planted faults that look for these before the causes 1 and 2 of the line.
+    fn ends_early(&self, at: Option<u8>, before: Cause, fault: Fault) -> Result<(), Found> {
+        match (fault, before) {
+            (Fault::DeafBeforeText, Cause::Text) => self.check_deaf(at, fault),
+            (Fault::DeafBeforeKind, Cause::Kind) => self.check_deaf(at, fault),
+            (Fault::NoGroupBeforeText, Cause::Text) => self.check_no_group(at, fault),
+            (Fault::NoGroupBeforeKind, Cause::Kind) => self.check_no_group(at, fault),
+            _ => Ok(()),
+        }
+    }
+
+    fn check_no_group(&self, at: Option<u8>, fault: Fault) -> Result<(), Found> {
+        let bound = &self.file.plan.bound;
+        let none = bound.has_groups() && bound.number == 0;
+        let here = match fault {
+            Fault::NoGroupAtEndOnly => at.is_none(),
+            _ => self.stage == Stage::Links,
+        };
+        if here && none && self.reader.refuses_no_group(fault) {
+            return Err(Found {
+                cause: Cause::Group,
+                whole: fault != Fault::NoGroupWithLine,
+            });
         }
         Ok(())
     }
 
-    /// The end of the file: it may be where the links end, and a frame may be missing.
-    fn take_end(&self, fault: Fault) -> Result<(), Cause> {
-        let missing = if self.reader == Reader::Run && self.stage != Stage::Words {
-            Err(Cause::Order)
-        } else {
-            Ok(())
+    fn check_deaf(&self, at: Option<u8>, fault: Fault) -> Result<(), Found> {
+        let open = matches!(self.stage, Stage::Links | Stage::Groups);
+        let here = match fault {
+            Fault::DeafAtEndOnly => at.is_none(),
+            Fault::DeafAtBadSetOnly => open && matches!(at, None | Some(3)),
+            _ => open,
         };
-        let ended = self.links_end(fault);
-        match fault {
-            Fault::MissingBeforeDeaf => missing.and(ended),
-            _ => ended.and(missing),
+        let groups = self.file.plan.bound.has_groups();
+        let passed_over = groups && fault == Fault::DeafNotWithGroups;
+        let asked = here && self.reader.refuses_deaf(fault) && !passed_over;
+        if asked && !self.file.plan.deaf(fault).is_empty() {
+            return Err(Found {
+                cause: Cause::Deaf,
+                whole: fault != Fault::DeafWithLine,
+            });
+        }
+        Ok(())
+    }
+
+    /// The end of the file: it may be where the plan ends, and a frame may be missing.
+    fn take_end(&self, fault: Fault) -> Result<(), Found> {
+        let missing = self.reader == Reader::Run && self.stage != Stage::Words;
+        let ended = self.plan_ends(None, fault);
+        let after_missing = match fault {
+            Fault::MissingBeforeDeaf => Some(Cause::Deaf),
+            Fault::MissingBeforeNoGroup => Some(Cause::Group),
+            _ => None,
+        };
+        match ended {
+            Err(found) if Some(found.cause) != after_missing => Err(found),
+            _ if missing => Err(Cause::Order.into()),
+            ended => ended,
         }
     }
 
     fn take_frame(&mut self, kind: u8, rest: &[u32], fault: Fault) -> Result<(), Cause> {
+        let late_link = fault == Fault::LinkAfterGroupAccepted;
         match (self.stage, kind) {
-            (Stage::Head, 1) => self.take_head(rest),
+            (Stage::Head, 1) => self.take_head(rest, fault),
             (Stage::Links, 2) => self.take_link(rest, fault),
-            (Stage::Links, 3) => self.take_bad_set(rest, fault),
+            (Stage::Groups, 2) if late_link => self.take_link(rest, fault),
+            (Stage::Links | Stage::Groups, 7) => self.take_group(rest, fault),
+            (Stage::Start, 7) if fault == Fault::GroupAfterBadSetAccepted => {
+                self.take_group(rest, fault)?;
+                self.stage = Stage::Start;
+                Ok(())
+            }
+            (Stage::Links | Stage::Groups, 3) => self.take_bad_set(rest, fault),
             (Stage::Start, 4) => self.take_start(rest, fault),
             (Stage::Words, 5) => self.take_word(rest),
             _ => Err(Cause::Order),
         }
     }
 
-    fn take_head(&mut self, rest: &[u32]) -> Result<(), Cause> {
-        let (n, source, f) = (rest[0], rest[1], rest[2]);
-        lowest(&[(!head_in_range(n, source, f), Cause::Head)])?;
-        self.file.plan = Plan::new(n, source, f);
+    fn take_head(&mut self, rest: &[u32], fault: Fault) -> Result<(), Cause> {
+        let (n, source, number) = (rest[0], rest[1], rest[2]);
+        let listed = number == u32::from(GROUPS_LISTED) && fault != Fault::HeadOfGroupsRefused;
+        let bound = if listed {
+            Bound::groups(&[])
+        } else {
+            Bound::f(number)
+        };
+        lowest(&[(!head_in_range(n, source, &bound), Cause::Head)])?;
+        self.file.plan = Plan::with(n, source, bound);
         self.stage = Stage::Links;
         Ok(())
     }
@@ -221,13 +331,50 @@ impl Reading {
         Ok(())
     }
 
+    /// Groups stand only where groups are listed instead of f.
+    fn take_group(&mut self, rest: &[u32], fault: Fault) -> Result<(), Cause> {
+        let plan = &mut self.file.plan;
+        let group = match fault {
+            Fault::GroupHighByteIgnored => named_set(&[0, rest[1], rest[2]]),
+            Fault::GroupLowByteFirst => named_set(&[rest[2], rest[1], rest[0]]),
+            _ => named_set(rest),
+        };
+        let out_of_order = !plan.bound.has_groups();
+        let sixteen = plan.bound.has_groups() && plan.bound.number >= MOST_GROUPS;
+        let too_many = sixteen && fault != Fault::SeventeenthGroupAccepted;
+        let wrong = !group_allowed(plan.n, plan.source, &group, fault);
+        let twice = plan.bound.listed().contains(&group);
+        if wrong && fault == Fault::GroupBeforeOrder {
+            return Err(Cause::Group);
+        }
+        lowest(&[
+            (wrong || too_many, Cause::Group),
+            (out_of_order, Cause::Order),
+            (twice && fault == Fault::GroupTwiceRefused, Cause::Group),
+            (
+                group.is_empty() && fault == Fault::EmptyGroupRefused,
+                Cause::Group,
+            ),
+        ])?;
+        self.stage = Stage::Groups;
+        let dropped = match fault {
+            Fault::GroupTwiceDropped => twice,
+            Fault::EmptyGroupDropped => group.is_empty(),
+            _ => false,
+        };
+        if !dropped {
+            plan.bound.add(group);
+        }
+        Ok(())
+    }
+
     fn take_bad_set(&mut self, rest: &[u32], fault: Fault) -> Result<(), Cause> {
         let plan = &self.file.plan;
-        let bad = set_of((rest[0] * 256 + rest[1]) * 256 + rest[2]);
+        let bad = named_set(rest);
         if !members_allowed(plan, &bad, fault) {
             return Err(Cause::BadSetMember);
         }
-        if !bound_holds(plan, &Neighbours::of(plan), &bad, fault) {
+        if !bound_holds(plan, &bad, fault) {
             return Err(Cause::BadSetBound);
         }
         self.file.bad = bad;
@@ -278,21 +425,19 @@ fn rounds_of(named: Option<u32>, terminals: u32, fault: Fault) -> u32 {
     }
 }
 
-/// Whether a frame of this kind ends the links: every one but a link itself.
-fn is_place(kind: u8, fault: Fault) -> bool {
-    match fault {
-        Fault::DeafAtEndOnly => false,
-        Fault::DeafAtBadSetOnly => kind == 3,
-        _ => kind != 2,
-    }
+/// The set that three bytes stand for, the high byte first.
+fn named_set(bytes: &[u32]) -> Set {
+    set_of((bytes[0] * 256 + bytes[1]) * 256 + bytes[2])
 }
 
-fn length_fits(kind: u8, length: usize) -> bool {
+fn length_fits(kind: u8, length: usize, fault: Fault) -> bool {
     match kind {
         1 | 3 => length == 4,
         2 => length == 3,
         4 => length == 3 || length == 4,
         5 => length == 6,
+        7 if fault == Fault::GroupLengthNotChecked => length >= 4,
+        7 => length == 4,
         _ => false,
     }
 }

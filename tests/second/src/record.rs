@@ -6,21 +6,31 @@
 //! A record is its state (0 waiting, 1 taken), the round of taking, the value (2), the round, and
 //! 20 rows. A row is its count, how many places follow, and these (2 each): all up to the last
 //! that is not 0.
+//!
+//! A bound is its kind (0 for f, 1 for groups), its number (f, or the count of groups), how many
+//! places follow, and these (4 each): all up to the last that is not 0. A plan is n, source, a bound
+//! and 20 rows (4 each). In a call the numbers have one byte, in an answer two.
 
 use crate::characters;
+use crate::damage::plant;
 use crate::draft::{join, plan_draft, run_draft, Draft, Manner};
 use crate::faults::Fault;
 use crate::generate::{case, edge_run, turning_run, Kind, SORTS, VALID_SORTS};
+use crate::grouping::{group_thinly, group_up, maybe_grouped};
+use crate::groups::{Bound, Sort};
 use crate::output::{archive_answer, digits, refusal_line, run_answer, verdict_answer};
 use crate::place::{placed, THERE};
 use crate::plan::{number_of, set_of, write_plan, Cause, Plan, Set};
-use crate::plans::{any_plan, deaf_plan, deafen, thin_plan};
+use crate::plans::{deaf_plan, deafen, deep_plan, mend, strong_plan, thin_plan, weak_plan};
 use crate::reader::{read_archive, read_run, Refusal, RunFile};
+use crate::records::{
+    break_groups, break_plan, some_bad_set, some_plan, some_set, some_sets, WAYS,
+};
 use crate::rng::Rng;
 use crate::run::{run, Order};
 use crate::step::{step, Record, Row, State, PLACES, ROWS};
 use crate::steps::{step_case, StepCase};
-use crate::verdict::{fault_cause, verdict, witness_check};
+use crate::verdict::{fault_cause, witness_check};
 use std::fs;
 use std::io;
 use std::ops::RangeInclusive;
@@ -35,7 +45,7 @@ const MARK_WORD: u16 = 0x5a5a;
 /// Places in the list of words that the reader of run files is lent.
 const WORD_PLACES: usize = 16_000;
 /// The longest list that `replay` lends for a plan's text.
-const LONGEST_TEXT: usize = 2_800;
+const LONGEST_TEXT: usize = 3_000;
 
 /// The longest body that `replay` reads, and the most digits that it prints in a line, with some
 /// to spare.
@@ -72,11 +82,11 @@ pub fn write(calls_file: &Path, lines_file: &Path) -> io::Result<()> {
 type Maker = fn(u64, u64) -> Call;
 
 /// Every kind of call, and how many of it.
-const KINDS: [(Maker, u64); 20] = [
+const KINDS: [(Maker, u64); 25] = [
     (verdict_call, 600),
     (run_call, 600),
     (edge_call, 150),
-    (turning_call, 150),
+    (turning_call, 200),
     (read_call, 300),
     (write_call, 200),
     (step_call, 1500),
@@ -91,8 +101,13 @@ const KINDS: [(Maker, u64); 20] = [
     (run_character_call, characters::FILES),
     (archive_call, 300),
     (open_call, 300),
-    (placed_plan_call, 66),
-    (placed_run_call, 88),
+    (placed_plan_call, 165),
+    (placed_run_call, 165),
+    (grouped_call, 150),
+    (longest_text_call, 3),
+    (wrong_groups_call, 84),
+    (seldom_call, 54),
+    (seldom_read_call, 36),
 ];
 
 /// The calls of each kind. Of the long ones a few are enough.
@@ -152,8 +167,8 @@ fn written(number: u8, length: usize, list: &[u8]) -> Vec<u8> {
     [&[number], &pair(length as u16)[..], list].concat()
 }
 
-/// A wrong file's number comes before that of a short list: it is lower, or it is 15, which stands
-/// before the lower ones of its place. The file's line of text is put where there is room for it.
+/// A wrong file's number comes before that of a short list: it is lower, or it is 15 or 17, which
+/// stand before the lower ones of their places. The file's line of text is put where there is room for it.
 fn answered(answer: Result<Vec<u8>, Refusal>, room: usize) -> Vec<u8> {
     let file = answer
         .as_ref()
@@ -244,6 +259,20 @@ fn turning_call(seed: u64, index: u64) -> Call {
     whole_call(RUN, join(&turning_run(&mut rng, n, rounds).lines))
 }
 
+/// Small plans with groups, with room for the whole answer; by turns sure to pass with f, or not.
+fn grouped_call(seed: u64, index: u64) -> Call {
+    let mut rng = rng_for(seed, b'g', index);
+    let n = rng.between(3, 9);
+    let mut plan = match index % 3 {
+        0 => strong_plan(&mut rng, n),
+        1 => deep_plan(&mut rng, n),
+        _ => weak_plan(&mut rng, n),
+    };
+    mend(&mut rng, &mut plan);
+    group_up(&mut rng, &mut plan);
+    whole_call(VERDICT, join(&plan_draft(plan).lines))
+}
+
 /// Every byte in the place of a digit, with room for the whole answer.
 fn verdict_character_call(_: u64, index: u64) -> Call {
     whole_call(VERDICT, characters::file(Kind::Verdict, index))
@@ -253,12 +282,17 @@ fn run_character_call(_: u64, index: u64) -> Call {
     whole_call(RUN, characters::file(Kind::Run, index))
 }
 
-/// All that can stand where the links end, in turn, mostly with a deaf plan.
+/// All that can stand where a plan ends, in turn, mostly with a deaf plan.
 fn placed_file(kind: Kind, seed: u64, letter: u8, index: u64) -> Vec<u8> {
     let mut rng = rng_for(seed, letter, index);
-    let there = THERE[(index % THERE.len() as u64) as usize];
-    let deaf = rng.chance(75);
-    placed(&mut rng, kind, there, deaf)
+    let all = THERE.len() as u64;
+    let there = THERE[(index % all) as usize];
+    // By turns: deaf, no group where groups are promised, deaf, and nobody deaf.
+    let turn = index / all % 4;
+    let deaf = turn.is_multiple_of(2) || (turn == 1 && rng.chance(50));
+    let no_group = turn == 1;
+    let listing = there.listing(&mut rng, no_group);
+    placed(&mut rng, kind, there, deaf, listing)
 }
 
 fn placed_plan_call(seed: u64, index: u64) -> Call {
@@ -269,17 +303,59 @@ fn placed_run_call(seed: u64, index: u64) -> Call {
     whole_call(RUN, placed_file(Kind::Run, seed, b'2', index))
 }
 
+/// A run file that is refused for this cause. Any earlier one would hide it.
+fn late_file(rng: &mut Rng, cause: u32) -> Vec<u8> {
+    loop {
+        let n = rng.between(3, 6);
+        let draft = turning_run(rng, n, Some(4));
+        let mut lines = draft.lines.clone();
+        plant(rng, Kind::Run, &draft, &mut lines, cause);
+        let text = join(&lines);
+        if read_run(&text, Fault::None).is_err_and(|no| u32::from(no.cause.number()) == cause) {
+            return text;
+        }
+    }
+}
+
+/// Causes that the damaged files seldom reach, in turn.
+const SELDOM: [u32; 9] = [11, 17, 11, 8, 7, 11, 6, 9, 4];
+
+fn seldom_file(seed: u64, letter: u8, index: u64) -> Vec<u8> {
+    let cause = SELDOM[(index % SELDOM.len() as u64) as usize];
+    late_file(&mut rng_for(seed, letter, index), cause)
+}
+
+fn seldom_call(seed: u64, index: u64) -> Call {
+    whole_call(RUN, seldom_file(seed, b'3', index))
+}
+
+fn seldom_read_call(seed: u64, index: u64) -> Call {
+    read_of(seldom_file(seed, b'4', index), WORD_PLACES)
+}
+
 fn write_call(seed: u64, index: u64) -> Call {
     let mut rng = rng_for(seed, b'p', index);
     let plan = some_plan(&mut rng, if index.is_multiple_of(20) { 20 } else { 7 });
-    let length = write_plan(&plan, &mut [0; LONGEST_TEXT]).unwrap_or(9);
-    let lent = room_for(&mut rng, length, LONGEST_TEXT);
+    let length = write_plan(&plan, &mut [0; LONGEST_TEXT], Fault::None).unwrap_or(9);
+    write_into(&plan, room_for(&mut rng, length, LONGEST_TEXT))
+}
+
+/// The longest text there is, into a list that just has room, is one short, or is longer.
+fn longest_text_call(_: u64, index: u64) -> Call {
+    let all_but_source: Set = (1..20).collect();
+    let mut plan = Plan::with(20, 0, Bound::groups(&vec![all_but_source; 16]));
+    let pairs = (0..400).map(|place| (place / 20, place % 20));
+    plan.links = pairs.filter(|(from, to)| from != to).collect();
+    write_into(&plan, [2_813, 2_812, LONGEST_TEXT][index as usize])
+}
+
+fn write_into(plan: &Plan, lent: usize) -> Call {
     let mut list = vec![MARK; lent];
-    let answer = write_plan(&plan, &mut list);
+    let answer = write_plan(plan, &mut list, Fault::None);
     Call {
         kind: b'p',
         lent,
-        body: plan_bytes(&plan),
+        body: plan_bytes(plan),
         line: written(number(answer.map(|_| ())), answer.unwrap_or(0), &list),
     }
 }
@@ -294,9 +370,11 @@ fn archive_file(seed: u64, letter: u8, index: u64) -> Vec<u8> {
     match index % 3 {
         0 => placed_file(Kind::Verdict, seed, letter, turn),
         1 => {
-            let plan = deaf_plan(&mut rng, 2 + (turn % 19) as u32);
+            let mut plan = deaf_plan(&mut rng, 2 + (turn % 19) as u32);
+            maybe_grouped(&mut rng, &mut plan);
+            let links = plan.links.len();
             let mut lines = plan_draft(plan).lines;
-            rng.shuffle(&mut lines[1..]);
+            rng.shuffle(&mut lines[1..=links]);
             join(&lines)
         }
         _ => {
@@ -316,17 +394,12 @@ fn archive_call(seed: u64, index: u64) -> Call {
 fn open_call(seed: u64, index: u64) -> Call {
     let body = archive_file(seed, b'd', index);
     let line = match read_archive(&body, Fault::None) {
-        Ok(filed) => [
-            &[0; 3],
-            &head_bytes(&filed.plan)[..],
-            &row_bytes(&filed.plan),
-            &quad(&filed.deaf),
-        ]
-        .concat(),
+        Ok(filed) => [&[0; 3], &answered_plan(&filed.plan)[..], &quad(&filed.deaf)].concat(),
         Err(refusal) => [
             &[refusal.cause.number()],
             &pair(refusal.line)[..],
-            &[0; 6 + 80 + 4],
+            &NO_PLAN,
+            &[0; 4],
         ]
         .concat(),
     };
@@ -352,7 +425,13 @@ fn read_call(seed: u64, index: u64) -> Call {
     } else {
         WORD_PLACES
     };
-    // A file's own causes all come before that of the list's length, 15 with those of its place.
+    read_of(body, lent)
+}
+
+/// A file for the reader, and a list of so many places for its words.
+fn read_of(body: Vec<u8>, lent: usize) -> Call {
+    // A file's own causes all come before that of the list's length, 15 and 17 with those of their
+    // places.
     let line = match read_run(&body, Fault::None) {
         Err(refusal) => refused_file(refusal.cause, refusal.line, lent),
         Ok(_) if lent != WORD_PLACES => refused_file(Cause::Length, 0, lent),
@@ -368,16 +447,21 @@ fn read_call(seed: u64, index: u64) -> Call {
 
 /// Number and line, zeros for all that is read, and the list as it was.
 fn refused_file(cause: Cause, line: u16, lent: usize) -> Vec<u8> {
-    let nothing = [0; 6 + 80 + 4 + 2 + 1];
     let marks = (lent as u32).to_be_bytes();
-    [&[cause.number()], &pair(line)[..], &nothing, &marks].concat()
+    [
+        &[cause.number()],
+        &pair(line)[..],
+        &NO_PLAN,
+        &[0; 4 + 2 + 1],
+        &marks,
+    ]
+    .concat()
 }
 
 fn accepted_file(file: &RunFile) -> Vec<u8> {
     let plan = &file.plan;
     let mut line = vec![0; 3];
-    line.extend(head_bytes(plan));
-    line.extend(row_bytes(plan));
+    line.extend(answered_plan(plan));
     line.extend(quad(&file.bad));
     line.extend(pair(file.value));
     line.push(file.rounds as u8);
@@ -404,10 +488,13 @@ fn words_of(file: &RunFile) -> Vec<u16> {
 
 // ---- plans and sets
 
-/// The three numbers of the head in two bytes each.
-fn head_bytes(plan: &Plan) -> Vec<u8> {
-    let head = [plan.n, plan.source, plan.f].into_iter();
-    head.flat_map(|number| pair(number as u16)).collect()
+/// Beside a refusal: n, source, kind, number, listed places and rows are all 0.
+const NO_PLAN: [u8; 2 + 2 + 1 + 2 + 1 + 80] = [0; 88];
+
+/// The places of a bound, after how many they are.
+fn place_bytes(bound: &Bound) -> Vec<u8> {
+    let places = (0..bound.used()).flat_map(|place| quad(&bound.at(place)));
+    [bound.used() as u8].into_iter().chain(places).collect()
 }
 
 fn row_bytes(plan: &Plan) -> Vec<u8> {
@@ -416,45 +503,41 @@ fn row_bytes(plan: &Plan) -> Vec<u8> {
         .collect()
 }
 
+/// A plan in an answer, its numbers in two bytes.
+fn answered_plan(plan: &Plan) -> Vec<u8> {
+    [
+        &answered_head(plan.n, plan.source, &plan.bound)[..],
+        &row_bytes(plan),
+    ]
+    .concat()
+}
+
+fn answered_head(n: u32, source: u32, bound: &Bound) -> Vec<u8> {
+    [
+        &pair(n as u16)[..],
+        &pair(source as u16),
+        &[u8::from(bound.has_groups())],
+        &pair(bound.number as u16),
+        &place_bytes(bound),
+    ]
+    .concat()
+}
+
+/// n, source and a bound in a call.
+fn head_bytes(n: u32, source: u32, bound: &Bound) -> Vec<u8> {
+    let numbers = [
+        n as u8,
+        source as u8,
+        u8::from(bound.has_groups()),
+        bound.number as u8,
+    ];
+    [&numbers[..], &place_bytes(bound)].concat()
+}
+
+/// A plan in a call.
 fn plan_bytes(plan: &Plan) -> Vec<u8> {
-    let head = [plan.n as u8, plan.source as u8, plan.f as u8];
-    [&head[..], &row_bytes(plan)].concat()
-}
-
-/// A plan of at most so many terminals, one in four with a wrong number in it.
-fn some_plan(rng: &mut Rng, most: u32) -> Plan {
-    let n = rng.between(2, most);
-    let mut plan = any_plan(rng, n);
-    if rng.chance(25) {
-        break_plan(rng, &mut plan);
-    }
-    plan
-}
-
-fn break_plan(rng: &mut Rng, plan: &mut Plan) {
-    let n = plan.n;
-    let outside = rng.between(n, 31);
-    match rng.below(6) {
-        0 => plan.n = rng.pick(&[0, 1, 21, 255]),
-        1 => plan.source = rng.pick(&[n, 255]),
-        2 => plan.f = rng.pick(&[n, 255]),
-        3 => drop(plan.links.insert((outside, rng.between(0, n - 1)))),
-        4 if n < 20 => drop(plan.links.insert((0, rng.between(n, 19)))),
-        _ => {
-            let both = rng.between(0, n - 1);
-            plan.links.insert((both, both));
-        }
-    }
-}
-
-/// Any terminals of the site; seldom one that the site lacks.
-fn some_set(rng: &mut Rng, n: u32) -> Set {
-    let share = rng.pick(&[5, 20, 50, 90]);
-    let mut set: Set = (0..n.min(32)).filter(|_| rng.chance(share)).collect();
-    if rng.chance(8) {
-        set.insert(rng.between(n.min(31), 31));
-    }
-    set
+    let head = head_bytes(plan.n, plan.source, &plan.bound);
+    [head, row_bytes(plan)].concat()
 }
 
 // ---- the two checks
@@ -462,20 +545,8 @@ fn some_set(rng: &mut Rng, n: u32) -> Set {
 fn witness_call(seed: u64, index: u64) -> Call {
     let mut rng = rng_for(seed, b'w', index);
     let plan = some_plan(&mut rng, 9);
-    let mut sets = [Set::new(), Set::new(), Set::new()];
-    match verdict(&plan, Fault::None) {
-        Ok(found) if found.fails => sets = [found.bad, found.reached, found.left],
-        _ => {
-            for terminal in 0..plan.n.min(20) {
-                sets[rng.below(3)].insert(terminal);
-            }
-        }
-    }
-    if rng.chance(50) {
-        spoil_sets(&mut rng, &plan, &mut sets);
-    }
-    let [bad, reached, left] = &sets;
-    let answer = match witness_check(&plan, bad, reached, left) {
+    let [bad, reached, left] = &some_sets(&mut rng, &plan);
+    let answer = match witness_check(&plan, bad, reached, left, Fault::None) {
         Ok(accepted) => u8::from(!accepted),
         Err(cause) => cause.number(),
     };
@@ -493,35 +564,31 @@ fn witness_call(seed: u64, index: u64) -> Call {
     }
 }
 
-/// One terminal put in, taken out or moved, or one that the site lacks.
-fn spoil_sets(rng: &mut Rng, plan: &Plan, sets: &mut [Set; 3]) {
-    let terminal = rng.between(0, plan.n.clamp(1, 20) - 1);
-    let (one, other) = (rng.below(3), rng.below(3));
-    match rng.below(4) {
-        0 => drop(sets[one].insert(terminal)),
-        1 => drop(sets[one].remove(&terminal)),
-        2 => {
-            sets.iter_mut().for_each(|set| {
-                set.remove(&terminal);
-            });
-            sets[other].insert(terminal);
-        }
-        _ => drop(sets[one].insert(rng.between(plan.n.min(31), 31))),
-    }
-}
-
 fn fault_set_call(seed: u64, index: u64) -> Call {
     let mut rng = rng_for(seed, b'c', index);
     let plan = some_plan(&mut rng, 20);
-    let mut bad = some_set(&mut rng, plan.n);
-    if rng.chance(70) {
-        bad.remove(&plan.source);
-    }
+    let bad = some_bad_set(&mut rng, &plan);
+    fault_set(&plan, &bad)
+}
+
+/// Each way in which groups are wrong, in turn, beside any bad set.
+fn wrong_groups_call(seed: u64, index: u64) -> Call {
+    let mut rng = rng_for(seed, b'y', index);
+    let n = rng.between(2, 9);
+    let mut plan = weak_plan(&mut rng, n);
+    group_up(&mut rng, &mut plan);
+    let bad = some_bad_set(&mut rng, &plan);
+    let way = index as usize % WAYS;
+    break_groups(&mut rng, &mut plan.bound, n, plan.source, way);
+    fault_set(&plan, &bad)
+}
+
+fn fault_set(plan: &Plan, bad: &Set) -> Call {
     Call {
         kind: b'c',
         lent: 0,
-        body: [&plan_bytes(&plan)[..], &quad(&bad)].concat(),
-        line: vec![number(fault_cause(&plan, &bad))],
+        body: [&plan_bytes(plan)[..], &quad(bad)].concat(),
+        line: vec![number(fault_cause(plan, bad, Fault::None))],
     }
 }
 
@@ -548,12 +615,8 @@ fn step_call(seed: u64, index: u64) -> Call {
         record,
         said,
     } = step_case(seed, index);
-    let mut body = vec![
-        place.n as u8,
-        place.source as u8,
-        place.f as u8,
-        place.number as u8,
-    ];
+    let mut body = head_bytes(place.n, place.source, &place.bound);
+    body.push(place.number as u8);
     body.extend(quad(&place.heard));
     body.extend(record_bytes(&record));
     body.extend(said.iter().flat_map(|&word| pair(word)));
@@ -670,7 +733,9 @@ fn break_site(rng: &mut Rng, of: &mut Site) {
         3 => {
             of.bad = some_set(rng, of.plan.n);
             of.bad.remove(&of.plan.source);
-            of.plan.f = 0;
+            if !of.plan.bound.has_groups() {
+                of.plan.bound = Bound::f(0);
+            }
         }
         4 => of.value = 0,
         5 => of.rounds = rng.pick(&[41, 255]),
@@ -681,14 +746,25 @@ fn break_site(rng: &mut Rng, of: &mut Site) {
     }
 }
 
-/// A sample of the whole space of sites with three terminals: any links, f, bad set and script
-/// over silence, the value and a lie, for two rounds.
+/// A sample of the whole space of sites with three terminals: any links, f or two groups, bad set
+/// and script over silence, the value and a lie, for two rounds.
 fn small_site_call(seed: u64, index: u64) -> Call {
     let mut rng = rng_for(seed, b'x', index);
     let mut plan = Plan::new(3, rng.between(0, 2), rng.between(0, 2));
     for (from, to) in [(0, 1), (0, 2), (1, 0), (1, 2), (2, 0), (2, 1)] {
         if rng.chance(60) {
             plan.links.insert((from, to));
+        }
+    }
+    if rng.chance(40) {
+        let groups = [set_of(rng.between(0, 7)), set_of(rng.between(0, 7))];
+        let count = rng.pick(&[1, 2, 2]);
+        plan.bound = Bound::groups(&groups[..count]);
+        // Seldom a group that names the source.
+        for place in (0..count as u32).filter(|_| rng.chance(95)) {
+            let mut group = plan.bound.at(place);
+            group.remove(&plan.source);
+            plan.bound.put(place, group);
         }
     }
     let mut bad = set_of(rng.between(0, 7));
@@ -727,8 +803,11 @@ fn flood_site_call(seed: u64, index: u64) -> Call {
     let mut rng = rng_for(seed, b'o', index);
     drafted_site(|| {
         let n = rng.between(4, 6);
-        let plan = thin_plan(&mut rng, n);
-        let rounds = rng.pick(&[39, 40]);
+        let mut plan = thin_plan(&mut rng, n);
+        if index % 3 == 2 {
+            group_thinly(&mut rng, &mut plan);
+        }
+        let rounds = 39 + (index % 2) as u32;
         run_draft(&mut rng, plan, Some(rounds), Manner::Flood)
     })
 }
@@ -788,8 +867,9 @@ fn lent_call(seed: u64, index: u64) -> Call {
 
 // ---- the step as a board calls it
 
-/// Board calls as lines of digits, and the lines that answer them: n, source, f and own number in
-/// two bytes, the heard set in four, the record, and what was said.
+/// Board calls as lines of digits, and the lines that answer them: n and source in two bytes, the
+/// bound as in an answer's plan, own number in two bytes, the heard set in four, the record, and
+/// what was said.
 pub fn write_boards(seed: u64, count: u64, calls: &Path, lines: &Path) -> io::Result<()> {
     let (mut input, mut output) = (Vec::new(), Vec::new());
     for index in 0..count {
@@ -807,19 +887,21 @@ pub fn write_boards(seed: u64, count: u64, calls: &Path, lines: &Path) -> io::Re
 fn board_call(seed: u64, index: u64) -> (Vec<u8>, Vec<u8>) {
     let mut rng = rng_for(seed, b'b', index);
     let StepCase {
-        place,
+        mut place,
         record,
         said,
     } = step_case(seed, index);
+    // A board that is told f has no place for a group.
+    if place.bound.sort == Sort::Number {
+        place.bound = Bound::f(place.bound.number);
+    }
     let mut bytes = record_bytes(&record);
     let broken = rng.chance(20);
     if broken {
         break_state(&mut rng, &mut bytes);
     }
-    let mut call = Vec::new();
-    for head in [place.n, place.source, place.f, place.number] {
-        call.extend(pair(head as u16));
-    }
+    let mut call = answered_head(place.n, place.source, &place.bound);
+    call.extend(pair(place.number as u16));
     call.extend(quad(&place.heard));
     call.extend(&bytes);
     call.extend(said.iter().flat_map(|&word| pair(word)));

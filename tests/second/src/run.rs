@@ -1,9 +1,10 @@
 //! The run of a site against scripted liars.
 
 use crate::faults::Fault;
-use crate::plan::{bound_holds, members_allowed, Cause, Neighbours, Plan, Set};
+use crate::plan::{Cause, Plan, Set};
 use crate::reader::RunFile;
 use crate::step::{step, Place, Record, State};
+use crate::verdict::fault_cause;
 use std::collections::BTreeMap;
 
 /// The last round that run and step play.
@@ -49,16 +50,10 @@ pub fn run(order: &Order, records: &mut [Record], fault: Fault) -> Result<(), Ca
     Ok(())
 }
 
-/// Causes 4, 5, 7, 8, 9 and 12, in this order.
+/// Causes 4, 5, 17, 7, 8, 9 and 12, in this order.
 fn check(order: &Order, records: usize, fault: Fault) -> Result<(), Cause> {
     let plan = order.plan;
-    plan.check()?;
-    if !members_allowed(plan, order.bad, fault) {
-        return Err(Cause::BadSetMember);
-    }
-    if !bound_holds(plan, &Neighbours::of(plan), order.bad, fault) {
-        return Err(Cause::BadSetBound);
-    }
+    fault_cause(plan, order.bad, fault)?;
     if order.value == 0 || order.rounds > last_round(fault) {
         return Err(Cause::Start);
     }
@@ -77,7 +72,7 @@ fn start(order: &Order) -> BTreeMap<u32, Player> {
         let place = Place {
             n: plan.n,
             source: plan.source,
-            f: plan.f,
+            bound: plan.bound.clone(),
             number,
             heard,
         };

@@ -1,6 +1,7 @@
 //! One terminal's round.
 
 use crate::faults::Fault;
+use crate::groups::{Bound, Rule};
 use crate::plan::{head_in_range, Cause, Set};
 use crate::run::last_round;
 use std::collections::{BTreeMap, BTreeSet};
@@ -71,6 +72,9 @@ impl Row {
     }
 }
 
+/// Who has each value.
+pub type Votes = BTreeMap<u16, Vec<u32>>;
+
 /// What a terminal keeps from round to round.
 #[derive(Clone, Debug, PartialEq, Eq)]
 pub struct Record {
@@ -79,7 +83,7 @@ pub struct Record {
     /// A row for each of the 20 terminals.
     pub notes: Vec<Row>,
     /// Votes beside those of the rows. Stays empty, save under the fault that counts words.
-    pub tally: BTreeMap<u16, u32>,
+    pub tally: Votes,
 }
 
 impl Record {
@@ -113,7 +117,7 @@ impl Record {
 pub struct Place {
     pub n: u32,
     pub source: u32,
-    pub f: u32,
+    pub bound: Bound,
     pub number: u32,
     pub heard: Set,
 }
@@ -142,14 +146,18 @@ pub fn step(
     Ok(after)
 }
 
-/// Causes 4, 5, 13 and 12, in this order.
+/// Causes 4, 5, 17, 13 and 12, in this order.
 fn check(place: &Place, record: &Record, said: &[u16], fault: Fault) -> Result<(), Cause> {
     let too_many = too_many_values(place, record, fault);
     if too_many && fault == Fault::CountsFirst {
         return Err(Cause::Record);
     }
-    if !head_in_range(place.n, place.source, place.f) {
+    if !head_in_range(place.n, place.source, &place.bound) {
         return Err(Cause::Head);
+    }
+    let groups = place.bound.check(place.n, place.source, fault);
+    if fault == Fault::GroupsBeforeLinkEnds {
+        groups?;
     }
     if place
         .heard
@@ -157,6 +165,9 @@ fn check(place: &Place, record: &Record, said: &[u16], fault: Fault) -> Result<(
         .any(|&other| other >= place.n || other == place.number)
     {
         return Err(Cause::LinkEnd);
+    }
+    if fault != Fault::GroupsAfterRecord {
+        groups?;
     }
     let odd_state = match record.state {
         State::Waiting => place.number == place.source,
@@ -169,6 +180,7 @@ fn check(place: &Place, record: &Record, said: &[u16], fault: Fault) -> Result<(
     if too_many && !(wrong_length && fault == Fault::LengthBeforeCounts) {
         return Err(Cause::Record);
     }
+    groups?;
     if wrong_length {
         return Err(Cause::Length);
     }
@@ -203,7 +215,7 @@ fn note(place: &Place, record: &mut Record, said: &[u16], fault: Fault) {
             continue;
         }
         if fault == Fault::WordsCounted && record.row(neighbour).noted().contains(&word) {
-            *record.tally.entry(word).or_insert(0) += 1;
+            record.tally.entry(word).or_default().push(neighbour);
         }
         note_word(record.row_mut(neighbour), word, fault);
     }
@@ -250,15 +262,14 @@ fn direct(place: &Place, record: &Record, fault: Fault) -> Option<u16> {
 }
 
 fn voted(place: &Place, record: &Record, fault: Fault) -> Option<u16> {
-    let needed = if fault == Fault::VotesWithoutOne {
-        place.f
-    } else {
-        place.f + 1
+    let rule = match fault {
+        Fault::VotesWithoutOne => Rule::of(&place.bound, fault).without_one(),
+        _ => Rule::of(&place.bound, fault),
     };
     let votes = votes(place, record, fault);
     let mut enough = votes
         .iter()
-        .filter(|(_, &count)| count >= needed)
+        .filter(|(_, voters)| rule.enough(voters, fault))
         .map(|(&value, _)| value);
     if fault == Fault::LargestValue {
         enough.next_back()
@@ -267,15 +278,15 @@ fn voted(place: &Place, record: &Record, fault: Fault) -> Option<u16> {
     }
 }
 
-/// How many heard neighbours have each value.
-fn votes(place: &Place, record: &Record, fault: Fault) -> BTreeMap<u16, u32> {
+/// The heard neighbours that have each value.
+fn votes(place: &Place, record: &Record, fault: Fault) -> Votes {
     let mut votes = record.tally.clone();
     for (neighbour, row) in (0..).zip(&record.notes) {
         let heard = place.heard.contains(&neighbour) || fault == Fault::UnheardCounted;
         let barred = fault == Fault::SourceRowNotCounted && neighbour == place.source;
         if heard && !barred {
             for value in said_values(row, fault) {
-                *votes.entry(value).or_insert(0) += 1;
+                votes.entry(value).or_default().push(neighbour);
             }
         }
     }

@@ -1,7 +1,10 @@
 //! Seeded calls of the step, right or wrong. They reach what no run shows: several values with
 //! enough votes, rows that no run leaves, wrong arguments.
 
+use crate::grouping::GROUPED;
+use crate::groups::{Bound, Sort, MOST_GROUPS};
 use crate::plan::Set;
+use crate::records::break_bound;
 use crate::rng::Rng;
 use crate::step::{Place, Record, Row, State, PLACES, ROWS};
 
@@ -44,6 +47,9 @@ pub fn step_case(seed: u64, index: u64) -> StepCase {
     if rng.chance(35) {
         break_step(&mut rng, &mut case);
     }
+    if case.place.bound.has_groups() && rng.chance(12) {
+        wrong_groups(&mut rng, &mut case.place);
+    }
     case
 }
 
@@ -59,13 +65,43 @@ fn some_place(rng: &mut Rng) -> Place {
     let heard: Set = (0..n)
         .filter(|&j| j != number && rng.chance(share))
         .collect();
+    let bound = if rng.chance(GROUPED) {
+        some_groups(rng, n, source, &heard)
+    } else {
+        Bound::f(f)
+    };
     Place {
         n,
         source,
-        f,
+        bound,
         number,
         heard,
     }
+}
+
+/// Groups of those that are heard, mostly, and of others.
+fn some_groups(rng: &mut Rng, n: u32, source: u32, heard: &Set) -> Bound {
+    if rng.chance(5) {
+        return Bound::groups(&[Set::new()]);
+    }
+    let count = rng.pick(&[1, 2, 2, 3, 3, 4, 6, MOST_GROUPS]);
+    let mut groups: Vec<Set> = Vec::new();
+    for _ in 0..count {
+        let mut members: Vec<u32> = (0..n).filter(|&member| member != source).collect();
+        rng.shuffle(&mut members);
+        members.sort_by_key(|member| !heard.contains(member) && rng.chance(85));
+        let any = rng.below(members.len() + 1);
+        let size = rng.pick(&[0, 1, 1, 2, 2, 3, 4, any]);
+        groups.push(members.into_iter().take(size).collect());
+    }
+    if rng.chance(20) {
+        // Nested in another.
+        let part = groups[0].iter().copied().filter(|_| rng.chance(60));
+        let part: Set = part.collect();
+        let last = groups.len() - 1;
+        groups[last] = part;
+    }
+    Bound::groups(&groups)
 }
 
 fn some_word(rng: &mut Rng) -> u16 {
@@ -147,8 +183,8 @@ fn over_full(rng: &mut Rng, round: u32) -> u32 {
 
 // ---- votes
 
-/// Lets f or f+1 heard neighbours have a value that the others lack, in their rows or by what
-/// they say; mostly for two values, and without a direct word.
+/// Lets heard neighbours that are just enough, or just not, have a value that the others lack, in
+/// their rows or by what they say; mostly for two values, and without a direct word.
 fn put_to_the_vote(rng: &mut Rng, case: &mut StepCase) {
     if rng.chance(60) {
         for neighbour in case.place.heard.clone() {
@@ -163,9 +199,46 @@ fn put_to_the_vote(rng: &mut Rng, case: &mut StepCase) {
         let mut voters: Vec<u32> = case.place.heard.iter().copied().collect();
         voters.retain(|&voter| voter != case.place.source || zero_first(case, voter));
         rng.shuffle(&mut voters);
-        let enough = case.place.f as usize + rng.below(2);
-        for &voter in voters.iter().take(enough) {
+        if rng.chance(50) {
+            // The source, which no group has, before others.
+            voters.sort_by_key(|&voter| voter != case.place.source);
+        }
+        for voter in edge_of(rng, &case.place.bound, voters) {
             vote(rng, case, voter, value);
+        }
+    }
+}
+
+/// So many of these that they are about enough: f or f+1; or those of one group, alone or with one
+/// other, or of two groups, or a few.
+fn edge_of(rng: &mut Rng, bound: &Bound, voters: Vec<u32>) -> Vec<u32> {
+    if bound.sort == Sort::Number {
+        let enough = bound.number as usize + rng.below(2);
+        return voters.into_iter().take(enough).collect();
+    }
+    let groups = bound.listed();
+    let (one, other) = (rng.below(groups.len()), rng.below(groups.len()));
+    let (mut inside, outside): (Vec<u32>, Vec<u32>) =
+        voters.iter().partition(|voter| groups[one].contains(voter));
+    match rng.below(7) {
+        0 => inside,
+        1 | 2 => {
+            inside.extend(outside.first());
+            inside
+        }
+        3 | 4 => {
+            let others = outside.iter().filter(|voter| groups[other].contains(voter));
+            inside.extend(others);
+            inside
+        }
+        5 => voters
+            .into_iter()
+            .take(rng.between(1, 2) as usize)
+            .collect(),
+        _ => {
+            inside.truncate(1);
+            inside.extend(outside.first());
+            inside
         }
     }
 }
@@ -218,11 +291,14 @@ fn hush_source(rng: &mut Rng, case: &mut StepCase) {
 fn break_step(rng: &mut Rng, case: &mut StepCase) {
     let n = case.place.n;
     for _ in 0..rng.between(1, 2) {
-        match rng.below(15) {
+        match rng.below(20) {
             0 => case.place.n = rng.pick(&[0, 1, 21]),
             1 => case.place.source = rng.pick(&[n, 255]),
-            2 => case.place.f = rng.pick(&[n, n + 1]),
-            3 => drop(
+            2 if case.place.bound.sort == Sort::Number => {
+                case.place.bound.number = rng.pick(&[n, n + 1]);
+            }
+            2 | 15..=17 => wrong_groups(rng, &mut case.place),
+            3 | 18 | 19 => drop(
                 case.place
                     .heard
                     .insert(rng.pick(&[n, 31, case.place.number])),
@@ -238,6 +314,10 @@ fn break_step(rng: &mut Rng, case: &mut StepCase) {
             _ => overfill(rng, case),
         }
     }
+}
+
+fn wrong_groups(rng: &mut Rng, place: &mut Place) {
+    break_bound(rng, &mut place.bound, place.n, place.source);
 }
 
 fn overfill(rng: &mut Rng, case: &mut StepCase) {

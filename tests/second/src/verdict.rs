@@ -1,7 +1,8 @@
 //! The verdict on a plan, its witness, and the check of a witness.
 
 use crate::faults::Fault;
-use crate::plan::{bound_holds, members_allowed, set_of, Cause, Neighbours, Plan, Set};
+use crate::groups::{part_of_one, Rule};
+use crate::plan::{bound_holds, members_allowed, rule_holds, set_of, Cause, Neighbours, Plan, Set};
 
 /// The answer on a plan: F, L and R of the witness, or three empty sets where it passes.
 #[derive(Clone, Debug, PartialEq, Eq)]
@@ -13,16 +14,17 @@ pub struct Verdict {
 }
 
 pub fn verdict(plan: &Plan, fault: Fault) -> Result<Verdict, Cause> {
-    plan.check()?;
-    let search = Search {
-        plan,
-        lists: Neighbours::of(plan),
-        fault,
-    };
-    let found = if fault == Fault::WitnessByNumber {
-        (0..2u32.pow(plan.n)).find_map(|number| search.witness_with(&set_of(number)))
-    } else {
-        (0..plan.n).find_map(|size| search.of_size(size, plan.n, &Set::new()))
+    plan.check(fault)?;
+    let search = Search::of(plan, fault);
+    let found = match fault {
+        Fault::WitnessByNumber => {
+            (0..2u32.pow(plan.n)).find_map(|number| search.witness_with(&set_of(number)))
+        }
+        Fault::WitnessOfFirstGroup if plan.bound.has_groups() => {
+            let groups = plan.bound.listed();
+            groups.iter().find_map(|group| search.least(group))
+        }
+        _ => search.least(&(0..plan.n).collect()),
     };
     let none = Verdict {
         fails: false,
@@ -35,18 +37,27 @@ pub fn verdict(plan: &Plan, fault: Fault) -> Result<Verdict, Cause> {
 
 /// Whether F is a bad set of the plan.
 pub fn is_bad_set(plan: &Plan, bad: &Set, fault: Fault) -> Result<bool, Cause> {
-    plan.check()?;
+    plan.check(fault)?;
     let inside = members_allowed(plan, bad, fault);
-    Ok(inside && bound_holds(plan, &Neighbours::of(plan), bad, fault))
+    Ok(inside && bound_holds(plan, bad, fault))
 }
 
-/// Why a plan or a proposed bad set is refused: 4, 5, 7 or 8.
-pub fn fault_cause(plan: &Plan, bad: &Set) -> Result<(), Cause> {
-    plan.check()?;
-    if !members_allowed(plan, bad, Fault::None) {
+/// Whether this is a bad set of a checked plan and leaves someone waiting.
+pub fn fails_with(plan: &Plan, bad: &Set) -> bool {
+    Search::of(plan, Fault::None).witness_with(bad).is_some()
+}
+
+/// Why a plan or a proposed bad set is refused: 4, 5, 17, 7 or 8.
+pub fn fault_cause(plan: &Plan, bad: &Set, fault: Fault) -> Result<(), Cause> {
+    plan.check_links(fault)?;
+    if fault != Fault::GroupsAfterBadSet {
+        plan.check_groups(fault)?;
+    }
+    if !members_allowed(plan, bad, fault) {
         return Err(Cause::BadSetMember);
     }
-    if !bound_holds(plan, &Neighbours::of(plan), bad, Fault::None) {
+    plan.check_groups(fault)?;
+    if !bound_holds(plan, bad, fault) {
         return Err(Cause::BadSetBound);
     }
     Ok(())
@@ -55,33 +66,72 @@ pub fn fault_cause(plan: &Plan, bad: &Set) -> Result<(), Cause> {
 struct Search<'a> {
     plan: &'a Plan,
     lists: Neighbours,
+    /// Which sets are bad.
+    rule: Rule,
+    /// Who joins L.
+    joining: Rule,
     fault: Fault,
 }
 
 impl Search<'_> {
+    fn of(plan: &Plan, fault: Fault) -> Search<'_> {
+        let rule = Rule::of(&plan.bound, fault);
+        let joining = match fault {
+            Fault::ClosureWithoutOne => rule.clone().without_one(),
+            _ => rule.clone(),
+        };
+        Search {
+            plan,
+            lists: Neighbours::of(plan),
+            rule,
+            joining,
+            fault,
+        }
+    }
+
+    /// The witness with fewest members of these, then the smallest number.
+    fn least(&self, of: &Set) -> Option<Verdict> {
+        (0..self.plan.n).find_map(|size| self.of_size(size, self.plan.n, of, &Set::new()))
+    }
+
     /// The first witness with `size` further members, all below `limit`.
     ///
     /// The greatest member decides first which of two sets is the smaller number, so going
     /// through it upwards lists the sets of one size as ascending numbers.
-    fn of_size(&self, size: u32, limit: u32, chosen: &Set) -> Option<Verdict> {
+    fn of_size(&self, size: u32, limit: u32, of: &Set, chosen: &Set) -> Option<Verdict> {
         if size == 0 {
             return self.witness_with(chosen);
         }
         (size - 1..limit)
-            .filter(|&top| top != self.plan.source)
+            .filter(|top| *top != self.plan.source && of.contains(top))
             .find_map(|top| {
                 let mut longer = chosen.clone();
                 longer.insert(top);
-                self.of_size(size - 1, top, &longer)
+                if self.outside_groups(&longer) {
+                    return None;
+                }
+                self.of_size(size - 1, top, of, &longer)
             })
     }
 
+    /// What is part of no group is part of no larger bad set either.
+    fn outside_groups(&self, chosen: &Set) -> bool {
+        let fault = match self.fault {
+            Fault::WholeGroupsOnly => Fault::None,
+            fault => fault,
+        };
+        match &self.rule {
+            Rule::AtMost(_) => false,
+            Rule::WithinOne(groups) => !part_of_one(groups, chosen, fault),
+        }
+    }
+
     fn witness_with(&self, bad: &Set) -> Option<Verdict> {
-        if bad.contains(&self.plan.source) || !bound_holds(self.plan, &self.lists, bad, self.fault)
-        {
+        let holds = rule_holds(&self.rule, self.plan, &self.lists, bad, self.fault);
+        if bad.contains(&self.plan.source) || !holds {
             return None;
         }
-        let reached = closure(self.plan, &self.lists, bad, self.fault);
+        let reached = self.closure(bad);
         if reached.len() + bad.len() == self.plan.n as usize {
             return None;
         }
@@ -94,33 +144,36 @@ impl Search<'_> {
             left,
         })
     }
-}
 
-/// L by a work list: each terminal that joins tells its hearers once.
-fn closure(plan: &Plan, lists: &Neighbours, bad: &Set, fault: Fault) -> Set {
-    let needed = if fault == Fault::ClosureWithoutOne {
-        plan.f
-    } else {
-        plan.f + 1
-    };
-    let mut told = vec![0; plan.n as usize];
-    let mut reached = Set::from([plan.source]);
-    let mut work = vec![plan.source];
-    while let Some(teller) = work.pop() {
-        for &hearer in &lists.hearers_of[teller as usize] {
-            told[hearer as usize] += 1;
-            let enough = teller == plan.source || told[hearer as usize] >= needed;
-            if enough && !bad.contains(&hearer) && reached.insert(hearer) {
-                work.push(hearer);
+    /// L by a work list: each terminal that joins tells its hearers once.
+    fn closure(&self, bad: &Set) -> Set {
+        let plan = self.plan;
+        let mut told_by: Vec<Vec<u32>> = vec![Vec::new(); plan.n as usize];
+        let mut reached = Set::from([plan.source]);
+        let mut work = vec![plan.source];
+        while let Some(teller) = work.pop() {
+            for &hearer in &self.lists.hearers_of[teller as usize] {
+                let told_by = &mut told_by[hearer as usize];
+                told_by.push(teller);
+                let joins = teller == plan.source || self.joining.enough(told_by, self.fault);
+                if joins && !bad.contains(&hearer) && reached.insert(hearer) {
+                    work.push(hearer);
+                }
             }
         }
+        reached
     }
-    reached
 }
 
 /// Whether F, L and R show that the plan fails, whoever proposed them.
-pub fn witness_check(plan: &Plan, bad: &Set, reached: &Set, left: &Set) -> Result<bool, Cause> {
-    plan.check()?;
+pub fn witness_check(
+    plan: &Plan,
+    bad: &Set,
+    reached: &Set,
+    left: &Set,
+    fault: Fault,
+) -> Result<bool, Cause> {
+    plan.check(fault)?;
     let sets = [bad, reached, left];
     if sets
         .iter()
@@ -130,13 +183,24 @@ pub fn witness_check(plan: &Plan, bad: &Set, reached: &Set, left: &Set) -> Resul
     }
     let partition =
         (0..plan.n).all(|terminal| sets.iter().filter(|set| set.contains(&terminal)).count() == 1);
-    let kept_waiting = left.iter().all(|&terminal| {
-        let heard = plan.heard_by(terminal);
-        !heard.contains(&plan.source) && heard.intersection(reached).count() <= plan.f as usize
+    let rule = Rule::of(&plan.bound, fault);
+    let told = |terminal: &u32| {
+        plan.heard_by(*terminal)
+            .intersection(reached)
+            .copied()
+            .collect()
+    };
+    let kept_waiting = left.iter().all(|terminal| {
+        let told: Vec<u32> = told(terminal);
+        !told.contains(&plan.source) && !rule.enough(&told, fault)
     });
+    let all_told: Set = left.iter().flat_map(told).collect();
+    let pooled: Vec<u32> = all_told.into_iter().collect();
+    let kept_together = fault != Fault::LeftCountedTogether || !rule.enough(&pooled, fault);
     Ok(partition
         && reached.contains(&plan.source)
         && !left.is_empty()
-        && is_bad_set(plan, bad, Fault::None)?
-        && kept_waiting)
+        && is_bad_set(plan, bad, fault)?
+        && kept_waiting
+        && kept_together)
 }

@@ -2,12 +2,15 @@
 
 use second::drawings::DRAWINGS;
 use second::faults::Fault;
+use second::grouping::group_up;
+use second::groups::Bound;
 use second::output::plan_text;
 use second::plan::{number_of, set_of, write_plan, Cause, Plan, Set};
 use second::reader::read_archive;
 use second::run::{run, Order};
 use second::step::{Record, Row, State};
 use second::verdict::{verdict, witness_check};
+use std::collections::BTreeSet;
 
 fn set(members: &[u32]) -> Set {
     members.iter().copied().collect()
@@ -65,7 +68,7 @@ fn run_refusals() {
         run_answer(&given)
     };
     assert_eq!(wrong(|_| {}), Ok(()));
-    assert_eq!(wrong(|given| given.plan.f = 4), Err(4));
+    assert_eq!(wrong(|given| given.plan.bound = Bound::f(4)), Err(4));
     assert_eq!(wrong(|given| given.plan.n = 21), Err(4));
     assert_eq!(wrong(|given| given.plan.links.extend([(1, 4)])), Err(5));
     assert_eq!(wrong(|given| given.plan.links.extend([(4, 1)])), Err(5));
@@ -109,7 +112,7 @@ fn run_refusals_in_order() {
     assert_eq!(run_answer(&wrong), Err(7));
     wrong.plan.links.insert((3, 3));
     assert_eq!(run_answer(&wrong), Err(5));
-    wrong.plan.f = 9;
+    wrong.plan.bound = Bound::f(9);
     assert_eq!(run_answer(&wrong), Err(4));
     wrong = Given {
         words: 1,
@@ -197,7 +200,8 @@ fn run_fills_a_row() {
 fn witness_checks() {
     let plan = DRAWINGS[4].plan();
     let yes = |bad: &[u32], reached: &[u32], left: &[u32]| {
-        witness_check(&plan, &set(bad), &set(reached), &set(left)).expect("a right plan")
+        witness_check(&plan, &set(bad), &set(reached), &set(left), Fault::None)
+            .expect("a right plan")
     };
     assert!(yes(&[1], &[0, 2], &[3]));
     assert!(yes(&[2], &[0, 1], &[3]));
@@ -213,12 +217,12 @@ fn witness_checks() {
     let mut wrong = plan.clone();
     wrong.links.insert((0, 4));
     assert_eq!(
-        witness_check(&wrong, &set(&[]), &set(&[]), &set(&[])),
+        witness_check(&wrong, &set(&[]), &set(&[]), &set(&[]), Fault::None),
         Err(Cause::LinkEnd)
     );
     wrong.n = 1;
     assert_eq!(
-        witness_check(&wrong, &set(&[]), &set(&[]), &set(&[])),
+        witness_check(&wrong, &set(&[]), &set(&[]), &set(&[]), Fault::None),
         Err(Cause::Head)
     );
     assert_eq!(verdict(&wrong, Fault::None), Err(Cause::Head));
@@ -229,16 +233,25 @@ fn writer() {
     let plan = DRAWINGS[4].plan();
     let text = b"01040001\n020001\n020002\n020103\n020203\n";
     let mut list = [b'x'; 40];
-    assert_eq!(write_plan(&plan, &mut list), Ok(37));
+    assert_eq!(write_plan(&plan, &mut list, Fault::None), Ok(37));
     assert_eq!((&list[..37], &list[37..]), (&text[..], &b"xxx"[..]));
     let mut short = [b'x'; 36];
-    assert_eq!(write_plan(&plan, &mut short), Err(Cause::Length));
+    assert_eq!(
+        write_plan(&plan, &mut short, Fault::None),
+        Err(Cause::Length)
+    );
     assert_eq!(short, [b'x'; 36]);
     let mut wrong = plan.clone();
     wrong.links.insert((5, 6));
-    assert_eq!(write_plan(&wrong, &mut short), Err(Cause::LinkEnd));
+    assert_eq!(
+        write_plan(&wrong, &mut short, Fault::None),
+        Err(Cause::LinkEnd)
+    );
     wrong.source = 4;
-    assert_eq!(write_plan(&wrong, &mut short), Err(Cause::Head));
+    assert_eq!(
+        write_plan(&wrong, &mut short, Fault::None),
+        Err(Cause::Head)
+    );
     assert_eq!(short, [b'x'; 36]);
 }
 
@@ -246,9 +259,13 @@ fn writer() {
 fn written_plans_are_read_back() {
     let mut rng = second::rng::Rng::new(11);
     for n in 2..=20 {
-        for density in [0, 30, 100] {
-            let plan = second::plans::random_plan(&mut rng, n, Some(density));
-            let filed = read_archive(&plan_text(&plan), Fault::None).expect("a right plan");
+        for density in [0, 30, 100, 0, 30, 100] {
+            let mut plan = second::plans::random_plan(&mut rng, n, Some(density));
+            if rng.chance(50) {
+                group_up(&mut rng, &mut plan);
+            }
+            let filed =
+                read_archive(&plan_text(&plan, Fault::None), Fault::None).expect("a right plan");
             assert_eq!(filed.plan, plan);
         }
     }
@@ -266,8 +283,12 @@ fn sets_as_numbers() {
 #[test]
 fn witness_is_the_least() {
     let mut rng = second::rng::Rng::new(5);
-    for turn in 0..60 {
-        let plan = second::plans::weak_plan(&mut rng, 2 + turn % 6);
+    let mut with_groups = BTreeSet::new();
+    for turn in 0..240 {
+        let mut plan = second::plans::weak_plan(&mut rng, 2 + turn % 6);
+        if turn % 4 > 0 {
+            group_up(&mut rng, &mut plan);
+        }
         let answer = verdict(&plan, Fault::None).expect("a right plan");
         let mut best: Option<(usize, u32)> = None;
         for number in 0..2u32.pow(2 * plan.n) {
@@ -275,7 +296,7 @@ fn witness_is_the_least() {
             let left: Set = (0..plan.n)
                 .filter(|v| !bad.contains(v) && !reached.contains(v))
                 .collect();
-            if witness_check(&plan, &bad, &reached, &left) == Ok(true) {
+            if witness_check(&plan, &bad, &reached, &left, Fault::None) == Ok(true) {
                 let key = (bad.len(), number_of(&bad));
                 best = Some(best.map_or(key, |other| other.min(key)));
             }
@@ -284,5 +305,10 @@ fn witness_is_the_least() {
             .fails
             .then(|| (answer.bad.len(), number_of(&answer.bad)));
         assert_eq!(own, best, "{plan:?}");
+        if plan.bound.has_groups() {
+            with_groups.insert(own.map(|(members, _)| members));
+        }
     }
+    let sizes = [None, Some(0), Some(1), Some(2)];
+    assert!(sizes.iter().all(|size| with_groups.contains(size)));
 }

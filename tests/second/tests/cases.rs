@@ -55,6 +55,8 @@ fn cases_reach_every_cause() {
         assert!(set.contains(&("01".to_string(), false)));
         assert!(set.contains(&("0f".to_string(), false)));
         assert!(!set.contains(&("0f".to_string(), true)));
+        assert!(set.contains(&("11".to_string(), false)));
+        assert!(set.contains(&("11".to_string(), true)));
     }
     assert!(runs.contains(&("03".to_string(), false)));
 }
@@ -68,7 +70,7 @@ fn step_cases_reach_every_cause() {
         })
         .map(|(cause, _)| cause.number())
         .collect();
-    assert_eq!(causes, BTreeSet::from([4, 5, 12, 13]));
+    assert_eq!(causes, BTreeSet::from([4, 5, 12, 13, 17]));
 }
 
 #[test]
@@ -112,7 +114,8 @@ fn planted_faults_are_found_in_runs_and_steps() {
 #[test]
 fn small_sites_hold() {
     let totals = exhaust(Fault::None).expect("no violation");
-    assert_eq!(totals.plans, 192);
+    // Three times f, four times one group, twelve times two groups.
+    assert_eq!(totals.plans, 19 * 64);
 }
 
 #[test]
@@ -122,6 +125,8 @@ fn small_sites_show_broken_rules() {
         Fault::ClosureWithoutOne,
         Fault::WordsCounted,
         Fault::CountAtRoundRefused,
+        Fault::FitInAllGroups,
+        Fault::BadSetBySize,
     ];
     for fault in broken {
         assert!(exhaust(fault).is_err(), "{fault:?}");
@@ -253,7 +258,7 @@ fn passed_plans_end_with_nobody_waiting() {
 #[test]
 fn liars_that_change_their_words_plant_nothing() {
     let mut rng = Rng::new(17);
-    let (mut lied, mut passed) = (0, 0);
+    let (mut lied, mut passed, mut grouped) = (0, 0, 0);
     for turn in 0..4000 {
         let text = join(&turning_run(&mut rng, 3 + turn % 6, None).lines);
         let file = read_run(&text, Fault::None).expect("a right file");
@@ -267,8 +272,11 @@ fn liars_that_change_their_words_plant_nothing() {
         }
         lied += u32::from(file.words.values().any(|&word| word != file.value));
         passed += u32::from(passes && !file.words.is_empty());
+        let groups = file.plan.bound.has_groups() && !file.words.is_empty();
+        grouped += u32::from(passes && groups);
     }
-    assert!(lied > 1000 && passed > 300, "{lied}, {passed}");
+    let counts = [lied, passed, grouped];
+    assert!(lied > 1000 && passed > 300 && grouped > 100, "{counts:?}");
 }
 
 /// Whether two liars say one lie to a good hearer, the second a round after the first.
@@ -324,17 +332,17 @@ fn recorded_calls_reach_every_answer() {
         of_kind.map(|call| call.line[0]).collect()
     };
     let expected: [(u8, &[u8]); 11] = [
-        (b'v', &[0, 1, 2, 3, 4, 5, 6, 12, 15]),
-        (b'a', &[0, 1, 2, 3, 4, 5, 6, 12]),
-        (b'd', &[0, 1, 2, 3, 4, 5, 6]),
-        (b'r', &[0, 1, 2, 3, 4, 5, 6, 7, 8, 9, 10, 11, 12, 15]),
-        (b'f', &[0, 1, 2, 3, 4, 5, 6, 7, 8, 9, 10, 11, 12, 15]),
-        (b'p', &[0, 4, 5, 12]),
-        (b's', &[0, 4, 5, 12, 13]),
-        (b'w', &[0, 1, 4, 5]),
-        (b'c', &[0, 4, 5, 7, 8]),
-        (b'n', &[0, 4, 5, 7, 8, 9, 12]),
-        (b'l', &[0, 4, 5, 7, 8, 9, 12]),
+        (b'v', &[0, 1, 2, 3, 4, 5, 6, 12, 15, 17]),
+        (b'a', &[0, 1, 2, 3, 4, 5, 6, 12, 17]),
+        (b'd', &[0, 1, 2, 3, 4, 5, 6, 17]),
+        (b'r', &[0, 1, 2, 3, 4, 5, 6, 7, 8, 9, 10, 11, 12, 15, 17]),
+        (b'f', &[0, 1, 2, 3, 4, 5, 6, 7, 8, 9, 10, 11, 12, 15, 17]),
+        (b'p', &[0, 4, 5, 12, 17]),
+        (b's', &[0, 4, 5, 12, 13, 17]),
+        (b'w', &[0, 1, 4, 5, 17]),
+        (b'c', &[0, 4, 5, 7, 8, 17]),
+        (b'n', &[0, 4, 5, 7, 8, 9, 12, 17]),
+        (b'l', &[0, 4, 5, 7, 8, 9, 12, 17]),
     ];
     for (kind, answers) in expected {
         let answers: BTreeSet<u8> = answers.iter().copied().collect();
@@ -357,7 +365,7 @@ fn recorded_calls_have_a_wrong_file_and_a_wrong_list() {
             "kind {}",
             kind as char
         );
-        let of_files = |number: u8| (1..12).contains(&number) || number == 15;
+        let of_files = |number: u8| (1..12).contains(&number) || [15, 17].contains(&number);
         assert!(file.iter().all(|call| of_files(number(call))));
     };
     both(b'f', |call| call.lent != 16_000);

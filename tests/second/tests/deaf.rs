@@ -6,6 +6,7 @@ mod common;
 use common::{archive_bytes, file, refused, run_bytes, verdict_bytes};
 use second::faults::{Fault, Sound};
 use second::generate::{case, Kind, SORTS, VALID_SORTS};
+use second::groups::Bound;
 use second::output::{plan_text, rewritten_text, verdict_line};
 use second::plan::{set_of, write_plan, Cause, Plan, Set};
 use second::plans::{deaf_plan, mend, random_plan};
@@ -285,7 +286,7 @@ fn plans_come_back_from_the_archive() {
         let deaf = hear_nobody(&plan);
         assert!(turn % 3 == 1 || deaf.is_empty() == (turn % 3 == 2));
         let mut list = vec![0; 3000];
-        let length = write_plan(&plan, &mut list).expect("room");
+        let length = write_plan(&plan, &mut list, Fault::None).expect("room");
         let text = &list[..length];
         let filed = read_archive(text, Fault::None).expect("a right plan");
         assert_eq!((&filed.plan, &filed.deaf), (&plan, &deaf));
@@ -315,7 +316,7 @@ fn deaf_plans_fail_with_nobody_bad() {
         assert!(deaf.is_subset(&answer.left), "{plan:?}");
         let line = String::from_utf8(verdict_line(&answer, Fault::None)).expect("digits");
         assert!(line.starts_with("8101000000"));
-        assert_eq!(archive_bytes(&plan_text(&plan)), line);
+        assert_eq!(archive_bytes(&plan_text(&plan, Fault::None)), line);
     }
 }
 
@@ -329,8 +330,11 @@ fn plan_records_may_be_deaf() {
         (answer.reached, answer.left),
         (source.clone(), other.clone())
     );
-    assert_eq!(witness_check(&plan, &none, &source, &other), Ok(true));
-    assert_eq!(fault_cause(&plan, &other), Ok(()));
+    assert_eq!(
+        witness_check(&plan, &none, &source, &other, Fault::None),
+        Ok(true)
+    );
+    assert_eq!(fault_cause(&plan, &other, Fault::None), Ok(()));
     let mut records = vec![Record::source(3); 2];
     let order = Order {
         plan: &plan,
@@ -370,30 +374,50 @@ fn bytes_of(digits: &[u8]) -> Result<Vec<u32>, &'static str> {
     Ok(bytes.collect())
 }
 
-/// What a line is that ends the links, or has a cause among them; nothing for a right link.
+fn head_of(plan: &Plan) -> [u32; 4] {
+    let bound = match plan.bound.has_groups() {
+        true => 255,
+        false => plan.bound.number,
+    };
+    [1, plan.n, plan.source, bound]
+}
+
+/// What a line is that ends the plan, or has a cause in it; nothing for a right link or group.
 fn line_name(plan: &Plan, line: &[u8]) -> Option<&'static str> {
     let bytes = match bytes_of(line) {
         Err(_) if line.starts_with(b"02") => return Some("link, 1"),
+        Err(_) if line.starts_with(b"07") => return Some("group, 1"),
         Err(name) => return Some(name),
         Ok(bytes) => bytes,
     };
     let name = match bytes[..] {
-        [1, n, source, f] if (n, source, f) == (plan.n, plan.source, plan.f) => "same head",
+        [1, n, source, bound] if [1, n, source, bound] == head_of(plan) => "same head",
         [1, _, _, _] => "other head",
+        [2, _, _] if plan.bound.has_groups() && plan.bound.number > 0 => "late link",
         [2, from, to] if from >= plan.n || to >= plan.n || from == to => "link, 5",
         [2, from, to] if plan.links.contains(&(from, to)) => "link, 6",
         [2, _, _] => return None,
         [2, ..] => "link, 2",
         [3, high, middle, low] => {
             let bad = set_of(high * 65_536 + middle * 256 + low);
-            match fault_cause(plan, &bad) {
-                Ok(()) => "bad set",
+            match fault_cause(plan, &bad, Fault::None) {
+                Ok(()) | Err(Cause::Group) => "bad set",
                 Err(Cause::BadSetMember) => "bad set, 7",
                 Err(_) => "bad set, 8",
             }
         }
         [4, _, _] | [4, _, _, _] => "start",
         [5, _, _, _, _, _] => "word",
+        [7, _, _, _] if !plan.bound.has_groups() => "group",
+        [7, high, middle, low] => {
+            let group = set_of(high * 65_536 + middle * 256 + low);
+            let outside = group.iter().any(|&member| member >= plan.n);
+            if outside || group.contains(&plan.source) || plan.bound.number == 16 {
+                return Some("group, 17");
+            }
+            return None;
+        }
+        [7, ..] => "group, 2",
         [1 | 3 | 4 | 5, ..] => "length",
         _ => "kind",
     };
@@ -405,13 +429,16 @@ fn seen(text: &[u8]) -> Option<Seen> {
     let whole = text.split_inclusive(|&byte| byte == 10);
     let lines: Vec<Option<&[u8]>> = whole.map(|line| line.strip_suffix(b"\n")).collect();
     let head = bytes_of((*lines.first()?)?).ok()?;
-    let [1, n @ 2..=20, source, f] = head[..] else {
+    let [1, n @ 2..=20, source, number] = head[..] else {
         return None;
     };
-    if source >= n || f >= n || text.len() > 24_576 {
+    if source >= n || (number >= n && number != 255) || text.len() > 24_576 {
         return None;
     }
-    let mut plan = Plan::new(n, source, f);
+    let mut plan = Plan::new(n, source, number);
+    if number == 255 {
+        plan.bound = Bound::groups(&[]);
+    }
     let (mut at, mut what) = (1, "end");
     while let Some(line) = lines.get(at) {
         let name = line.map_or(Some("cut"), |line| line_name(&plan, line));
@@ -419,8 +446,11 @@ fn seen(text: &[u8]) -> Option<Seen> {
             what = name;
             break;
         }
-        let link = bytes_of(line.expect("a line")).expect("a link");
-        plan.links.insert((link[1], link[2]));
+        match bytes_of(line.expect("a line")).expect("digits")[..] {
+            [2, from, to] => drop(plan.links.insert((from, to))),
+            [7, high, middle, low] => plan.bound.add(set_of(high * 65_536 + middle * 256 + low)),
+            _ => panic!("neither a link nor a group"),
+        }
         at += 1;
     }
     let after = match lines.get(at + 1) {
@@ -440,10 +470,15 @@ fn seen(text: &[u8]) -> Option<Seen> {
 /// for one that is accepted.
 fn by_the_text(seen: &Seen, program: u8) -> Option<(u8, u16)> {
     let deaf = !hear_nobody(&seen.plan).is_empty();
+    let no_group = seen.plan.bound.has_groups() && seen.plan.bound.number == 0;
     let run = program == b'r';
     let own = match seen.what {
-        "cut" | "empty" | "foreign" | "odd" | "link, 1" => return Some((1, seen.line)),
-        "kind" | "length" | "link, 2" => return Some((2, seen.line)),
+        "cut" | "empty" | "foreign" | "odd" | "link, 1" | "group, 1" => {
+            return Some((1, seen.line))
+        }
+        "kind" | "length" | "link, 2" | "group, 2" => return Some((2, seen.line)),
+        "late link" => return Some((3, seen.line)),
+        "group, 17" => return Some((17, seen.line)),
         "link, 5" => return Some((5, seen.line)),
         "link, 6" => return Some((6, seen.line)),
         "bad set" | "bad set, 7" | "bad set, 8" | "start" | "word" if !run => {
@@ -456,6 +491,9 @@ fn by_the_text(seen: &Seen, program: u8) -> Option<(u8, u16)> {
         "bad set, 8" => Some((8, seen.line)),
         _ => Some((3, seen.line)),
     };
+    if no_group {
+        return Some((17, 0));
+    }
     if deaf && program != b'a' {
         return Some((15, 0));
     }
@@ -482,7 +520,7 @@ fn the_place_decides() {
             for (program, answer) in answers {
                 match by_the_text(&seen, program) {
                     Some(expected) => assert_eq!(answer, expected, "{}", seen.what),
-                    None => assert!(answer.0 != 15 && answer.1 != seen.line),
+                    None => assert!(answer.0 != 15 && answer != (17, 0) && answer.1 != seen.line),
                 }
             }
         }
@@ -507,7 +545,7 @@ fn new_plans_and_the_archive() {
             }
             Err(refusal) if new == Err(refusal) => both += 1,
             Err(refusal) => {
-                // Only a second head can be where the links of such a file end.
+                // Only a second head can be where the plan of such a file ends, or a group beside f.
                 assert_eq!((new, refusal.cause), (Err(DEAF_FILE), Cause::Order));
                 assert!(refusal.line > 1);
                 differ += 1;
@@ -629,7 +667,7 @@ fn bodies(letter: u8) -> Vec<Vec<u8>> {
 }
 
 fn fresh(kind: Kind) -> Vec<Vec<u8>> {
-    (0..3600).map(|index| case(kind, 1, index)).collect()
+    (0..3800).map(|index| case(kind, 1, index)).collect()
 }
 
 /// Each name that is needed is there so often.
@@ -681,45 +719,69 @@ fn every_shape_is_there() {
 
 // ---- recorded calls
 
+/// Bytes that are read from the front, high byte first.
+struct Bytes<'a>(&'a [u8]);
+
+impl Bytes<'_> {
+    fn number(&mut self, bytes: usize) -> u32 {
+        let (front, rest) = self.0.split_at(bytes);
+        self.0 = rest;
+        let front = front.iter();
+        front.fold(0, |number, &byte| number * 256 + u32::from(byte))
+    }
+}
+
 /// The line of an accepted file against the plan as it is read here; the deaf set that it tells.
 fn opened(line: &[u8], plan: &Plan) -> Set {
-    let number = |at: usize| {
-        let bytes = line[at..at + 4].iter();
-        bytes.fold(0, |number, &byte| number * 256 + u32::from(byte))
-    };
-    let (n, source, f) = (plan.n as u8, plan.source as u8, plan.f as u8);
-    assert_eq!(line[..9], [0, 0, 0, 0, n, 0, source, 0, f]);
+    let mut line = Bytes(line);
+    assert_eq!(line.number(3), 0);
+    let head = [line.number(2), line.number(2), line.number(1)];
+    let groups = plan.bound.has_groups();
+    assert_eq!(head, [plan.n, plan.source, u32::from(groups)]);
+    assert_eq!(line.number(2), plan.bound.number);
+    let listed = line.number(1);
+    let places: Vec<Set> = (0..listed).map(|_| set_of(line.number(4))).collect();
+    assert!(places.last().is_none_or(|last| !last.is_empty()));
+    let mut wanted = plan.bound.listed();
+    while wanted.last().is_some_and(|last| last.is_empty()) {
+        wanted.pop();
+    }
+    assert_eq!(places, wanted);
     for hearer in 0..20 {
         let heard = plan.links.iter().filter(|link| link.1 == hearer);
-        let row = set_of(number(9 + 4 * hearer as usize));
-        assert_eq!(row, heard.map(|link| link.0).collect());
+        assert_eq!(set_of(line.number(4)), heard.map(|link| link.0).collect());
     }
-    set_of(number(89))
+    let deaf = set_of(line.number(4));
+    assert!(line.0.is_empty());
+    deaf
 }
 
 /// The archive's reader: zeros beside a refusal, and else all that the file says.
 #[test]
 fn opened_plans_are_read_back() {
     let calls = record::calls(record::SEED).into_iter();
-    let (mut deaf, mut hearing, mut refused) = (0, 0, 0);
+    let mut counts: BTreeMap<&str, u32> = BTreeMap::new();
     for call in calls.filter(|call| call.kind == b'd') {
-        assert_eq!((call.lent, call.line.len()), (0, 1 + 2 + 6 + 80 + 4));
-        let accepted = seen(&call.body).filter(|seen| seen.what == "end");
+        assert_eq!(call.lent, 0);
+        let accepted = seen(&call.body).filter(|seen| by_the_text(seen, b'a') == Some((0, 0)));
         let Some(Seen { plan, .. }) = accepted else {
             assert!(call.line[0] > 0 && call.line[3..].iter().all(|&byte| byte == 0));
-            refused += 1;
+            assert_eq!(call.line.len(), 3 + 2 + 2 + 1 + 2 + 1 + 80 + 4);
+            *counts.entry("refused").or_insert(0) += 1;
             continue;
         };
         let told = opened(&call.line, &plan);
         assert_eq!(told, hear_nobody(&plan));
-        *(if told.is_empty() {
-            &mut hearing
-        } else {
-            &mut deaf
-        }) += 1;
+        let name = match (plan.bound.has_groups(), told.is_empty()) {
+            (true, true) => "groups",
+            (true, false) => "groups, deaf",
+            (false, true) => "f",
+            (false, false) => "f, deaf",
+        };
+        *counts.entry(name).or_insert(0) += 1;
     }
-    let counts = [deaf, hearing, refused];
-    assert!(counts.iter().all(|&count| count > 40), "{counts:?}");
+    let enough = counts.values().all(|&count| count > 15);
+    assert!(counts.len() == 5 && enough, "{counts:?}");
 }
 
 /// The text functions: refused plans with their line, and the archive's fails on deaf ones.

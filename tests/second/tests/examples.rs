@@ -80,7 +80,10 @@ fn every_drawing() {
             }
             Outcome::Fail((bad, reached, left)) => {
                 let (bad, reached, left) = (set(bad), set(reached), set(left));
-                assert_eq!(witness_check(&plan, &bad, &reached, &left), Ok(true));
+                assert_eq!(
+                    witness_check(&plan, &bad, &reached, &left, Fault::None),
+                    Ok(true)
+                );
                 let fail = Verdict {
                     fails: true,
                     bad,
@@ -100,7 +103,7 @@ fn every_drawing() {
 fn every_drawing_as_a_file() {
     for drawing in &DRAWINGS {
         let plan = drawing.plan();
-        let text = plan_text(&plan);
+        let text = plan_text(&plan, Fault::None);
         let expected = match verdict_of(&plan, Fault::None) {
             Ok(answer) => verdict_line(&answer, Fault::None),
             Err(_) => b"ff040001\n".to_vec(),

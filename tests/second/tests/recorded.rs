@@ -1,56 +1,22 @@
 //! The bytes of recorded calls, read back, and what the calls of the step are about.
 
+mod common;
+
+use common::bytes::Bytes;
 use second::faults::Fault;
-use second::plan::set_of;
+use second::groups::{Bound, Sort};
+use second::plan::{set_of, Set};
 use second::record::{self, Call, LONGEST_BODY, LONGEST_LINE};
 use second::step::{step, Place, Record, Row, State};
 use second::steps::{step_case, StepCase};
 use std::collections::{BTreeMap, BTreeSet};
 
-/// Bytes that are read from the front.
-struct Bytes<'a>(&'a [u8]);
-
-impl Bytes<'_> {
-    fn byte(&mut self) -> u8 {
-        let (first, rest) = self.0.split_first().expect("a byte");
-        self.0 = rest;
-        *first
-    }
-
-    fn pair(&mut self) -> u16 {
-        u16::from(self.byte()) * 256 + u16::from(self.byte())
-    }
-
-    fn row(&mut self) -> Row {
-        let mut row = Row::default();
-        row.count = u32::from(self.byte());
-        let places = u32::from(self.byte());
-        assert!(places <= 40);
-        (0..places).for_each(|place| row.put(place, self.pair()));
-        assert_eq!(row.used(), places, "the last place that is given is not 0");
-        row
-    }
-
-    fn record(&mut self) -> Record {
-        let (state, at, value) = (self.byte(), u32::from(self.byte()), self.pair());
-        assert!(state == 1 || (state, at, value) == (0, 0, 0));
-        Record {
-            state: [State::Waiting, State::Taken(at, value)][usize::from(state)],
-            round: u32::from(self.byte()),
-            notes: (0..20).map(|_| self.row()).collect(),
-            ..Record::waiting()
-        }
-    }
-
-    fn skip(&mut self, count: usize) {
-        self.0 = &self.0[count..];
-    }
-}
-
 fn step_of(call: &Call) -> StepCase {
     let mut body = Bytes(&call.body);
-    let [n, source, f, number] = [(); 4].map(|()| u32::from(body.byte()));
-    let heard = u32::from(body.pair()) * 65_536 + u32::from(body.pair());
+    let [n, source] = [(); 2].map(|()| u32::from(body.byte()));
+    let bound = body.bound();
+    let number = u32::from(body.byte());
+    let heard = body.quad();
     let record = body.record();
     let said: Vec<u16> = (0..call.lent).map(|_| body.pair()).collect();
     assert!(body.0.is_empty());
@@ -58,7 +24,7 @@ fn step_of(call: &Call) -> StepCase {
         place: Place {
             n,
             source,
-            f,
+            bound,
             number,
             heard: set_of(heard),
         },
@@ -109,7 +75,8 @@ fn runs_are_read_back() {
     assert_eq!(fullest, 40);
     for call in calls_of(b'l') {
         let (mut body, mut line) = (Bytes(&call.body), Bytes(&call.line));
-        body.skip(90);
+        body.plan();
+        body.skip(4 + 2 + 1);
         let before: Vec<Record> = (0..5).map(|_| body.record()).collect();
         assert_eq!(body.0.len(), 2 * call.lent);
         let refused = line.byte() > 0;
@@ -125,22 +92,131 @@ fn nothing_is_longer_than_replay_reads_and_prints() {
     let body = calls.iter().map(|call| call.body.len()).max();
     let line = calls.iter().map(|call| 2 * call.line.len()).max();
     assert!(body.expect("a call") <= LONGEST_BODY && line.expect("a call") <= LONGEST_LINE);
-    let bytes = |call: &Call| 6 + call.body.len() + 2 * call.line.len();
-    assert!(calls.iter().map(bytes).sum::<usize>() < 3_000_000);
+    let input: usize = calls.iter().map(|call| 5 + call.body.len()).sum();
+    let output: usize = calls.iter().map(|call| 2 * call.line.len() + 1).sum();
+    assert!(input < 2_000_000 && output < 1_800_000, "{input}, {output}");
+}
+
+// ---- wrong groups in a record
+
+/// The one way in which a record's groups are wrong; nothing where they are right, or in two ways.
+fn wrong_groups(n: u32, source: u32, bound: &Bound) -> Option<&'static str> {
+    let count = if bound.has_groups() { bound.number } else { 0 };
+    let members: Set = bound.listed().into_iter().flatten().collect();
+    let outside: Vec<u32> = members.iter().copied().filter(|&one| one >= n).collect();
+    let ways = named(&[
+        ("17: no group", bound.has_groups() && count == 0),
+        ("17: above 16", count > 16),
+        (
+            "17: past the count",
+            bound.has_groups() && count > 0 && bound.used() > count,
+        ),
+        ("17: beside f", !bound.has_groups() && bound.used() > 0),
+        ("17: the source", members.contains(&source) && source < n),
+        ("17: n", outside.contains(&n)),
+        ("17: above n", !outside.is_empty() && !outside.contains(&n)),
+    ]);
+    match ways[..] {
+        [one] => Some(one),
+        _ => None,
+    }
 }
 
 // ---- what the steps are about
 
-/// How many heard neighbours have each value in the record.
-fn votes(place: &Place, record: &Record) -> BTreeMap<u16, u32> {
-    let mut votes = BTreeMap::new();
+/// The heard neighbours that have each value in the record.
+fn votes(place: &Place, record: &Record) -> BTreeMap<u16, Set> {
+    let mut votes: BTreeMap<u16, Set> = BTreeMap::new();
     for &neighbour in &place.heard {
-        let values: BTreeSet<u16> = record.row(neighbour).noted().into_iter().collect();
-        for value in values {
-            *votes.entry(value).or_insert(0) += 1;
+        for value in record.row(neighbour).noted() {
+            votes.entry(value).or_default().insert(neighbour);
         }
     }
     votes
+}
+
+/// What the votes of a step with f show, where no direct word hides them.
+fn marks_of_number(f: u32, votes: &BTreeMap<u16, Set>) -> Vec<&'static str> {
+    let having = |wanted: u32| votes.values().filter(move |who| who.len() as u32 == wanted);
+    let enough = votes.values().filter(|who| who.len() as u32 > f).count();
+    named(&[
+        ("several values have enough", enough > 1),
+        (
+            "f+1 have a value",
+            enough == 1 && having(f + 1).count() == 1,
+        ),
+        (
+            "f have a value",
+            enough == 0 && f > 0 && having(f).count() > 0,
+        ),
+    ])
+}
+
+/// The same of a step with groups.
+fn marks_of_groups(place: &Place, votes: &BTreeMap<u16, Set>) -> Vec<&'static str> {
+    let groups = place.bound.listed();
+    let fits = |who: &Set| groups.iter().any(|group| who.is_subset(group));
+    let all: Set = groups.iter().flatten().copied().collect();
+    let most = groups.iter().map(|group| group.len()).max().expect("one");
+    let least = groups.iter().map(|group| group.len()).min().expect("one");
+    let (not, enough): (Vec<&Set>, Vec<&Set>) = votes.values().partition(|who| fits(who));
+    let some = |sets: &[&Set], holds: &dyn Fn(&Set) -> bool| sets.iter().any(|who| holds(who));
+    named(&[
+        ("groups: two values have enough", enough.len() > 1),
+        (
+            "groups: the smallest value has not enough, another has",
+            !enough.is_empty() && votes.values().next().is_some_and(fits),
+        ),
+        (
+            "groups: several fit in one",
+            enough.is_empty() && some(&not, &|who| who.len() > 1),
+        ),
+        (
+            "groups: in one, and more than another has",
+            enough.is_empty() && some(&not, &|who| who.len() > least),
+        ),
+        (
+            "groups: a whole one",
+            enough.is_empty() && some(&not, &|who| who.len() > 1 && groups.contains(who)),
+        ),
+        (
+            "groups: in no single one, but in all together",
+            enough.len() == 1 && some(&enough, &|who| who.is_subset(&all)),
+        ),
+        (
+            "groups: enough, and no more than one has",
+            enough.len() == 1 && some(&enough, &|who| who.len() <= most),
+        ),
+        (
+            "groups: one that is in none",
+            enough.len() == 1 && some(&enough, &|who| who.len() == 1),
+        ),
+        (
+            "groups: the source among the voters",
+            some(&enough[..enough.len().min(1)], &|who| {
+                who.contains(&place.source)
+            }),
+        ),
+        (
+            "groups: fit in the last only",
+            enough.is_empty()
+                && some(&not, &|who| {
+                    let holding = groups.iter().filter(|group| who.is_subset(group));
+                    holding.count() == 1 && who.is_subset(&groups[groups.len() - 1])
+                })
+                && groups.len() > 1,
+        ),
+        (
+            "groups: an empty one alone",
+            all.is_empty() && !votes.is_empty(),
+        ),
+    ])
+}
+
+/// The names of what holds.
+fn named(marks: &[(&'static str, bool)]) -> Vec<&'static str> {
+    let holding = marks.iter().filter(|mark| mark.1);
+    holding.map(|mark| mark.0).collect()
 }
 
 /// What an accepted step on a waiting record shows.
@@ -150,9 +226,6 @@ fn marks_of_waiting(case: &StepCase, after: &Record) -> Vec<&'static str> {
     let heard_source = place.heard.contains(&place.source);
     let direct =
         heard_source && after.row(place.source).count > 0 && after.row(place.source).at(0) > 0;
-    let votes = votes(place, after);
-    let having = |wanted: u32| votes.values().filter(|&&count| count == wanted).count();
-    let enough = votes.values().filter(|&&count| count > place.f).count();
     let lone = |value: u16| {
         let only = |j: &u32| after.row(*j).count == 1 && after.row(*j).at(0) == value;
         place.heard.iter().any(only)
@@ -160,18 +233,9 @@ fn marks_of_waiting(case: &StepCase, after: &Record) -> Vec<&'static str> {
     let no_lone_voter = matches!(after.state, State::Taken(_, value) if !direct && !lone(value));
     let written = |j: &u32| before.row(*j).count == 39 && after.row(*j).count == 40;
     let known = |j: &u32| before.row(*j).noted().contains(&case.said[*j as usize]);
-    [
+    let mut marks = named(&[
         ("direct", direct),
-        ("several values have enough", !direct && enough > 1),
         ("no voter has said only this", no_lone_voter),
-        (
-            "f+1 have a value",
-            !direct && enough == 1 && having(place.f + 1) == 1,
-        ),
-        (
-            "f have a value",
-            !direct && enough == 0 && place.f > 0 && having(place.f) > 0,
-        ),
         (
             "0 in the source's first place",
             heard_source && source.count > 0 && source.at(0) == 0,
@@ -182,11 +246,15 @@ fn marks_of_waiting(case: &StepCase, after: &Record) -> Vec<&'static str> {
         ),
         ("the last place is written", place.heard.iter().any(written)),
         ("an equal word", place.heard.iter().any(known)),
-    ]
-    .into_iter()
-    .filter(|mark| mark.1)
-    .map(|mark| mark.0)
-    .collect()
+    ]);
+    if !direct {
+        let votes = votes(place, after);
+        marks.extend(match place.bound.sort {
+            Sort::Number => marks_of_number(place.bound.number, &votes),
+            Sort::Groups => marks_of_groups(place, &votes),
+        });
+    }
+    marks
 }
 
 /// What the rows of an accepted step are.
@@ -248,10 +316,32 @@ fn marks_of_refused(case: &StepCase, number: u8) -> Vec<&'static str> {
     vec![mark]
 }
 
+/// Which way the groups are wrong, and what else is.
+fn marks_of_wrong_groups(case: &StepCase, number: u8) -> Vec<&'static str> {
+    let place = &case.place;
+    let Some(way) = wrong_groups(place.n, place.source, &place.bound) else {
+        return Vec::new();
+    };
+    let wrong_record = || {
+        let mut right = case.clone();
+        right.place.bound = Bound::f(0);
+        answer(&right).0
+    };
+    let beside = match number {
+        4 => "17, beside 4",
+        5 => "17, beside 5",
+        17 if wrong_record() == 13 => "17, beside 13",
+        17 if wrong_record() == 12 => "17, beside 12",
+        _ => return vec![way],
+    };
+    vec![beside]
+}
+
 fn marks(case: &StepCase) -> Vec<&'static str> {
     let (number, after) = answer(case);
     if number > 0 {
-        return marks_of_refused(case, number);
+        let many = marks_of_refused(case, number);
+        return [many, marks_of_wrong_groups(case, number)].concat();
     }
     let mut marks = marks_of_rows(case);
     if case.record.state == State::Waiting {
@@ -265,7 +355,29 @@ fn marks(case: &StepCase) -> Vec<&'static str> {
     marks
 }
 
-const NEEDED: [&str; 31] = [
+const NEEDED: [&str; 53] = [
+    "17: no group",
+    "17: above 16",
+    "17: past the count",
+    "17: beside f",
+    "17: the source",
+    "17: n",
+    "17: above n",
+    "17, beside 4",
+    "17, beside 5",
+    "17, beside 13",
+    "17, beside 12",
+    "groups: two values have enough",
+    "groups: the smallest value has not enough, another has",
+    "groups: several fit in one",
+    "groups: in one, and more than another has",
+    "groups: a whole one",
+    "groups: in no single one, but in all together",
+    "groups: enough, and no more than one has",
+    "groups: one that is in none",
+    "groups: the source among the voters",
+    "groups: fit in the last only",
+    "groups: an empty one alone",
     "direct",
     "several values have enough",
     "no voter has said only this",

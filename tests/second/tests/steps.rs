@@ -1,6 +1,7 @@
 //! The step, sentence by sentence, and its refusals.
 
 use second::faults::Fault;
+use second::groups::Bound;
 use second::plan::Set;
 use second::step::{step, Place, Record, Row, State};
 
@@ -13,7 +14,7 @@ fn place() -> Place {
     Place {
         n: 5,
         source: 0,
-        f: 1,
+        bound: Bound::f(1),
         number: 3,
         heard: set(&[0, 1, 2, 4]),
     }
@@ -310,7 +311,10 @@ fn words_of_several_rounds() {
     // Two that agree one round apart.
     let apart = [[0, 9, 0, 0, 0], [0, 8, 9, 0, 0]];
     assert_eq!(taken(&apart), State::Taken(2, 9));
-    let bound_two = Place { f: 2, ..place() };
+    let bound_two = Place {
+        bound: Bound::f(2),
+        ..place()
+    };
     assert_eq!(played(&bound_two, &apart).state, WAITS);
 }
 
@@ -330,7 +334,7 @@ fn wrong_places() {
         let wrong = Place {
             n,
             source,
-            f,
+            bound: Bound::f(f),
             ..place()
         };
         assert_eq!(refused(&wrong, Record::waiting(), 5), 4);
@@ -413,7 +417,7 @@ fn refusals_in_order() {
         assert_eq!(refused(&wrong, before.clone(), 4), 13);
         wrong.heard.insert(3);
         assert_eq!(refused(&wrong, before.clone(), 4), 5);
-        wrong.f = 5;
+        wrong.bound = Bound::f(5);
         assert_eq!(refused(&wrong, before, 4), 4);
     }
 }

@@ -10,7 +10,7 @@
 //!
 //! Dropped links may leave others that hear nobody, so this is done until there is none; each
 //! then hears the source for good. The bound is held or broken as before: it counts links from bad
-//! terminals to good ones, and no such link comes or goes.
+//! terminals to good ones, and no such link comes or goes. Groups do not look at links at all.
 
 use crate::frames::{Plan, State};
 

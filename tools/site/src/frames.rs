@@ -1,13 +1,14 @@
 //! Frames, one a line: from bytes to numbers and back. Nothing is checked here but the form:
 //! what comes in has been accepted by a proved program, or was printed by one.
 
+use crate::groups::Limit;
 use std::collections::BTreeSet;
 
 #[derive(Clone)]
 pub struct Plan {
     pub terminals: u8,
     pub source: u8,
-    pub bound: u8,
+    pub limit: Limit,
     /// (sender, hearer), in the file's order.
     pub links: Vec<(u8, u8)>,
 }
@@ -40,6 +41,9 @@ pub const MOST_ROUNDS: u8 = 40;
 /// hears nobody.
 pub const DEAF: u8 = 15;
 
+/// The cause of a wrong group, and of a plan that lists groups and has none.
+pub const GROUPS: u8 = 17;
+
 /// Cause and line of a refused file; line 0 is the whole file.
 pub struct Refusal {
     pub cause: u8,
@@ -70,8 +74,9 @@ pub enum Answer {
     Plan,
 }
 
-pub fn head(terminals: u8, source: u8, bound: u8) -> String {
-    format!("01{terminals:02x}{source:02x}{bound:02x}\n")
+/// The limit is the bound, or says that groups are listed.
+pub fn head(terminals: u8, source: u8, limit: u8) -> String {
+    format!("01{terminals:02x}{source:02x}{limit:02x}\n")
 }
 
 pub fn link(from: u8, to: u8) -> String {
@@ -79,6 +84,16 @@ pub fn link(from: u8, to: u8) -> String {
 }
 
 /// The set as a number: bit i stands for terminal i.
+pub fn set_of(terminals: &[u8]) -> u32 {
+    terminals
+        .iter()
+        .fold(0, |set, terminal| set | 1 << terminal)
+}
+
+pub fn group(set: u32) -> String {
+    format!("07{set:06x}\n")
+}
+
 pub fn bad_set(set: u32) -> String {
     format!("03{set:06x}\n")
 }
@@ -103,7 +118,10 @@ pub fn word(word: Word) -> String {
 impl Plan {
     pub fn to_frames(&self) -> String {
         let links = self.links.iter().map(|&(from, to)| link(from, to));
-        head(self.terminals, self.source, self.bound) + &links.collect::<String>()
+        let groups = self.limit.groups().iter().map(|one| group(set_of(one)));
+        head(self.terminals, self.source, self.limit.in_head())
+            + &links.collect::<String>()
+            + &groups.collect::<String>()
     }
 
     /// Whom a terminal hears, ascending.
@@ -125,9 +143,8 @@ impl Plan {
 impl Run {
     /// The frames of the run after those of its plan. Words past the last round would be refused.
     pub fn to_frames(&self) -> String {
-        let set = self.bad.iter().fold(0, |set, terminal| set | 1 << terminal);
         let played = self.words.iter().filter(|word| word.round <= self.rounds);
-        bad_set(set)
+        bad_set(set_of(&self.bad))
             + &start(self.value, Some(self.rounds))
             + &played.map(|&one| word(one)).collect::<String>()
     }
@@ -139,29 +156,34 @@ pub fn is_run_file(file: &[u8]) -> bool {
     lines.any(|line| matches!(line, [b'0', b'3' | b'4' | b'5', ..]))
 }
 
-/// The first line and the links under it. A file that is refused for a deaf terminal has been
-/// accepted so far, and no further.
+/// The first line, the links under it, and the groups where it has ff for the bound. A file that
+/// is refused for a deaf terminal has been accepted so far, and no further.
 pub fn plan_part(file: &[u8]) -> &[u8] {
     let mut lines = file.split_inclusive(|&byte| byte == b'\n');
-    let head = lines.next().map_or(0, <[u8]>::len);
-    let links = lines.take_while(|line| line.starts_with(b"02"));
-    &file[..head + links.map(<[u8]>::len).sum::<usize>()]
+    let head = lines.next().unwrap_or_default();
+    let lists_groups = matches!(plan(head).limit, Limit::Groups(_));
+    let rest =
+        lines.take_while(|line| line.starts_with(b"02") || lists_groups && line.starts_with(b"07"));
+    &file[..head.len() + rest.map(<[u8]>::len).sum::<usize>()]
 }
 
-/// The head and the links of an accepted file; other frames of a run file are passed over.
+/// The head, the links and the groups of an accepted file; other frames of a run file are passed
+/// over.
 pub fn plan(file: &[u8]) -> Plan {
     let mut plan = Plan {
         terminals: 0,
         source: 0,
-        bound: 0,
+        limit: Limit::Bound(0),
         links: Vec::new(),
     };
     for line in String::from_utf8_lossy(file).lines() {
         match bytes(line).unwrap_or_default()[..] {
-            [1, terminals, source, bound] => {
-                (plan.terminals, plan.source, plan.bound) = (terminals, source, bound);
+            [1, terminals, source, limit] => {
+                (plan.terminals, plan.source) = (terminals, source);
+                plan.limit = Limit::of_head(limit);
             }
             [2, from, to] => plan.links.push((from, to)),
+            [7, a, b, c] => plan.limit.add_group(members([a, b, c])),
             _ => {}
         }
     }

@@ -4,6 +4,7 @@
 use crate::ask::Programs;
 use crate::document::Document;
 use crate::frames::Plan;
+use crate::groups::MOST_GROUPS;
 use crate::search::{clear_progress, Link, Mends, Search};
 use crate::shown;
 use crate::Trouble;
@@ -104,15 +105,27 @@ fn commas(links: &[Link]) -> String {
     words.join(", ")
 }
 
+/// The plan with one terminal more. A new board may fail as any other: where the plan lists groups
+/// it has one of its own, as with its own supply, since in no group it would be taken to be good.
+/// None where there is no room for that group.
+fn with_repeater(plan: &Plan) -> Option<Plan> {
+    if plan.limit.groups().len() == MOST_GROUPS {
+        return None;
+    }
+    let mut plan = plan.clone();
+    plan.limit.add_group(vec![plan.terminals]);
+    plan.terminals += 1;
+    Some(plan)
+}
+
 /// One more terminal, and links from and to it alone.
 fn repeater(plan: &Plan, limit: usize, programs: &Programs) -> Result<String, Trouble> {
     let own = plan.terminals;
     if own == MOST_TERMINALS {
         return Ok("# a repeater would be terminal 20, and 0 to 19 are the most\n".into());
     }
-    let plan = Plan {
-        terminals: own + 1,
-        ..plan.clone()
+    let Some(plan) = with_repeater(plan) else {
+        return Ok("# a repeater would be a seventeenth group, and 16 are the most\n".into());
     };
     let pool = (0..own).flat_map(|other| [(other, own), (own, other)]);
     let mut search = Search::new(programs, &plan, pool.collect());
@@ -125,12 +138,16 @@ fn repeater(plan: &Plan, limit: usize, programs: &Programs) -> Result<String, Tr
         Some(way) => (way, "no fewer"),
         None => (&some, "none of them can be left out"),
     };
+    let (apart, group) = match plan.limit.groups().last() {
+        Some(group) => (", in a group of its own", shown::group(group)),
+        None => ("", String::new()),
+    };
     let head = format!(
-        "# or a repeater, terminal {own}: {} links are enough, and {fewest} (asked {} times)\n",
+        "# or a repeater, terminal {own}{apart}: {} links are enough, and {fewest} (asked {} times)\n",
         way.len(),
         search.calls
     );
-    let lines = format!("terminals {}\n{}", plan.terminals, shown::links(way));
+    let lines = format!("terminals {}\n{group}{}", plan.terminals, shown::links(way));
     let lines = lines.lines().map(|line| format!("#   {line}\n"));
     Ok(head + &lines.collect::<String>())
 }

@@ -1,5 +1,7 @@
 //! Numbers, sets, names and coordinates as the text form has them.
 
+use crate::groups::LISTED;
+
 const LONGEST_NAME: usize = 40;
 
 pub fn byte(word: &str, text: &str) -> Result<u8, String> {
@@ -29,17 +31,25 @@ fn digits(word: &str, expected: &str) -> Result<(), String> {
     Ok(())
 }
 
+/// The bound's own byte: 255 there says that the plan lists groups, so the next one stands for all
+/// that are too large.
+pub fn bound(text: &str) -> Result<u8, String> {
+    Ok(byte("bound", text)?.min(LISTED - 1))
+}
+
 /// Bits above 23 have no place in a frame; bit 23 is out of range on any site.
-pub fn set(text: &str) -> Result<u32, String> {
+pub fn set(word: &str, text: &str) -> Result<u32, String> {
     if text == "none" {
         return Ok(0);
     }
     if text.is_empty() {
-        return Err("expected terminals or 'none' after 'bad', found nothing".into());
+        return Err(format!(
+            "expected terminals or 'none' after '{word}', found nothing"
+        ));
     }
     let mut set = 0;
-    for word in text.split_whitespace() {
-        set |= 1 << number(word, "terminals after 'bad'")?.min(23);
+    for terminal in text.split_whitespace() {
+        set |= 1 << number(terminal, &format!("terminals after '{word}'"))?.min(23);
     }
     Ok(set)
 }

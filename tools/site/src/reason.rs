@@ -2,16 +2,18 @@
 //! looks at the file once more, and says nothing where it cannot tell.
 
 use crate::digits::bad_line;
-use crate::frames::{self, Plan, Refusal, Run, Word, DEAF};
+use crate::frames::{self, Plan, Refusal, Run, Word, DEAF, GROUPS};
+use crate::groups::{self, Limit};
 
 const LONGEST_FILE: usize = 24_576;
 /// Each kind's name, its lengths after the kind byte, and what they hold.
-const KINDS: [(&str, &[usize], &str); 5] = [
-    ("head", &[3], "n, source, f"),
-    ("link", &[2], "from, to"),
-    ("bad set", &[3], "a set of three bytes"),
-    ("start", &[2, 3], "value (2 bytes), rounds"),
-    ("word", &[5], "round, from, to, value (2 bytes)"),
+const KINDS: [(u8, &str, &[usize], &str); 6] = [
+    (1, "head", &[3], "n, source, f"),
+    (2, "link", &[2], "from, to"),
+    (3, "bad set", &[3], "a set of three bytes"),
+    (4, "start", &[2, 3], "value (2 bytes), rounds"),
+    (5, "word", &[5], "round, from, to, value (2 bytes)"),
+    (7, "group", &[3], "a set of three bytes"),
 ];
 
 /// What is wrong, and what would be right.
@@ -99,6 +101,7 @@ fn whole_file(file: &[u8], cause: u8) -> Option<Reason> {
         3 if !has(b"04") => {
             plainly("a run needs its value and rounds, a line 04, and there is none")
         }
+        GROUPS => groups::none_listed(),
         DEAF => hear_nobody(&frames::plan(frames::plan_part(file))),
         _ => None,
     }
@@ -148,22 +151,25 @@ impl Scene<'_> {
             9 => self.wrong_start(),
             10 => self.wrong_word(),
             11 => self.second_word(),
+            GROUPS => groups::refused(&self.plan, &self.named()?),
             _ => None,
         }
     }
 
     fn wrong_kind(&self, program: &str) -> Option<Reason> {
         let kind = *self.frame.first()?;
-        let Some((name, lengths, holds)) = usize::from(kind)
-            .checked_sub(1)
-            .and_then(|at| KINDS.get(at))
-        else {
-            return because(format!("kind {kind:02x}"), "there are 01 to 05");
+        // A plan with a bound has no place for a group, so it is not told of one.
+        let (all, of_plan) = match self.plan.limit {
+            Limit::Bound(_) => ("01 to 05", "01 and 02"),
+            Limit::Groups(_) => ("01 to 05, and 07", "01, 02 and 07"),
         };
-        if kind > 2 && program != "run" {
+        let Some((_, name, lengths, holds)) = KINDS.iter().find(|known| known.0 == kind) else {
+            return because(format!("kind {kind:02x}"), format!("there are {all}"));
+        };
+        if (3..=5).contains(&kind) && program != "run" {
             return because(
                 format!("kind {kind:02x}, a run's {name}"),
-                format!("'{program}' has 01 and 02 only"),
+                format!("'{program}' has {of_plan} only"),
             );
         }
         let found = self.frame.len() - 1;
@@ -187,12 +193,23 @@ impl Scene<'_> {
             1 if self.has(1) => plainly("a second head: 01 stands once, in the first line"),
             _ if !self.has(1) => plainly("the first line is the head, 01"),
             2 if self.has(3) || self.has(4) => plainly("links, 02, stand before 03 and 04"),
+            2 if self.has(7) => plainly("links, 02, stand before the groups, 07"),
+            7 => self.misplaced_group(),
             3 if self.has(3) => plainly("a second bad set: 03 stands once"),
             4 if self.has(4) => plainly("a second start: 04 stands once"),
             3 if self.has(4) => plainly("the bad set, 03, stands before 04"),
             4 => plainly("the start, 04, stands after the bad set, 03"),
             5 if !self.has(4) => plainly("a word, 05, stands after the start, 04"),
             _ => None,
+        }
+    }
+
+    fn misplaced_group(&self) -> Option<Reason> {
+        match self.plan.limit {
+            Limit::Bound(bound) => plainly(format!(
+                "a group, and the head has the bound {bound}: groups stand where it has ff"
+            )),
+            Limit::Groups(_) => plainly("groups, 07, stand before 03 and 04"),
         }
     }
 
@@ -273,7 +290,9 @@ impl Scene<'_> {
 
     fn too_many_bad(&self) -> Option<Reason> {
         let named = self.named()?;
-        let bound = self.plan.bound;
+        let Limit::Bound(bound) = self.plan.limit else {
+            return groups::part_of_none(&named);
+        };
         let heard = |terminal: u8| -> Vec<u8> {
             let all = self.plan.heard_by(terminal);
             all.into_iter().filter(|one| named.contains(one)).collect()

@@ -3,10 +3,12 @@
 //!
 //! Whatever set of new links mends a plan must touch the verdict's F, L, R on it: a link from F
 //! to a good terminal (or F stays a bad set) or from L to R (or R stays cut off). So the next link
-//! is looked for among these alone, and no mend is missed.
+//! is looked for among these alone, and no mend is missed. Where the plan lists groups, no link
+//! makes F less of a bad set, and those from L to R are left.
 
 use crate::ask::Programs;
 use crate::frames::{Plan, Verdict};
+use crate::groups::Limit;
 use crate::Trouble;
 use std::collections::BTreeSet;
 use std::io::{self, IsTerminal, Write};
@@ -112,8 +114,10 @@ impl<'a> Search<'a> {
     fn touching(&self, verdict: &Verdict) -> Vec<Link> {
         let brings =
             |(from, to): &&Link| verdict.reached.contains(from) && verdict.cut_off.contains(to);
-        let rules_out =
-            |(from, to): &&Link| verdict.bad.contains(from) && !verdict.bad.contains(to);
+        let counts_links = matches!(self.plan.limit, Limit::Bound(_));
+        let rules_out = |(from, to): &&Link| {
+            counts_links && verdict.bad.contains(from) && !verdict.bad.contains(to)
+        };
         let first = self.pool.iter().filter(brings);
         first
             .chain(self.pool.iter().filter(rules_out))

@@ -5,6 +5,7 @@ use crate::frames::Plan;
 use crate::places::{self, Layout};
 use crate::search::Link;
 use crate::shapes::{circle, mark, Pen, Point, Role};
+use crate::tags::{self, TAG_LINE};
 use std::collections::BTreeMap;
 
 const LEFT: f64 = 40.0;
@@ -54,7 +55,8 @@ impl<'a> Sheet<'a> {
         };
         let labels = (0..plan.terminals).filter_map(|terminal| sheet.beside(terminal));
         let longest = labels.map(|words| words.chars().count()).max().unwrap_or(0);
-        let side = f64::max(MARGIN + 35.0, longest as f64 * LETTER + 50.0);
+        let words = f64::max(longest as f64 * LETTER, tags::widest(plan));
+        let side = f64::max(MARGIN + 35.0, words + 50.0);
         sheet.width = f64::max(sheet.layout.width + 2.0 * side, NARROWEST);
         sheet.corner.x = (sheet.width - sheet.layout.width) / 2.0;
         sheet
@@ -63,7 +65,11 @@ impl<'a> Sheet<'a> {
     /// The whole file. Lines come first and labels last, so that no line covers a label.
     pub fn picture(&self) -> String {
         let legend = self.legend();
-        let bottom = self.corner.y + self.layout.height + MARGIN;
+        let tag_line = match self.plan.limit.groups() {
+            [] => 0.0,
+            _ => TAG_LINE,
+        };
+        let bottom = self.corner.y + self.layout.height + MARGIN + tag_line;
         let height = bottom + ROW * legend.len() as f64 + 10.0;
         let mut svg = self.opening(height) + &self.heading() + &self.links();
         for terminal in 0..self.plan.terminals {
@@ -92,10 +98,10 @@ impl<'a> Sheet<'a> {
     fn heading(&self) -> String {
         let plan = self.plan;
         let facts = format!(
-            "{} terminals, source {}, bound {}, {} links",
+            "{} terminals, source {}, {}, {} links",
             plan.terminals,
             plan.source,
-            plan.bound,
+            tags::fact(&plan.limit),
             plan.links.len()
         );
         let line = |x: f64, y: u32, size: u32, class: &str, text: &str| {
@@ -199,24 +205,47 @@ impl<'a> Sheet<'a> {
             at.x,
             at.y + size * 0.36
         );
+        let tag = self.tag(terminal);
         let Some(words) = self.beside(terminal) else {
-            return number;
+            return number + &tag;
         };
+        let (place, anchor) = self.outside(terminal);
+        // A white edge keeps the words apart from the lines that they may stand on.
+        let beside = format!(
+            "<text class=\"beside\" x=\"{:.1}\" y=\"{:.1}\" font-size=\"14\" text-anchor=\"{anchor}\" stroke=\"#ffffff\" stroke-width=\"4\" paint-order=\"stroke\">{}</text>\n",
+            place.x,
+            place.y,
+            escaped(&words)
+        );
+        number + &beside + &tag
+    }
+
+    /// Where the words beside a terminal stand, and how they are anchored there.
+    fn outside(&self, terminal: u8) -> (Point, &'static str) {
         let out = self.layout.outwards[usize::from(terminal)];
-        let place = at.moved(out, self.layout.size * 1.4 + self.ring(terminal) + 12.0);
+        let away = self.layout.size * 1.4 + self.ring(terminal) + 12.0;
+        let place = self.spot(terminal).moved(out, away);
         let anchor = match out.x {
             x if x > 0.3 => "start",
             x if x < -0.3 => "end",
             _ => "middle",
         };
-        // A white edge keeps the words apart from the lines that they may stand on.
-        number
-            + &format!(
-                "<text class=\"beside\" x=\"{:.1}\" y=\"{:.1}\" font-size=\"14\" text-anchor=\"{anchor}\" stroke=\"#ffffff\" stroke-width=\"4\" paint-order=\"stroke\">{}</text>\n",
-                place.x,
-                place.y + 5.0,
-                escaped(&words)
-            )
+        let y = place.y + 5.0;
+        (Point { y, ..place }, anchor)
+    }
+
+    /// The letters of its groups, farther out than the words beside it.
+    fn tag(&self, terminal: u8) -> String {
+        let letters = tags::letters(&self.plan.limit, terminal);
+        if letters.is_empty() {
+            return letters;
+        }
+        let (mut place, anchor) = self.outside(terminal);
+        if self.beside(terminal).is_some() {
+            let upwards = self.layout.outwards[usize::from(terminal)].y < -0.3;
+            place.y += if upwards { -TAG_LINE } else { TAG_LINE };
+        }
+        tags::tag(place, anchor, &letters)
     }
 
     /// Samples, drawn around (0, 0), with their words.
@@ -228,6 +257,7 @@ impl<'a> Sheet<'a> {
         let mut rows: Vec<(String, String)> = roles
             .map(|(role, words)| (role.outline(here, 11.0), words.clone()))
             .collect();
+        rows.extend(tags::legend(&self.plan.limit));
         let source = self.document.extras.called(self.plan.source);
         rows.push((source_ring(here, 8.0), format!("the source: {source}")));
         let right = "the right one hears the left one".to_string();

@@ -2,6 +2,7 @@
 
 use crate::document::Extras;
 use crate::frames::{Plan, Run, Word};
+use crate::groups::{Group, Limit};
 use std::collections::BTreeSet;
 
 pub fn plan(plan: &Plan, extras: &Extras) -> String {
@@ -9,13 +10,11 @@ pub fn plan(plan: &Plan, extras: &Extras) -> String {
     if let Some(site) = &extras.site {
         text += &format!("site \"{site}\"\n");
     }
-    for (word, number) in [
-        ("terminals", plan.terminals),
-        ("source", plan.source),
-        ("bound", plan.bound),
-    ] {
-        text += &format!("{word} {number}\n");
-    }
+    text += &format!("terminals {}\nsource {}\n", plan.terminals, plan.source);
+    text += &match &plan.limit {
+        Limit::Bound(bound) => format!("bound {bound}\n"),
+        Limit::Groups(groups) => groups.iter().map(group).collect(),
+    };
     text += &links(&plan.links);
     for (terminal, name) in &extras.names {
         text += &format!("name {terminal} \"{name}\"\n");
@@ -24,6 +23,10 @@ pub fn plan(plan: &Plan, extras: &Extras) -> String {
         text += &format!("at {terminal} {across} {down}\n");
     }
     text
+}
+
+pub fn group(group: &Group) -> String {
+    format!("group{}\n", spaced_or_none(group))
 }
 
 /// For each terminal whom it hears and is heard by, once for a pair, and then who only hears it.
@@ -56,12 +59,15 @@ fn spaced(numbers: &[u8]) -> String {
     numbers.iter().map(|number| format!(" {number}")).collect()
 }
 
+fn spaced_or_none(set: &[u8]) -> String {
+    if set.is_empty() {
+        return " none".into();
+    }
+    spaced(set)
+}
+
 pub fn run(run: &Run) -> String {
-    let bad = if run.bad.is_empty() {
-        " none".to_string()
-    } else {
-        spaced(&run.bad)
-    };
+    let bad = spaced_or_none(&run.bad);
     let mut text = format!("bad{bad}\nvalue {}\n", run.value);
     if run.given {
         text += &format!("rounds {}\n", run.rounds);

@@ -6,6 +6,7 @@ use crate::ask::Programs;
 use crate::deaf::Hearing;
 use crate::document::Document;
 use crate::frames::{self, Answer, Plan, Refusal, State, MOST_ROUNDS};
+use crate::groups::{self, Limit};
 use crate::reason::{self, with_and};
 use crate::{words, Told, Trouble};
 use std::collections::BTreeSet;
@@ -21,24 +22,33 @@ pub fn with_bad(
     let bad = numbers(terminals)?;
     let plan = programs.accepted_plan(document)?;
     let hearing = Hearing::of(&plan, &bad);
-    let set = bad.iter().fold(0, |set, one| set | 1 << one);
-    let run = frames::bad_set(set) + &frames::start(1, Some(MOST_ROUNDS));
+    let run = frames::bad_set(frames::set_of(&bad)) + &frames::start(1, Some(MOST_ROUNDS));
     let who = with_and(&bad);
     let asked = hearing.plan.to_frames() + &run;
     match programs.ask("run", asked.as_bytes())?.1 {
         Answer::Terminals(states) => {
-            let states = hearing.states(states);
-            Ok(silent(document, &who, plan.bound, &states))
+            let may = format!("{who} may be bad: {}\n", why_allowed(&plan.limit, &bad));
+            Ok(silent(document, may, &hearing.states(states)))
         }
         Answer::Refused(refusal) => Ok(not_allowed(&plan, &run, &who, refusal.cause)),
         _ => Err(Trouble::Broken("'run' gave no states".into())),
     }
 }
 
-/// Why is found on the user's own plan, where the bad set is the line after the links.
+fn why_allowed(limit: &Limit, bad: &[u8]) -> String {
+    match limit {
+        Limit::Bound(bound) => {
+            format!("no good terminal hears more than {bound} of the bad ones")
+        }
+        Limit::Groups(groups) => groups::may_be_bad(groups, bad),
+    }
+}
+
+/// Why is found on the user's own plan, where the bad set is the line after it.
 fn not_allowed(plan: &Plan, run: &str, who: &str, cause: u8) -> Told {
-    let file = plan.to_frames() + run;
-    let line = plan.links.len() + 2;
+    let plan = plan.to_frames();
+    let line = plan.lines().count() + 1;
+    let file = plan + run;
     let refusal = Refusal { cause, line };
     let why = reason::find(file.as_bytes(), "run", &refusal, &|line| line);
     let why = why.map_or_else(|| words::cause(&refusal).to_string(), |why| why.whole());
@@ -63,14 +73,12 @@ fn numbers(terminals: &[String]) -> Result<Vec<u8>, Trouble> {
     Ok(numbers.into_iter().collect())
 }
 
-fn silent(document: &Document, who: &str, bound: u8, states: &[(u8, State)]) -> Told {
+fn silent(document: &Document, may: String, states: &[(u8, State)]) -> Told {
     let waiting: Vec<u8> = states
         .iter()
         .filter(|(_, state)| *state == State::Waiting)
         .map(|(terminal, _)| *terminal)
         .collect();
-    let may =
-        format!("{who} may be bad: no good terminal hears more than {bound} of the bad ones\n");
     let (then, status) = if waiting.is_empty() {
         let last = words::rounds(words::last_take(states));
         (

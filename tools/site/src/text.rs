@@ -1,12 +1,20 @@
-//! The text form: three lines for the head, links, names and places, and a run under the plan.
-//! docs/help/text.txt has it for people.
+//! The text form: three lines for the head, or two and the groups; links, names and places, and a
+//! run under the plan. docs/help/text.txt has it for people.
 
 use crate::document::Extras;
 use crate::frames::{self, Word};
-use crate::numbers::{byte, layout, measure, number, quoted, set};
+use crate::groups::LISTED;
+use crate::numbers::{bound, byte, layout, measure, number, quoted, set};
 use std::collections::BTreeSet;
 
 const HEAD: [&str; 3] = ["terminals", "source", "bound"];
+/// The same as they are asked for where they are missing.
+const WANTED: [&str; 3] = [
+    "'terminals NUMBER'",
+    "'source NUMBER'",
+    "'bound NUMBER' or 'group TERMINAL..'",
+];
+const NOT_BOTH: &str = "a plan has a bound or groups, not both";
 
 /// Where a part of the text stands, to be told of where it is refused.
 #[derive(Clone)]
@@ -20,10 +28,12 @@ struct Part<T> {
     is: T,
 }
 
-/// The head's parts by their place in `HEAD`, and the others in the order given.
+/// The head's parts by their place in `HEAD`, and the others in the order given. There is a bound
+/// or a group, and not both.
 #[derive(Default)]
 pub struct Draft {
     head: [Option<Part<u8>>; 3],
+    groups: Vec<Part<u32>>,
     links: Vec<Part<(u8, u8)>>,
     bad: Option<Part<u32>>,
     value: Option<Part<u16>>,
@@ -43,8 +53,8 @@ pub fn read(text: &str) -> Result<Draft, String> {
         };
         taken.map_err(|why| format!("line {line}: {why}"))?;
     }
-    if let Some(word) = draft.missing() {
-        return Err(format!("end of the file: expected '{word} NUMBER'"));
+    if let Some(wanted) = draft.missing() {
+        return Err(format!("end of the file: expected {wanted}"));
     }
     if draft.value.is_none() && draft.has_run_part() {
         return Err("end of the file: expected 'value NUMBER', since it has a run".into());
@@ -67,8 +77,11 @@ fn without_comment(line: &str) -> &str {
 
 impl Draft {
     fn missing(&self) -> Option<&'static str> {
-        let place = self.head.iter().position(Option::is_none)?;
-        Some(HEAD[place])
+        let [terminals, source, bound] = &self.head;
+        let limit = bound.is_some() || !self.groups.is_empty();
+        let there = [terminals.is_some(), source.is_some(), limit];
+        let place = there.iter().position(|is| !is)?;
+        Some(WANTED[place])
     }
 
     fn has_run_part(&self) -> bool {
@@ -78,18 +91,23 @@ impl Draft {
     fn take(&mut self, line: usize, text: &str) -> Result<(), String> {
         let (word, rest) = text.split_once(char::is_whitespace).unwrap_or((text, ""));
         let rest = rest.trim();
-        if let Some(place) = HEAD.iter().position(|known| *known == word) {
-            return take_once(&mut self.head[place], line, text, byte(word, rest)?);
+        match (HEAD.iter().position(|known| *known == word), word) {
+            (Some(2), _) => return self.take_bound(line, text, rest),
+            (Some(place), _) => {
+                return take_once(&mut self.head[place], line, text, byte(word, rest)?)
+            }
+            (None, "group") => return self.take_group(line, text, rest),
+            _ => {}
         }
         let starts_with_letter = text.starts_with(|c: char| c.is_ascii_alphabetic());
         if let Some(missing) = self.missing() {
             return match (word, starts_with_letter) {
                 ("site", _) => self.take_site(rest),
                 (_, false) if text.contains(['>', '-']) => {
-                    Err(format!("expected '{missing} NUMBER' before the first link"))
+                    Err(format!("expected {missing} before the first link"))
                 }
                 (known, _) if LATER.contains(&known) => {
-                    Err(format!("expected '{missing} NUMBER' before '{word}'"))
+                    Err(format!("expected {missing} before '{word}'"))
                 }
                 _ => Err(unknown(text)),
             };
@@ -98,13 +116,37 @@ impl Draft {
             "site" => self.take_site(rest),
             "name" => self.take_name(rest),
             "at" => self.take_place(rest),
-            "bad" => take_once(&mut self.bad, line, text, set(rest)?),
+            "bad" => take_once(&mut self.bad, line, text, set(word, rest)?),
             "value" => take_once(&mut self.value, line, text, layout("value", rest)?),
             "rounds" => take_once(&mut self.rounds, line, text, byte(word, rest)?),
             "round" => self.take_words(line, rest),
             _ if starts_with_letter => Err(unknown(text)),
             _ => self.take_links(line, text),
         }
+    }
+
+    fn take_bound(&mut self, line: usize, text: &str, rest: &str) -> Result<(), String> {
+        let number = bound(rest)?;
+        if let Some(group) = self.groups.first() {
+            let given = group.place.line;
+            return Err(format!(
+                "'bound', and line {given} has a 'group': {NOT_BOTH}"
+            ));
+        }
+        take_once(&mut self.head[2], line, text, number)
+    }
+
+    fn take_group(&mut self, line: usize, text: &str, rest: &str) -> Result<(), String> {
+        let is = set("group", rest)?;
+        if let Some(bound) = &self.head[2] {
+            let given = bound.place.line;
+            return Err(format!(
+                "'group', and line {given} has the 'bound': {NOT_BOTH}"
+            ));
+        }
+        let place = place_of(line, text);
+        self.groups.push(Part { place, is });
+        Ok(())
     }
 
     fn take_links(&mut self, line: usize, text: &str) -> Result<(), String> {
@@ -210,20 +252,32 @@ impl Draft {
 
     /// Each frame with its places in the text, and how many frames are the plan's.
     pub fn frames(&self) -> (Vec<(String, Vec<Place>)>, usize) {
-        let [Some(terminals), Some(source), Some(bound)] = &self.head else {
-            unreachable!("nothing is missing");
-        };
-        let head = [terminals, source, bound].map(|part| part.place.clone());
-        let frame = frames::head(terminals.is, source.is, bound.is);
-        let mut lines = vec![(frame, head.to_vec())];
+        let mut lines = vec![self.head_frame()];
         for Part { place, is } in &self.links {
             lines.push((frames::link(is.0, is.1), vec![place.clone()]));
+        }
+        for Part { place, is } in &self.groups {
+            lines.push((frames::group(*is), vec![place.clone()]));
         }
         let plan_lines = lines.len();
         if let Some(value) = &self.value {
             lines.extend(self.run_frames(value));
         }
         (lines, plan_lines)
+    }
+
+    /// Where groups are listed the third number is never refused, so it needs no place.
+    fn head_frame(&self) -> (String, Vec<Place>) {
+        let [Some(terminals), Some(source), bound] = &self.head else {
+            unreachable!("nothing is missing");
+        };
+        let limit = bound.as_ref().map_or(LISTED, |bound| bound.is);
+        let given = [Some(terminals), Some(source), bound.as_ref()];
+        let places = given.into_iter().flatten().map(|part| part.place.clone());
+        (
+            frames::head(terminals.is, source.is, limit),
+            places.collect(),
+        )
     }
 
     /// Without a 'bad' line nobody is bad.
@@ -282,15 +336,20 @@ fn unknown(text: &str) -> String {
 }
 
 fn take_once<T>(part: &mut Option<Part<T>>, line: usize, text: &str, is: T) -> Result<(), String> {
-    let words = text.split_whitespace().collect::<Vec<_>>().join(" ");
+    let place = place_of(line, text);
     if let Some(first) = part {
         let (given, word) = (
             first.place.line,
-            words.split(' ').next().unwrap_or_default(),
+            place.words.split(' ').next().unwrap_or_default(),
         );
         return Err(format!("expected '{word}' once, and line {given} has it"));
     }
-    let place = Place { line, words };
     *part = Some(Part { place, is });
     Ok(())
+}
+
+/// A whole line, with single blanks.
+fn place_of(line: usize, text: &str) -> Place {
+    let words = text.split_whitespace().collect::<Vec<_>>().join(" ");
+    Place { line, words }
 }

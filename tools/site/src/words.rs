@@ -2,7 +2,8 @@
 
 use crate::ask::Programs;
 use crate::document::{Document, Extras};
-use crate::frames::{self, Plan, Refusal, Run, State, Verdict, DEAF};
+use crate::frames::{self, Plan, Refusal, Run, State, Verdict, DEAF, GROUPS};
+use crate::groups::{self, Limit};
 use crate::Trouble;
 
 /// The lines under a verdict's frame. How fast a notice is when nobody lies is asked of `run`.
@@ -23,7 +24,7 @@ pub fn of_verdict(
         words: Vec::new(),
     };
     let states = programs.states(&(plan.to_frames() + &run.to_frames()))?;
-    Ok(vec![
+    let mut lines = vec![
         format!(
             "pass: whatever a bad set says, every good terminal has the source's layout after {} (n-1)",
             rounds(plan.terminals - 1)
@@ -32,7 +33,9 @@ pub fn of_verdict(
             "if nobody is bad, the last one has it after {}",
             rounds(last_take(&states))
         ),
-    ])
+    ];
+    lines.extend(groups::relied_on(&plan, &document.extras));
+    Ok(lines)
 }
 
 pub fn rounds(count: u8) -> String {
@@ -67,24 +70,29 @@ fn failed(plan: &Plan, extras: &Extras, verdict: &Verdict) -> Vec<String> {
         lines.push(short_of(plan, extras, verdict, terminal));
     }
     if !verdict.bad.is_empty() {
-        lines.push(format!(
-            "the bound, {}, counts the bad ones that one good terminal hears, not those of the site ({})",
-            plan.bound,
-            verdict.bad.len()
-        ));
+        lines.extend(why_bad(plan, &verdict.bad));
     }
     lines
 }
 
-/// How many reached neighbours a cut-off terminal hears, and how many it would need.
+/// Why the least witness is a bad set at all.
+fn why_bad(plan: &Plan, bad: &[u8]) -> Option<String> {
+    match &plan.limit {
+        Limit::Bound(bound) => Some(format!(
+            "the bound, {bound}, counts the bad ones that one good terminal hears, not those of the site ({})",
+            bad.len()
+        )),
+        Limit::Groups(groups) => groups::bad_part(groups, bad),
+    }
+}
+
+/// Which reached neighbours a cut-off terminal hears, and what it would need.
 fn short_of(plan: &Plan, extras: &Extras, verdict: &Verdict, terminal: u8) -> String {
     let heard = plan.heard_by(terminal);
-    let (called, needs) = (extras.called(terminal), plan.bound + 1);
+    let called = extras.called(terminal);
     if heard.is_empty() {
-        let ending = if needs == 1 { "" } else { "s" };
-        return format!(
-            "terminal {called} hears nobody and needs {needs} reached terminal{ending}, or the source"
-        );
+        let needs = needs_reached(&plan.limit);
+        return format!("terminal {called} hears nobody and needs {needs}, or the source");
     }
     let reached: Vec<u8> = heard
         .into_iter()
@@ -95,7 +103,19 @@ fn short_of(plan: &Plan, extras: &Extras, verdict: &Verdict, terminal: u8) -> St
         1 => format!("1 reached terminal ({})", reached[0]),
         more => format!("{more} reached terminals ({})", plain(&reached)),
     };
-    format!("terminal {called} hears {whom} and needs {needs}, or the source")
+    let short = match &plan.limit {
+        Limit::Bound(bound) => format!(" and needs {}", bound + 1),
+        Limit::Groups(groups) => groups::short_of(groups, &reached),
+    };
+    format!("terminal {called} hears {whom}{short}, or the source")
+}
+
+fn needs_reached(limit: &Limit) -> String {
+    match limit {
+        Limit::Bound(0) => "1 reached terminal".into(),
+        Limit::Bound(bound) => format!("{} reached terminals", bound + 1),
+        Limit::Groups(_) => "reached terminals who together fit in no group".into(),
+    }
 }
 
 fn plain(terminals: &[u8]) -> String {
@@ -140,8 +160,8 @@ pub fn line_of(file: &[u8], line: usize) -> String {
     }
 }
 
-/// The specification's table of causes, and the requests' after it, where they speak of files. Two
-/// rows name a whole-file part, line 0, and the words follow the line.
+/// The specification's table of causes, and the requests' after it, where they speak of files.
+/// Three rows name a whole-file part, line 0, and the words follow the line.
 pub fn cause(refusal: &Refusal) -> &'static str {
     match (refusal.cause, refusal.line) {
         (1, 0) => "file empty or too long",
@@ -153,11 +173,13 @@ pub fn cause(refusal: &Refusal) -> &'static str {
         (5, _) => "link end at or above n, or to itself",
         (6, _) => "link given twice",
         (7, _) => "bad set names the source or a number at or above n",
-        (8, _) => "a good terminal hears more than f of it",
+        (8, _) => "a good terminal hears more than f of it, or it is part of no group",
         (9, _) => "value 0, or rounds above 40",
         (10, _) => "word with round 0 or past the last, no such link, good sender, value 0",
         (11, _) => "second word on one link in one round",
         (DEAF, _) => "a terminal other than the source hears nobody",
+        (GROUPS, 0) => "no group, where the head has ff for f",
+        (GROUPS, _) => "more than 16 groups, or one naming the source or a number at or above n",
         _ => "a cause that files do not have",
     }
 }

@@ -1,4 +1,4 @@
--- The reader of files that know two kinds. Assumes nothing.
+-- The reader of files that knows the kinds of a plan. Assumes nothing.
 use borrow.Author.Needs.{needs}
 use Rattle.frames.specs.Reading.{planReading}
 use Rattle.frames.proofs.read_plan.Statement.{statement}

@@ -42,9 +42,16 @@ returns-5 : tie.Need-returns-5
 unfolding kindOf
 returns-5 c = c .message-of .ensures ∙ sym (pick-no _ _ _ (ne-eqb (c .before .before .before .before .before .before .before .args .kind) 1 (c .before .before .before .before .before .if1 .left)) ∙ pick-no _ _ _ (ne-eqb (c .before .before .before .before .before .before .before .args .kind) 2 (c .before .before .before .before .if2 .left)) ∙ pick-no _ _ _ (ne-eqb (c .before .before .before .before .before .before .before .args .kind) 3 (c .before .before .before .if3 .left)) ∙ pick-no _ _ _ (ne-eqb (c .before .before .before .before .before .before .before .args .kind) 4 (c .before .before .if4 .left)) ∙ pick-yes _ _ _ (eq-eqb (c .before .before .before .before .before .before .before .args .kind) 5 (c .before .if5 .taken)))
 
+group-of-requires : tie.Need-group-of-requires
+group-of-requires c κs = search needs
+
 returns-6 : tie.Need-returns-6
 unfolding kindOf
-returns-6 c = sym (pick-no _ _ _ (ne-eqb (c .before .before .before .before .before .before .args .kind) 1 (c .before .before .before .before .if1 .left)) ∙ pick-no _ _ _ (ne-eqb (c .before .before .before .before .before .before .args .kind) 2 (c .before .before .before .if2 .left)) ∙ pick-no _ _ _ (ne-eqb (c .before .before .before .before .before .before .args .kind) 3 (c .before .before .if3 .left)) ∙ pick-no _ _ _ (ne-eqb (c .before .before .before .before .before .before .args .kind) 4 (c .before .if4 .left)) ∙ pick-no _ _ _ (ne-eqb (c .before .before .before .before .before .before .args .kind) 5 (c .if5 .left)))
+returns-6 c = c .group-of .ensures ∙ sym (pick-no _ _ _ (ne-eqb (c .before .before .before .before .before .before .before .before .args .kind) 1 (c .before .before .before .before .before .before .if1 .left)) ∙ pick-no _ _ _ (ne-eqb (c .before .before .before .before .before .before .before .before .args .kind) 2 (c .before .before .before .before .before .if2 .left)) ∙ pick-no _ _ _ (ne-eqb (c .before .before .before .before .before .before .before .before .args .kind) 3 (c .before .before .before .before .if3 .left)) ∙ pick-no _ _ _ (ne-eqb (c .before .before .before .before .before .before .before .before .args .kind) 4 (c .before .before .before .if4 .left)) ∙ pick-no _ _ _ (ne-eqb (c .before .before .before .before .before .before .before .before .args .kind) 5 (c .before .before .if5 .left)) ∙ pick-yes _ _ _ (eq-eqb (c .before .before .before .before .before .before .before .before .args .kind) 7 (c .before .if6 .taken)))
+
+returns-7 : tie.Need-returns-7
+unfolding kindOf
+returns-7 c = sym (pick-no _ _ _ (ne-eqb (c .before .before .before .before .before .before .before .args .kind) 1 (c .before .before .before .before .before .if1 .left)) ∙ pick-no _ _ _ (ne-eqb (c .before .before .before .before .before .before .before .args .kind) 2 (c .before .before .before .before .if2 .left)) ∙ pick-no _ _ _ (ne-eqb (c .before .before .before .before .before .before .before .args .kind) 3 (c .before .before .before .if3 .left)) ∙ pick-no _ _ _ (ne-eqb (c .before .before .before .before .before .before .before .args .kind) 4 (c .before .before .if4 .left)) ∙ pick-no _ _ _ (ne-eqb (c .before .before .before .before .before .before .before .args .kind) 5 (c .before .if5 .left)) ∙ pick-no _ _ _ (ne-eqb (c .before .before .before .before .before .before .before .args .kind) 7 (c .if6 .left)))
 
 pub kind-of-spec : {M : Type 1} → statement M
 kind-of-spec =
@@ -60,4 +67,6 @@ kind-of-spec =
     returns-4
     message-of-requires
     returns-5
-    returns-6)
+    group-of-requires
+    returns-6
+    returns-7)

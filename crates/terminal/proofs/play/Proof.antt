@@ -51,11 +51,11 @@ returns : tie.Need-returns
 returns c =
     let a = c .before .before .before .before .before .before .args in
     let p = c .before .before .before .before .before .before .pre in
-    waiting-shown (a .n) (a .source) (a .f) (a .heard) (λ j. getD (a .said .now) j 0) (a .before) (p .4) (p .5) (c .before .before .enum-told .given .1) (c .decide .result)
+    waiting-shown (a .n) (a .source) (a .bound) (a .heard) (λ j. getD (a .said .now) j 0) (a .before) (p .4) (p .5) (c .before .before .enum-told .given .1) (c .decide .result)
     (c .decide .ensures
     ∙ ap
     (λ (x : Record).
-    record { state = taking (x .round) (choice (a .n) (a .source) (a .f) (a .heard) (map valuesIn (x .notes))); round = x .round; notes = x .notes })
+    record { state = taking (x .round) (choice (a .n) (a .source) (a .bound) (a .heard) (map valuesIn (x .notes))); round = x .round; notes = x .notes })
     (c .before .note .ensures
     ∙ ap
     (λ (y : Record).
@@ -70,7 +70,7 @@ returns-2 : tie.Need-returns-2
 returns-2 c =
     let a = c .before .before .before .before .args in
     let p = c .before .before .before .before .pre in
-    taken-shown (a .n) (a .source) (a .f) (a .heard) (λ j. getD (a .said .now) j 0) (a .before) (p .4) (p .5) _ _ (c .enum-told2 .given .1) (c .before .before .advance .result) (c .before .before .advance .ensures)
+    taken-shown (a .n) (a .source) (a .bound) (a .heard) (λ j. getD (a .said .now) j 0) (a .before) (p .4) (p .5) _ _ (c .enum-told2 .given .1) (c .before .before .advance .result) (c .before .before .advance .ensures)
 
 pub play-spec : {M : Type 1} → statement M
 play-spec =

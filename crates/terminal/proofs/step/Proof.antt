@@ -8,7 +8,7 @@ use types.Run.{OneOf, miss}
 use denote.Enum.Declared.{tagOf}
 use borrow.Author.Needs.{needs}
 use Rattle.terminal.specs.declared.Outcome.{Outcome}
-use Rattle.terminal.specs.declared.Outcome.the-variants.{Accepted, WrongRange, WrongLink, WrongLength, WrongRecord}
+use Rattle.terminal.specs.declared.Outcome.the-variants.{Accepted, WrongRange, WrongLink, WrongGroups, WrongLength, WrongRecord}
 use Rattle.terminal.specs.Answer.{numberOf, causeOf}
 use Rattle.terminal.proofs.Outcome.{the-type}
 use Rattle.terminal.proofs.Walks.{accepted-plays, after-accepted, after-refused}
@@ -24,7 +24,7 @@ enum-told c = search needs
 -- where the outcome is Accepted, no cause applies
 accepted : (c : tie.After-enum-told)
     → let a = c .before .before .before .before .args in
-    0 ≡ causeOf (a .n) (a .source) (a .f) (a .own) (a .heard) (a .before) (length (a .said .now))
+    0 ≡ causeOf (a .n) (a .source) (a .bound) (a .own) (a .heard) (a .before) (length (a .said .now))
 accepted c = ap numberOf (sym (c .enum-told .given .1)) ∙ c .before .before .first-cause .ensures .0
 
 play-requires : tie.Need-play-requires
@@ -36,10 +36,11 @@ returns : tie.Need-returns
 returns c = (accepted (c .before), c .play .ensures ∙ after-accepted _ _ _ _ _ _ _ (accepted (c .before)))
 
 -- an outcome other than Accepted has a number that is not 0
-refused : (o : Outcome) → OneOf (1 ∷ 2 ∷ 3 ∷ 4 ∷ []) (tagOf the-type o) → eqb (numberOf o) 0 ≡ false
-refused Accepted h = absurd (miss (1 ∷ 2 ∷ 3 ∷ 4 ∷ []) 0 tt h)
+refused : (o : Outcome) → OneOf (1 ∷ 2 ∷ 3 ∷ 4 ∷ 5 ∷ []) (tagOf the-type o) → eqb (numberOf o) 0 ≡ false
+refused Accepted h = absurd (miss (1 ∷ 2 ∷ 3 ∷ 4 ∷ 5 ∷ []) 0 tt h)
 refused WrongRange h = refl
 refused WrongLink h = refl
+refused WrongGroups h = refl
 refused WrongLength h = refl
 refused WrongRecord h = refl
 

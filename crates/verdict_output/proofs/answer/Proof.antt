@@ -2,7 +2,7 @@
 use mathlib.Core.Path.{refl}
 use native.Mathlib.Omega.{arith}
 use borrow.Author.Needs.{needs}
-use Rattle.partition.specs.declared.Judgement.the-variants.{Pass, Fail, WrongRange, WrongLink}
+use Rattle.partition.specs.declared.Judgement.the-variants.{Pass, Fail, WrongRange, WrongLink, WrongGroups}
 use Rattle.verdict_output.proofs.LineLaws.{says-verdict, says-refusal}
 use Rattle.verdict_output.proofs.answer.Statement.{statement}
 use Rattle.verdict_output.proofs.answer.Tie as tie
@@ -31,6 +31,12 @@ enum-told-3 c = search needs
 refusal-requires-2 : tie.Need-refusal-requires-2
 refusal-requires-2 c κs = search needs
 
+enum-told-4 : tie.Need-enum-told-4
+enum-told-4 c = search needs
+
+refusal-requires-3 : tie.Need-refusal-requires-3
+refusal-requires-3 c κs = search needs
+
 returns : tie.Need-returns
 returns c = says-verdict _ Pass _ (c .before .enum-told .given .1) refl (c .line .ensures)
 
@@ -42,6 +48,9 @@ returns-3 c = says-refusal _ WrongRange _ (c .before .enum-told2 .given .1) (λ 
 
 returns-4 : tie.Need-returns-4
 returns-4 c = says-refusal _ WrongLink _ (c .before .enum-told3 .given .1) (λ z. omega arith) (c .refusal2 .ensures)
+
+returns-5 : tie.Need-returns-5
+returns-5 c = says-refusal _ WrongGroups _ (c .before .enum-told4 .given .1) (λ z. omega arith) (c .refusal3 .ensures)
 
 pub answer-spec : {M : Type 1} → statement M
 answer-spec =
@@ -55,7 +64,10 @@ answer-spec =
     refusal-requires
     enum-told-3
     refusal-requires-2
+    enum-told-4
+    refusal-requires-3
     returns
     returns-2
     returns-3
-    returns-4)
+    returns-4
+    returns-5)

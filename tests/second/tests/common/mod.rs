@@ -2,6 +2,8 @@
 
 #![allow(dead_code)]
 
+pub mod bytes;
+
 pub fn file(words: &str) -> Vec<u8> {
     words
         .split_whitespace()

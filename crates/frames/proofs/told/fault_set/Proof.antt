@@ -1,16 +1,16 @@
+-- Each return is the definition's case by the tests that led there. Assumes nothing.
 use mathlib.Core.Path.{refl, sym, _∙_}
 use native.Mathlib.Omega.{arith}
 use Rattle.sets.proofs.Bools.{not-i}
 use Rattle.sets.proofs.Causes.{cause-here}
 use Rattle.frames.specs.Reading.{faultSetCause, after}
 use Rattle.frames.proofs.TellLaws.{fault-set-at}
--- Each return is the definition's case by the tests that led there. Assumes nothing.
 use borrow.Author.Needs.{needs}
 use Rattle.frames.proofs.told.fault_set.Statement.{statement}
 use Rattle.frames.proofs.told.fault_set.Tie as tie
 
-is-at-requires : tie.Need-is-at-requires
-is-at-requires c κs = search needs
+in-plan-requires : tie.Need-in-plan-requires
+in-plan-requires c κs = search needs
 
 check-fault-set-requires : tie.Need-check-fault-set-requires
 check-fault-set-requires c κs = search needs
@@ -19,17 +19,23 @@ number-requires : tie.Need-number-requires
 number-requires c κs = search needs
 
 returns : tie.Need-returns
-returns c = (c .before .number .ensures ∙ c .before .before .check-fault-set .ensures ∙ sym (fault-set-at _ _ (sym (c .before .before .before .before .is-at .ensures) ∙ c .before .before .before .if1 .taken)), λ z. absurd (c .if2 .taken z))
+returns c = (c .before .number .ensures ∙ c .before .before .check-fault-set .ensures ∙ sym (fault-set-at _ _ (sym (c .before .before .before .before .in-plan .ensures) ∙ c .before .before .before .if1 .taken)), λ z. absurd (c .if2 .taken z))
 
 returns-2 : tie.Need-returns-2
 unfolding after
-returns-2 c = (sym (c .if2 .left) ∙ c .before .number .ensures ∙ c .before .before .check-fault-set .ensures ∙ sym (fault-set-at _ _ (sym (c .before .before .before .before .is-at .ensures) ∙ c .before .before .before .if1 .taken)), λ z. refl)
+returns-2 c = (sym (c .if2 .left) ∙ c .before .number .ensures ∙ c .before .before .check-fault-set .ensures ∙ sym (fault-set-at _ _ (sym (c .before .before .before .before .in-plan .ensures) ∙ c .before .before .before .if1 .taken)), λ z. refl)
 
 returns-3 : tie.Need-returns-3
 unfolding faultSetCause
-returns-3 c = (sym (cause-here _ _ _ (not-i (sym (c .before .is-at .ensures) ∙ c .if1 .left))), λ z. absurd (omega arith))
+returns-3 c = (sym (cause-here _ _ _ (not-i (sym (c .before .in-plan .ensures) ∙ c .if1 .left))), λ z. absurd (omega arith))
 
 pub fault-set-spec : {M : Type 1} → statement M
 fault-set-spec =
     tie.close
-    (tie.spec is-at-requires check-fault-set-requires number-requires returns returns-2 returns-3)
+    (tie.spec
+    in-plan-requires
+    check-fault-set-requires
+    number-requires
+    returns
+    returns-2
+    returns-3)

@@ -1,8 +1,8 @@
+-- Each arm is the definition's case of the frame's variant. Assumes nothing.
 use mathlib.Core.Path.{refl}
 use native.Mathlib.Omega.{arith}
 use Rattle.frames.specs.Reading.{causeIn, wordsAfter, after}
 use Rattle.frames.proofs.TellLaws.{told-by, either}
--- Each arm is the definition's case of the frame's variant. Assumes nothing.
 use borrow.Author.Needs.{needs}
 use Rattle.frames.proofs.told.tell.Statement.{statement}
 use Rattle.frames.proofs.told.tell.Tie as tie
@@ -34,17 +34,23 @@ link-requires c κs = search needs
 enum-known-frame-3 : tie.Need-enum-known-frame-3
 enum-known-frame-3 c = search needs
 
-fault-set-requires : tie.Need-fault-set-requires
-fault-set-requires c κs = search needs
+group-requires : tie.Need-group-requires
+group-requires c κs = search needs
 
 enum-known-frame-4 : tie.Need-enum-known-frame-4
 enum-known-frame-4 c = search needs
 
-start-requires : tie.Need-start-requires
-start-requires c κs = search needs
+fault-set-requires : tie.Need-fault-set-requires
+fault-set-requires c κs = search needs
 
 enum-known-frame-5 : tie.Need-enum-known-frame-5
 enum-known-frame-5 c = search needs
+
+start-requires : tie.Need-start-requires
+start-requires c κs = search needs
+
+enum-known-frame-6 : tie.Need-enum-known-frame-6
+enum-known-frame-6 c = search needs
 
 cast-message : tie.Need-cast-message
 cast-message c = search needs
@@ -73,18 +79,22 @@ returns-4 c = told-by _ _ _ _ _ _ (c .before .before .frame2 .given .1) (c .link
 
 returns-5 : tie.Need-returns-5
 unfolding causeIn wordsAfter
-returns-5 c = told-by _ _ _ _ _ _ (c .before .before .frame3 .given .1) (c .fault-set .ensures .0) (c .fault-set .ensures .1) (either _ _)
+returns-5 c = told-by _ _ _ _ _ _ (c .before .before .frame3 .given .1) (c .group .ensures .0) (c .group .ensures .1) (either _ _)
 
 returns-6 : tie.Need-returns-6
 unfolding causeIn wordsAfter
-returns-6 c = told-by _ _ _ _ _ _ (c .before .before .frame4 .given .1) (c .start .ensures .0) (c .start .ensures .1) (either _ _)
+returns-6 c = told-by _ _ _ _ _ _ (c .before .before .frame4 .given .1) (c .fault-set .ensures .0) (c .fault-set .ensures .1) (either _ _)
+
+returns-7 : tie.Need-returns-7
+unfolding causeIn wordsAfter
+returns-7 c = told-by _ _ _ _ _ _ (c .before .before .frame5 .given .1) (c .start .ensures .0) (c .start .ensures .1) (either _ _)
 
 same-length : tie.Need-same-length
 same-length c = search needs
 
-returns-7 : tie.Need-returns-7
+returns-8 : tie.Need-returns-8
 unfolding causeIn wordsAfter after
-returns-7 c = told-by _ _ _ _ _ _ (c .before .before .before .before .before .frame5 .given .1) (c .before .before .message .ensures .0) (λ z. refl) (c .before .before .message .ensures .1)
+returns-8 c = told-by _ _ _ _ _ _ (c .before .before .before .before .before .frame6 .given .1) (c .before .before .message .ensures .0) (λ z. refl) (c .before .before .message .ensures .1)
 
 pub tell-spec : {M : Type 1} → statement M
 tell-spec =
@@ -99,10 +109,12 @@ tell-spec =
     cast-link-2
     link-requires
     enum-known-frame-3
-    fault-set-requires
+    group-requires
     enum-known-frame-4
-    start-requires
+    fault-set-requires
     enum-known-frame-5
+    start-requires
+    enum-known-frame-6
     cast-message
     cast-message-2
     message-requires
@@ -112,5 +124,6 @@ tell-spec =
     returns-4
     returns-5
     returns-6
+    returns-7
     same-length
-    returns-7)
+    returns-8)

@@ -7,8 +7,9 @@ use borrow.Author.Needs.{needs}
 use borrow.Fn.Kinds.{In}
 use borrow.Fn.PlainCycle.{Measures, is, falls, and}
 use Rattle.plan.proofs.Laws.{sound}
-use Rattle.partition.proofs.Parts.{left, all-low, all-fault, all-part, all-fewer, meets, no-better, takes, widens}
-use Rattle.partition.proofs.Parts.{no-hope, only-inn, part-without, without-less, part-with, with-less, both}
+use Rattle.partition.proofs.Halves.{left-to}
+use Rattle.partition.proofs.Parts.{all-low, all-fault, all-part, all-fewer, meets, no-better, takes, widens}
+use Rattle.partition.proofs.Parts.{no-hope, none-left, part-without, without-less, part-with, with-less, both}
 use Rattle.partition.proofs.branch.inside.Reads as inside
 use Rattle.partition.proofs.branch.inside.Kinds as inside-kinds
 use Rattle.partition.proofs.branch.+inside+split.Lts-inside as inside-lts
@@ -28,10 +29,10 @@ use Rattle.partition.proofs.branch.+inside+split.{statement}
 use Rattle.partition.proofs.branch.+inside+split.Tie.{close}
 
 abbrev μ-inside : Measures 0 inside-kinds.ps ℕ
-μ-inside κs a = 2 * left (a .0 .n) (a .1 .1 .0) (a .1 .1 .1 .0) + 1
+μ-inside κs a = 2 * left-to (a .0 .n) (a .1 .1 .1 .0) (a .1 .1 .1 .1 .0) + 1
 
 abbrev μ-split : Measures 0 split-kinds.ps ℕ
-μ-split κs a = 2 * left (a .0 .n) (a .1 .1 .0) (a .1 .1 .1 .0)
+μ-split κs a = 2 * left-to (a .0 .n) (a .1 .1 .1 .0) (a .1 .1 .1 .1 .0)
 
 abbrev inside-at : ℕ → In 0 inside-kinds.ps
 inside-at t = and 0 inside-kinds.ps (is 0 inside-kinds.ps μ-inside t) inside.Pre
@@ -115,7 +116,7 @@ inside-returns-4 t c =
     widens part (c .before .before .before .before .before .before .spread .ensures) (c .split .ensures)
 
 split-settled-requires : (t : ℕ) → split-lts.Need-settled-requires (split-calls t) (split-at t) split.Post
-split-settled-requires t c κs = (c .pre .1 .0 .plan, c .pre .1 .0 .known-below)
+split-settled-requires t c κs = (c .pre .1 .0 .plan, c .pre .1 .0 .bound-is, c .pre .1 .0 .known-below)
 
 split-outside-requires : (t : ℕ) → split-lts.Need-outside-requires (split-calls t) (split-at t) split.Post
 split-outside-requires t c κs = sound _ (c .before .pre .1 .0 .plan) .twenty
@@ -123,7 +124,7 @@ split-outside-requires t c κs = sound _ (c .before .pre .1 .0 .plan) .twenty
 split-hopeless-requires : (t : ℕ) → split-lts.Need-hopeless-requires (split-calls t) (split-at t) split.Post
 split-hopeless-requires t c κs =
     let part = c .before .before .pre .1 .0 in
-    (part .plan, part .inn-below, c .before .settled .ensures .below, c .outside .ensures)
+    (part .plan, part .bound-is, part .inn-below, c .before .settled .ensures .below, c .outside .ensures)
 
 split-returns : (t : ℕ) → split-lts.Need-returns (split-calls t) (split-at t) split.Post
 split-returns t c =
@@ -136,7 +137,7 @@ split-outside-requires-2 t c κs = sound _ (c .before .before .before .before .p
 split-returns-2 : (t : ℕ) → split-lts.Need-returns-2 (split-calls t) (split-at t) split.Post
 split-returns-2 t c =
     let given = c .before .before .before .before .before .before .pre .1 in
-    only-inn (given .0) _ _ (given .1) (c .before .outside2 .ensures) (c .if2 .taken)
+    none-left (given .0) _ _ (given .1) (c .before .outside2 .ensures) (c .if2 .taken)
 
 split-heard-requires : (t : ℕ) → split-lts.Need-heard-requires (split-calls t) (split-at t) split.Post
 split-heard-requires t c κs = search needs

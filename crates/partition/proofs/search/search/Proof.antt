@@ -1,26 +1,24 @@
--- The least of all keys stands for the definition's best set. Assumes nothing.
-use Rattle.partition.proofs.Best.{whole, stands}
-use lib.Bits.{and-mask}
 use mathlib.Core.Path.{refl}
+use lib.Bits.{and-mask}
+use Rattle.partition.proofs.Best.{stands}
 use borrow.Author.Needs.{needs}
 use Rattle.partition.proofs.search.search.Statement.{statement}
 use Rattle.partition.proofs.search.search.Tie as tie
+use Rattle.partition.proofs.search.search.Reads as reads
+use Rattle.partition.proofs.search.search.Lts as lts
+use Rattle.partition.proofs.search.least.Reads as least-reads
 
-singleton-requires : tie.Need-singleton-requires
-singleton-requires c κs = search needs
+-- src/search.rt:77:9
+least-requires : tie.Need-least-requires
+least-requires c κs = (c .pre)
 
-inside-requires : tie.Need-inside-requires
-inside-requires c κs =
-    let s = c .before in
-    whole _ (s .pre .0) _ (c .singleton .ensures) _ (s .pre .1)
+-- src/search.rt:79:18
+cast-t5 : tie.Need-cast-t5
+cast-t5 c = search needs
 
-cast-t6 : tie.Need-cast-t6
-cast-t6 c = search needs
-
+-- src/search.rt:73:1
 returns : tie.Need-returns
-returns c =
-    let s = c .before .before in
-    stands _ (s .pre .0) _ (c .before .singleton .ensures) _ (c .inside .ensures) _ refl (and-mask (c .inside .result) 20)
+returns c = stands _ (c .before .pre .0) _ (c .least .ensures) _ refl (and-mask (c .least .result) 20)
 
 pub search-spec : {M : Type 1} → statement M
-search-spec = tie.close (tie.spec singleton-requires inside-requires cast-t6 returns)
+search-spec = tie.close (tie.spec least-requires cast-t5 returns)

@@ -5,6 +5,12 @@ use borrow.Author.Needs.{needs}
 use Rattle.replay.proofs.calls.site.Statement.{statement}
 use Rattle.replay.proofs.calls.site.Tie as tie
 
+plan-requires : tie.Need-plan-requires
+plan-requires c κs = search needs
+
+add-pairs : tie.Need-add-pairs
+add-pairs c = search needs
+
 slice-aggregate-pairs : tie.Need-slice-aggregate-pairs
 slice-aggregate-pairs c = search needs
 
@@ -33,6 +39,8 @@ pub site-spec : {M : Type 1} → statement M
 site-spec =
     tie.close
     (tie.spec
+    plan-requires
+    add-pairs
     slice-aggregate-pairs
     pairs-requires
     array-share-prefix-words

@@ -5,6 +5,12 @@ use borrow.Author.Needs.{needs}
 use Rattle.replay.proofs.calls.step.Statement.{statement}
 use Rattle.replay.proofs.calls.step.Tie as tie
 
+bound-requires : tie.Need-bound-requires
+bound-requires c κs = search needs
+
+add-record : tie.Need-add-record
+add-record c = search needs
+
 record-requires : tie.Need-record-requires
 record-requires c κs = search needs
 
@@ -36,6 +42,8 @@ pub step-spec : {M : Type 1} → statement M
 step-spec =
     tie.close
     (tie.spec
+    bound-requires
+    add-record
     record-requires
     slice-aggregate-pairs
     pairs-requires

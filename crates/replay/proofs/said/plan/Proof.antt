@@ -7,10 +7,13 @@ use Rattle.replay.proofs.said.plan.Statement.{statement}
 use Rattle.replay.proofs.said.plan.Tie as tie
 
 abbrev Inv-loop : tie.InvT-loop
-Inv-loop body rows₀ b₀ rows b = (b ≤ 20) × (length rows ≡ 20)
+Inv-loop body placed bound rows₀ b₀ rows b = (b ≤ 20) × (length rows ≡ 20)
 
 abbrev μ-loop : tie.MeasureT-loop
-μ-loop body rows₀ b₀ rows b = 20 - b
+μ-loop body placed bound rows₀ b₀ rows b = 20 - b
+
+bound-requires : tie.Need-bound-requires Inv-loop μ-loop
+bound-requires c κs = search needs
 
 loop-holds : tie.Need-loop-holds Inv-loop μ-loop
 loop-holds c = search needs
@@ -42,20 +45,17 @@ loop-again c = search needs
 byte-requires : tie.Need-byte-requires Inv-loop μ-loop
 byte-requires c κs = search needs
 
-cast-t12 : tie.Need-cast-t12 Inv-loop μ-loop
-cast-t12 c = search needs
+cast-t14 : tie.Need-cast-t14 Inv-loop μ-loop
+cast-t14 c = search needs
 
 byte-requires-2 : tie.Need-byte-requires-2 Inv-loop μ-loop
 byte-requires-2 c κs = search needs
 
-cast-t14 : tie.Need-cast-t14 Inv-loop μ-loop
-cast-t14 c = search needs
-
-byte-requires-3 : tie.Need-byte-requires-3 Inv-loop μ-loop
-byte-requires-3 c κs = search needs
-
 cast-t16 : tie.Need-cast-t16 Inv-loop μ-loop
 cast-t16 c = search needs
+
+add-t19 : tie.Need-add-t19 Inv-loop μ-loop
+add-t19 c = search needs
 
 returns : tie.Need-returns Inv-loop μ-loop
 returns c = search needs
@@ -66,6 +66,7 @@ plan-spec =
     (tie.spec
     Inv-loop
     μ-loop
+    bound-requires
     loop-holds
     mul-quad
     add-quad
@@ -76,9 +77,8 @@ plan-spec =
     loop-less
     loop-again
     byte-requires
-    cast-t12
-    byte-requires-2
     cast-t14
-    byte-requires-3
+    byte-requires-2
     cast-t16
+    add-t19
     returns)

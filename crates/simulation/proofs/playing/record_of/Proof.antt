@@ -33,7 +33,7 @@ unfolding recordOf
 returns-2 c = c .start .ensures ∙ sym (pick-no _ _ _ (ne-eqb _ _ (c .before .before .before .if1 .left)) ∙ pick-yes _ _ _ (sym (c .before .before .member .ensures) ∙ c .before .if2 .taken))
 
 heard-requires : tie.Need-heard-requires
-heard-requires c κs = (c .before .before .before .before .before .before .before .pre .0, c .before .before .before .before .before .before .before .pre .1, omega arith, c .before .before .before .before .before .before .before .pre .2)
+heard-requires c κs = (c .before .before .before .before .before .before .before .before .pre .0, c .before .before .before .before .before .before .before .before .pre .1, omega arith, c .before .before .before .before .before .before .before .before .pre .2)
 
 mul-step : tie.Need-mul-step
 mul-step c = search needs
@@ -46,7 +46,7 @@ array-share-prefix-said c = search needs
 
 slice-aggregate-step : tie.Need-slice-aggregate-step
 slice-aggregate-step c = let e : length (c .before .heard .result) ≡ 20 = ap length (c .before .heard .ensures) ∙ table-length 20 _ in
-    sym (length-take-le (c .before .before .before .before .before .before .before .before .before .args .t .plan .n) (c .before .heard .result) (omega arith))
+    sym (length-take-le (c .before .before .before .before .before .before .before .before .before .before .args .t .plan .n) (c .before .heard .result) (omega arith))
 
 step-requires : tie.Need-step-requires
 step-requires c κs = search needs
@@ -54,7 +54,7 @@ step-requires c κs = search needs
 returns-3 : tie.Need-returns-3
 unfolding recordOf heardBy
 returns-3 c = c .before .step .ensures .1
-    ∙ ap (λ (l : List ℕ). recordAfter (c .before .before .before .before .before .before .before .before .before .before .before .args .t .plan .n) (c .before .before .before .before .before .before .before .before .before .before .before .args .t .plan .source) (c .before .before .before .before .before .before .before .before .before .before .before .args .t .plan .f) (c .before .before .before .before .before .before .before .before .before .before .before .args .t .at) (heardBy (c .before .before .before .before .before .before .before .before .before .before .before .args .t .plan) (c .before .before .before .before .before .before .before .before .before .before .before .args .t .at)) (c .before .before .before .before .before .before .before .before .before .before .before .args .before) (take (c .before .before .before .before .before .before .before .before .before .before .before .args .t .plan .n) l)) (c .before .before .before .heard .ensures)
+    ∙ ap (λ (l : List ℕ). recordAfter (c .before .before .before .before .before .before .before .before .before .before .before .before .args .t .plan .n) (c .before .before .before .before .before .before .before .before .before .before .before .before .args .t .plan .source) (c .before .before .before .before .before .before .before .before .before .before .before .before .args .t .plan .bound) (c .before .before .before .before .before .before .before .before .before .before .before .before .args .t .at) (heardBy (c .before .before .before .before .before .before .before .before .before .before .before .before .args .t .plan) (c .before .before .before .before .before .before .before .before .before .before .before .before .args .t .at)) (c .before .before .before .before .before .before .before .before .before .before .before .before .args .before) (take (c .before .before .before .before .before .before .before .before .before .before .before .before .args .t .plan .n) l)) (c .before .before .before .heard .ensures)
     ∙ sym (pick-no _ _ _ (ne-eqb _ _ (c .before .before .before .before .before .before .if1 .left)) ∙ pick-no _ _ _ (sym (c .before .before .before .before .before .member .ensures) ∙ c .before .before .before .before .if2 .left))
 
 pub record-of-spec : {M : Type 1} → statement M

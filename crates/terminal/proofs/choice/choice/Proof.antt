@@ -26,7 +26,7 @@ returns c =
     let a = c .before .before .before .before .before .before .args in
     let p = c .before .before .before .before .before .before .pre in
     let e = c .before .before .before .before .before .first-values .ensures in
-    direct-yes (a .n) (a .f) (a .heard) (a .notes) (p .0) (p .2) (c .before .before .before .before .before .first-values .result .values) (e .2) (a .source) (p .1)
+    direct-yes (a .n) (a .bound) (a .heard) (a .notes) (p .0) (p .2) (c .before .before .before .before .before .first-values .result .values) (e .2) (a .source) (p .1)
     (sym (λ i. mem (a .source) (bitOr (e .0 i) (e .1 i))) ∙ sym (c .before .before .member .ensures) ∙ c .before .if1 .taken) (c .if2 .taken)
 
 least-certified-requires : tie.Need-least-certified-requires
@@ -39,7 +39,7 @@ returns-2 c =
     let e = c .before .before .before .before .before .first-values .ensures in
     let same = sym (λ i. mem (a .source) (bitOr (e .0 i) (e .1 i))) in
     c .least-certified .ensures
-    ∙ direct-no (a .n) (a .f) (a .heard) (a .notes) (p .0) (p .2) (c .before .before .before .before .before .first-values .result .values) (e .2) (a .source) (p .1)
+    ∙ direct-no (a .n) (a .bound) (a .heard) (a .notes) (p .0) (p .2) (c .before .before .before .before .before .first-values .result .values) (e .2) (a .source) (p .1)
     (⊎-elim (λ w. inl (same ∙ sym (c .before .before .member .ensures) ∙ w .0 .taken, w .1 .left)) (λ w. inr (same ∙ sym (c .before .before .member .ensures) ∙ w .left)) (c .before .if1 .came))
 
 pub choice-spec : {M : Type 1} → statement M

@@ -28,7 +28,7 @@ unfolding leastFrom
 returns c =
     let a = c .before .before .before .before .args in
     c .least-of .ensures
-    ∙ ap (leastOf (candidate (a .n) (a .f) (a .heard) (map valuesIn (a .t1)))) (sym (view-values (a .t1) (a .j)))
+    ∙ ap (leastOf (candidate (a .n) (a .bound) (a .heard) (map valuesIn (a .t1)))) (sym (view-values (a .t1) (a .j)))
     ∙ sym (pick-yes _ _ _ (sym (c .before .before .before .member .ensures) ∙ c .before .before .if1 .taken))
 
 returns-2 : tie.Need-returns-2

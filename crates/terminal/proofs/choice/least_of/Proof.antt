@@ -6,7 +6,7 @@ use native.Mathlib.Omega.{arith}
 use lib.ListN.{length, getD, take}
 use Rattle.terminal.specs.Rule.{leastOf, candidate}
 use Rattle.terminal.specs.Shown.{valuesIn}
-use Rattle.terminal.specs.Votes.{ifMany}
+use Rattle.terminal.specs.Votes.{ifEnough}
 use Rattle.terminal.proofs.Walks.{least-of-turn}
 use Rattle.terminal.proofs.Search.{voters-candidate}
 use borrow.Author.Needs.{needs}
@@ -14,10 +14,10 @@ use Rattle.terminal.proofs.choice.least_of.Statement.{statement}
 use Rattle.terminal.proofs.choice.least_of.Tie as tie
 
 abbrev Inv-loop : tie.InvT-loop
-Inv-loop notes n f heard count values best₀ i₀ best i = (i ≤ count) × (best ≡ leastOf (candidate n f heard (map valuesIn notes)) (take i values))
+Inv-loop notes n bound heard count values best₀ i₀ best i = (i ≤ count) × (best ≡ leastOf (candidate n bound heard (map valuesIn notes)) (take i values))
 
 abbrev μ-loop : tie.MeasureT-loop
-μ-loop notes n f heard count values best₀ i₀ best i = count - i
+μ-loop notes n bound heard count values best₀ i₀ best i = count - i
 
 cast-count : tie.Need-cast-count Inv-loop μ-loop
 cast-count c = search needs
@@ -35,8 +35,8 @@ array-read-value c = search needs
 voters-requires : tie.Need-voters-requires Inv-loop μ-loop
 voters-requires c κs = search needs
 
-if-many-requires : tie.Need-if-many-requires Inv-loop μ-loop
-if-many-requires c κs = search needs
+if-enough-requires : tie.Need-if-enough-requires Inv-loop μ-loop
+if-enough-requires c κs = search needs
 
 lesser-requires : tie.Need-lesser-requires Inv-loop μ-loop
 lesser-requires c κs = search needs
@@ -54,10 +54,10 @@ loop-again c =
     let l : length (a .note .values) ≡ 40 = search needs in (
       omega arith,
       c .lesser .ensures
-          ∙ least-of-turn (turn .i) (turn .best) (c .before .if-many .result) (candidate (a .n) (a .f) (a .heard) (map valuesIn (a .notes))) (a .note .values) (omega arith)
+          ∙ least-of-turn (turn .i) (turn .best) (c .before .if-enough .result) (candidate (a .n) (a .bound) (a .heard) (map valuesIn (a .notes))) (a .note .values) (omega arith)
           (turn .inv .1)
-          (c .before .if-many .ensures ∙ ap (λ (s : ℕ). ifMany (a .f) s (getD (a .note .values) (turn .i) 0)) (c .before .before .voters .ensures)
-          ∙ voters-candidate (a .n) (a .f) (a .heard) (a .notes) (c .before .before .before .before .before .before .before .pre .0) (getD (a .note .values) (turn .i) 0)),
+          (c .before .if-enough .ensures ∙ ap (λ (s : ℕ). ifEnough (a .bound) s (getD (a .note .values) (turn .i) 0)) (c .before .before .voters .ensures)
+          ∙ voters-candidate (a .n) (a .bound) (a .heard) (a .notes) (c .before .before .before .before .before .before .before .pre .0) (getD (a .note .values) (turn .i) 0)),
     )
 
 returns : tie.Need-returns Inv-loop μ-loop
@@ -66,7 +66,7 @@ returns c =
     let a = c .before .before .before .before .args in
     let l = c .before .loop in
     let e : l .i ≡ a .note .count = omega arith in
-    l .inv .1 ∙ ap (λ (k : ℕ). leastOf (candidate (a .n) (a .f) (a .heard) (map valuesIn (a .notes))) (take k (a .note .values))) e
+    l .inv .1 ∙ ap (λ (k : ℕ). leastOf (candidate (a .n) (a .bound) (a .heard) (map valuesIn (a .notes))) (take k (a .note .values))) e
 
 pub least-of-spec : {M : Type 1} → statement M
 least-of-spec =
@@ -79,7 +79,7 @@ least-of-spec =
     mul-value
     array-read-value
     voters-requires
-    if-many-requires
+    if-enough-requires
     lesser-requires
     add-i
     loop-less

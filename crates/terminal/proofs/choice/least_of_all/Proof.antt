@@ -11,10 +11,10 @@ use Rattle.terminal.proofs.choice.least_of_all.Statement.{statement}
 use Rattle.terminal.proofs.choice.least_of_all.Tie as tie
 
 abbrev Inv-loop : tie.InvT-loop
-Inv-loop notes n f heard best₀ j₀ best j = (j ≤ n) × (best ≡ least j (leastFrom n f heard (map valuesIn notes)))
+Inv-loop notes n bound heard best₀ j₀ best j = (j ≤ n) × (best ≡ least j (leastFrom n bound heard (map valuesIn notes)))
 
 abbrev μ-loop : tie.MeasureT-loop
-μ-loop notes n f heard best₀ j₀ best j = n - j
+μ-loop notes n bound heard best₀ j₀ best j = n - j
 
 loop-holds : tie.Need-loop-holds Inv-loop μ-loop
 unfolding least
@@ -40,7 +40,7 @@ returns c =
     let a = c .before .before .args in
     let l = c .before .loop in
     let e : l .j ≡ a .n = omega arith in
-    l .inv .1 ∙ ap (λ (k : ℕ). least k (leastFrom (a .n) (a .f) (a .heard) (map valuesIn (a .notes)))) e
+    l .inv .1 ∙ ap (λ (k : ℕ). least k (leastFrom (a .n) (a .bound) (a .heard) (map valuesIn (a .notes)))) e
 
 pub least-of-all-spec : {M : Type 1} → statement M
 least-of-all-spec =

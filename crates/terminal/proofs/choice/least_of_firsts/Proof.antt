@@ -13,10 +13,10 @@ use Rattle.terminal.proofs.choice.least_of_firsts.Statement.{statement}
 use Rattle.terminal.proofs.choice.least_of_firsts.Tie as tie
 
 abbrev Inv-loop : tie.InvT-loop
-Inv-loop notes n f first values best₀ rest₀ j₀ best rest j = (j ≤ n) × Looked n f notes values (first .single) (first .fickle) j best rest
+Inv-loop notes n bound first values best₀ rest₀ j₀ best rest j = (j ≤ n) × Looked n bound notes values (first .single) (first .fickle) j best rest
 
 abbrev μ-loop : tie.MeasureT-loop
-μ-loop notes n f first values best₀ rest₀ j₀ best rest j = n - j
+μ-loop notes n bound first values best₀ rest₀ j₀ best rest j = n - j
 
 loop-holds : tie.Need-loop-holds Inv-loop μ-loop
 loop-holds c = (omega arith, looked-none _ _ _ _ _ _)
@@ -52,7 +52,7 @@ loop-again c =
     let low : Fits w32 (c .before .before .same .result) = search needs in (
       omega arith,
       (let e = c .lesser .ensures in
-          rw e (looked-at (a .n) (a .f) (a .notes) (a .first .values) (a .first .single) (a .first .fickle) (l .j) (l .best) (l .rest) (l .inv .1) (omega arith) (c .before .before .before .before .before .before .before .before .pre .0)
+          rw e (looked-at (a .n) (a .bound) (a .notes) (a .first .values) (a .first .single) (a .first .fickle) (l .j) (l .best) (l .rest) (l .inv .1) (omega arith) (c .before .before .before .before .before .before .before .before .pre .0)
           (c .before .before .same .result) (c .before .judged .result) (sym (c .before .before .before .before .member .ensures) ∙ c .before .before .before .if1 .taken) low (c .before .before .same .ensures) (c .before .judged .ensures))),
     )
 
@@ -67,7 +67,7 @@ loop-again-2 c =
     let a = c .before .before .before .before .before .args in
     let l = c .before .before .before .loop in (
       omega arith,
-      looked-past (a .n) (a .f) (a .notes) (a .first .values) (a .first .single) (a .first .fickle) (l .j) (l .best) (l .rest) (l .inv .1) (omega arith)
+      looked-past (a .n) (a .bound) (a .notes) (a .first .values) (a .first .single) (a .first .fickle) (l .j) (l .best) (l .rest) (l .inv .1) (omega arith)
           (sym (c .before .member .ensures) ∙ c .if1 .left),
     )
 
@@ -76,7 +76,7 @@ returns c =
     let a = c .before .before .before .args in
     let l = c .before .loop in
     let e : l .j ≡ a .n = omega arith in
-    l .inv .1 .least-is ∙ ap (λ (k : ℕ). least k (fromFirst (a .n) (a .f) (a .notes) (a .first .values) (a .first .single) (a .first .fickle))) e
+    l .inv .1 .least-is ∙ ap (λ (k : ℕ). least k (fromFirst (a .n) (a .bound) (a .notes) (a .first .values) (a .first .single) (a .first .fickle))) e
 
 pub least-of-firsts-spec : {M : Type 1} → statement M
 least-of-firsts-spec =

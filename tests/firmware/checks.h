@@ -1,0 +1,24 @@
+/* What the checks of the archive share: counting what is not so, and comparing records. */
+#include "terminal.h"
+
+#include <stdio.h>
+#include <string.h>
+
+static int failures = 0;
+
+static void expect(int right, const char *what) {
+    if (!right) {
+        printf("not so: %s\n", what);
+        failures++;
+    }
+}
+
+/* The same record, all but the padding. */
+static int same(const hulmayek_record *a, const hulmayek_record *b) {
+    if (a->taken != b->taken || a->at != b->at || a->value != b->value || a->round != b->round) return 0;
+    for (size_t j = 0; j < HULMAYEK_TERMINALS; j++) {
+        if (a->notes[j].count != b->notes[j].count) return 0;
+        if (memcmp(a->notes[j].values, b->notes[j].values, sizeof a->notes[j].values) != 0) return 0;
+    }
+    return 1;
+}
