@@ -1,11 +1,12 @@
 /* Recorded calls, one a line of small digits, each answered by a line: n and source (two bytes each), the bound,
- * own (2), heard (4), the record, then what was said, two bytes each. A bound is a byte, 0 for f and 1 for groups,
+ * own (2), heard (4), the record, then what was said, four bytes each. A bound is a byte, 0 for f and 1 for groups,
  * then f or how many groups there are (2), how many places follow (one byte) and these, four bytes each; all other
- * places hold 0. With f there is none, since hulmayek_step is told none. A record is taken, at, value (2), round,
- * and 20 rows: the count, how many places follow, and these, two bytes each; all other places hold 0. An answer is
- * the number and the record, in each row the places up to the last that is not 0. With the argument 'stack' it
- * prints instead how many bytes of stack a step takes that looks at as many values as a record can hold, the more
- * of the two functions. */
+ * places hold 0. With f there is none, since hulmayek_step is told none. A record is taken, at, the notice (4), round,
+ * and 20 rows: the edition (2), the count, how many places follow, and these, two bytes each; all other places hold 0.
+ * An answer is the number and the record, in each row the places up to the last that is not 0.
+ *   calls issues   lines of a record and a later notice (4), for hulmayek_issue
+ *   calls stack    prints instead how many bytes of stack a step takes that looks at as many values as a record can
+ *                  hold, or a later notice, the most of the functions */
 #define _GNU_SOURCE
 #include "terminal.h"
 
@@ -15,14 +16,14 @@
 
 enum {
     HEAD = 14 + 4 * HULMAYEK_GROUPS,
-    ROW = 2 + 2 * HULMAYEK_ROUNDS,
-    RECORD = 5 + HULMAYEK_TERMINALS * ROW,
+    ROW = 4 + 2 * HULMAYEK_ROUNDS,
+    RECORD = 7 + HULMAYEK_TERMINALS * ROW,
     MOST = 64,
     PAINT = 0xa5
 };
 
 /* The bytes of a line, how many there are, and how many were read. */
-static unsigned char body[HEAD + RECORD + 2 * MOST];
+static unsigned char body[HEAD + RECORD + 4 * MOST];
 static size_t length, at;
 
 /* The next bytes as a number; 0 past the end, which shows in `at`. */
@@ -45,13 +46,13 @@ static int read_line(void) {
 static void print_row(const hulmayek_note *row) {
     int places = HULMAYEK_ROUNDS;
     while (places > 0 && row->values[places - 1] == 0) places--;
-    printf("%02x%02x", row->count, places);
+    printf("%04x%02x%02x", row->edition, row->count, places);
     for (int i = 0; i < places; i++) printf("%04x", row->values[i]);
 }
 
 static void print(const hulmayek_answer *a) {
     const hulmayek_record *r = &a->after;
-    printf("%02x%02x%02x%04x%02x", a->number, r->taken, r->at, r->value, r->round);
+    printf("%02x%02x%02x%08x%02x", a->number, r->taken, r->at, r->notice, r->round);
     for (size_t j = 0; j < HULMAYEK_TERMINALS; j++) print_row(&r->notes[j]);
     putchar('\n');
 }
@@ -84,9 +85,10 @@ static int read_place(place *p) {
 static int read_record(hulmayek_record *r) {
     *r = (hulmayek_record){.taken = (uint8_t)take(1)};
     r->at = (uint8_t)take(1);
-    r->value = (uint16_t)take(2);
+    r->notice = take(4);
     r->round = (uint8_t)take(1);
     for (size_t j = 0; j < HULMAYEK_TERMINALS; j++) {
+        r->notes[j].edition = (uint16_t)take(2);
         r->notes[j].count = (uint8_t)take(1);
         size_t places = take(1);
         if (places > HULMAYEK_ROUNDS) return 0;
@@ -95,7 +97,7 @@ static int read_record(hulmayek_record *r) {
     return 1;
 }
 
-static hulmayek_answer step(place p, hulmayek_record r, const uint16_t *said, size_t count) {
+static hulmayek_answer step(place p, hulmayek_record r, const uint32_t *said, size_t count) {
     if (p.kind == 0) return hulmayek_step(p.n, p.source, p.bound.count, p.own, p.heard, r, said, count);
     return hulmayek_group_step(p.n, p.source, p.bound, p.own, p.heard, r, said, count);
 }
@@ -104,13 +106,25 @@ static hulmayek_answer step(place p, hulmayek_record r, const uint16_t *said, si
 static int call(void) {
     place p;
     hulmayek_record r;
-    uint16_t said[MOST];
+    uint32_t said[MOST];
     if (!read_place(&p) || !read_record(&r) || at > length) return 0;
-    size_t count = (length - at) / 2;
+    size_t count = (length - at) / 4;
     if (count > MOST) return 0;
-    for (size_t j = 0; j < count; j++) said[j] = (uint16_t)take(2);
-    if (hulmayek_says(r) != (r.taken == 1 && r.at == r.round ? r.value : 0)) wrong_words++;
+    for (size_t j = 0; j < count; j++) said[j] = take(4);
+    if (hulmayek_says(r) != (r.taken == 1 && r.at == r.round ? r.notice : 0)) wrong_words++;
     hulmayek_answer a = step(p, r, said, count);
+    print(&a);
+    return 1;
+}
+
+/* The same of a later notice, which is said next where it is taken. */
+static int issue(void) {
+    hulmayek_record r;
+    if (!read_record(&r)) return 0;
+    uint32_t notice = take(4);
+    if (at != length) return 0;
+    hulmayek_answer a = hulmayek_issue(r, notice);
+    if (a.number == 0 && hulmayek_says(a.after) != notice) wrong_words++;
     print(&a);
     return 1;
 }
@@ -118,7 +132,7 @@ static int call(void) {
 static ucontext_t here, there;
 static unsigned char stack[1 << 18];
 static hulmayek_record full;
-static uint16_t words[20];
+static uint32_t words[20];
 
 static void nothing(void) {
 }
@@ -133,6 +147,11 @@ static void one_group_step(void) {
     full = a.after;
 }
 
+static void one_issue(void) {
+    hulmayek_answer a = hulmayek_issue(full, 3 << 16 | 7);
+    full = a.after;
+}
+
 /* A record before its last round, with as many values as it can have, no two of them the same, and a new word
  * of each neighbour. */
 static void fill(void) {
@@ -140,16 +159,16 @@ static void fill(void) {
     full = hulmayek_start();
     full.round = HULMAYEK_ROUNDS - 1;
     for (size_t j = 1; j < 19; j++) {
+        full.notes[j].edition = 2;
         full.notes[j].count = HULMAYEK_ROUNDS - 1;
         for (size_t i = 0; i < HULMAYEK_ROUNDS - 1; i++) full.notes[j].values[i] = next++;
-        words[j] = next++;
+        words[j] = 2 << 16 | next++;
     }
 }
 
-/* How deep a function goes on a stack of its own, painted before; it steps a full record. */
+/* How deep a function goes on a stack of its own, painted before; it is given the record `full`. */
 static size_t depth(void (*run)(void)) {
     size_t left = 0;
-    fill();
     memset(stack, PAINT, sizeof stack);
     getcontext(&there);
     there.uc_stack.ss_sp = stack;
@@ -161,22 +180,40 @@ static size_t depth(void (*run)(void)) {
     return sizeof stack - left;
 }
 
-/* The same, 0 where the round was not played. */
+/* The same of a step, 0 where the round was not played. */
 static size_t stepped(void (*run)(void)) {
+    fill();
     size_t deep = depth(run);
     return full.round == HULMAYEK_ROUNDS && full.notes[18].count == HULMAYEK_ROUNDS ? deep : 0;
 }
 
-int main(int count, char **arguments) {
-    if (count == 2 && strcmp(arguments[1], "stack") == 0) {
-        size_t none = depth(nothing);
-        size_t most = stepped(one_step);
-        size_t by_groups = stepped(one_group_step);
-        printf("%zu\n", (most > by_groups ? most : by_groups) - none);
-        return most == 0 || by_groups == 0;
+/* The same of a later notice, 0 where it was not taken. */
+static size_t issued(void) {
+    fill();
+    full.taken = 1;
+    full.notice = 1 << 16 | 7;
+    size_t deep = depth(one_issue);
+    return full.notice == (3 << 16 | 7) ? deep : 0;
+}
+
+/* The most of the functions; whether all were played. */
+static int print_stack(void) {
+    size_t deep[] = {stepped(one_step), stepped(one_group_step), issued()};
+    size_t none = depth(nothing), most = 0, played = 1;
+    for (size_t i = 0; i < sizeof deep / sizeof *deep; i++) {
+        if (deep[i] > most) most = deep[i];
+        if (deep[i] == 0) played = 0;
     }
+    printf("%zu\n", most - none);
+    return played;
+}
+
+int main(int count, char **arguments) {
+    const char *what = count == 2 ? arguments[1] : "steps";
+    int (*answer)(void) = strcmp(what, "issues") == 0 ? issue : call;
+    if (strcmp(what, "stack") == 0) return !print_stack();
     while (read_line()) {
-        if (!call()) {
+        if (!answer()) {
             fputs("calls: a line that is no call\n", stderr);
             return 2;
         }

@@ -4,6 +4,9 @@
 #include <stdio.h>
 #include <string.h>
 
+/* A notice is its edition so many times, and its layout (document 02, P8). */
+enum { EDITION = 65536 };
+
 static int failures = 0;
 
 static void expect(int right, const char *what) {
@@ -15,10 +18,15 @@ static void expect(int right, const char *what) {
 
 /* The same record, all but the padding. */
 static int same(const hulmayek_record *a, const hulmayek_record *b) {
-    if (a->taken != b->taken || a->at != b->at || a->value != b->value || a->round != b->round) return 0;
+    if (a->taken != b->taken || a->at != b->at || a->notice != b->notice || a->round != b->round) return 0;
     for (size_t j = 0; j < HULMAYEK_TERMINALS; j++) {
-        if (a->notes[j].count != b->notes[j].count) return 0;
+        if (a->notes[j].edition != b->notes[j].edition || a->notes[j].count != b->notes[j].count) return 0;
         if (memcmp(a->notes[j].values, b->notes[j].values, sizeof a->notes[j].values) != 0) return 0;
     }
     return 1;
+}
+
+/* It has taken the notice in that round. */
+static int took(const hulmayek_record *r, unsigned at, uint32_t notice) {
+    return r->taken == 1 && r->at == at && r->notice == notice;
 }

@@ -1,27 +1,30 @@
-// The step for C, by value. include/terminal.h has the same in C's words.
+// The step for C, by value, and the office's notice to its own board. include/terminal.h has the same in
+// C's words.
 ghost use mathlib.Core.Path.{_≡_};
-ghost use Rattle.quorum.specs.Quorum.{atMost};
 ghost use Rattle.terminal.specs.Rule.{start, sourceStart};
 ghost use Rattle.terminal.specs.Shown.{shown};
-ghost use Rattle.firmware.specs.Board.{stateOf, recordOf, boardOf, groupsOf, boardAnswer, boardSays, layoutVersion};
+ghost use Rattle.terminal.specs.Answer.{numberOf};
+ghost use Rattle.firmware.specs.Board.{stateOf, recordOf, boardOf, kindOf, boundOf, answerOf, boardAnswer, boardIssued, boardSays, layoutVersion};
 use quorum::Bound;
 use quorum::BoundKind;
 use terminal::Note;
 use terminal::Record;
 use terminal::State;
+use terminal::Stepped;
 
-// A record as a board keeps it. taken is 0 for a terminal that waits, with at and value 0 too, and
-// 1 for one that took `value` in round `at`. Any other bytes are a record that no step takes.
+// A record as a board keeps it. taken is 0 for a terminal that waits, with at and notice 0 too, and
+// 1 for one that took `notice` in round `at`. Any other bytes are a record that no step takes. A notice
+// is one number, its edition times 65,536 and its layout.
 #[repr(C)]
 pub struct BoardRecord {
     pub taken: u8,
     pub at: u8,
-    pub value: u16,
     pub round: u8,
+    pub notice: u32,
     pub notes: [Note; 20],
 }
 
-// The number of a refusal, 0 for none, and the record after the step. A refused one comes back as
+// The number of a refusal, 0 for none, and the record after the call. A refused one comes back as
 // it went in.
 #[repr(C)]
 pub struct BoardAnswer {
@@ -30,23 +33,23 @@ pub struct BoardAnswer {
 }
 
 // The groups of boards that fail together: the first `count` of them; the others are 0. Bit j of a
-// group is terminal j.
+// group is terminal j. Of a site without groups the count is f, and all sixteen are 0.
 #[repr(C)]
 pub struct BoardGroups {
     pub count: usize,
     pub groups: [u32; 16],
 }
 
-// Bytes that are no state stand for one that no step takes: taken with value 0.
-fn state_of(taken: u8, at: u8, value: u16) -> State
-    ensures { λ r. ⌜ r ≡ stateOf taken at value ⌝ }
+// Bytes that are no state stand for one that no step takes: taken with notice 0.
+fn state_of(taken: u8, at: u8, notice: u32) -> State
+    ensures { λ r. ⌜ r ≡ stateOf taken at notice ⌝ }
 {
     if taken == 1 {
-        return State::Taken(at, value);
+        return State::Taken(at, notice);
     }
     if taken == 0 {
         if at == 0 {
-            if value == 0 {
+            if notice == 0 {
                 return State::Waiting;
             }
         }
@@ -58,7 +61,7 @@ fn record_of(b: BoardRecord) -> Record
     ensures { λ r. ⌜ r ≡ recordOf b ⌝ }
 {
     let notes = b.notes;
-    let state = state_of(b.taken, b.at, b.value);
+    let state = state_of(b.taken, b.at, b.notice);
     Record {
         state: state,
         round: b.round,
@@ -76,49 +79,48 @@ fn board_of(r: Record) -> BoardRecord
         State::Waiting => BoardRecord {
             taken: 0,
             at: 0,
-            value: 0,
             round: round,
+            notice: 0,
             notes: notes,
         },
-        State::Taken(at, value) => BoardRecord {
+        State::Taken(at, notice) => BoardRecord {
             taken: 1,
             at: at,
-            value: value,
             round: round,
+            notice: notice,
             notes: notes,
         },
     }
 }
 
-// The record of a terminal that is switched on.
-#[no_mangle]
-pub extern "C" fn hulmayek_start() -> BoardRecord
-    ensures { λ r. ⌜ r ≡ boardOf (shown start) ⌝ }
+// A kind that is neither 0 nor 1 stands for a bound that no site has: f is below n, and n is at most 20.
+fn kind_of(kind: usize, number: usize) -> BoundKind
+    ensures { λ r. ⌜ r ≡ kindOf kind number ⌝ }
 {
-    board_of(terminal::start())
+    if kind == 0 {
+        return BoundKind::Most(number);
+    }
+    if kind == 1 {
+        return BoundKind::Groups(number);
+    }
+    BoundKind::Most(20)
 }
 
-// The same of the source, which has taken its own value.
-#[no_mangle]
-pub extern "C" fn hulmayek_source_start(value: u16) -> BoardRecord
-    ensures { λ r. ⌜ r ≡ boardOf (shown (sourceStart value)) ⌝ }
+fn bound_of(kind: usize, told: BoardGroups) -> Bound
+    ensures { λ r. ⌜ r ≡ boundOf kind told ⌝ }
 {
-    board_of(terminal::source_start(value))
+    let groups = told.groups;
+    let number = told.count;
+    Bound {
+        kind: kind_of(kind, number),
+        groups: groups,
+    }
 }
 
-// The step, whichever way the board tells who may be bad together.
-fn board_step(
-    n: usize,
-    source: usize,
-    bound: Bound,
-    own: usize,
-    heard: u32,
-    before: BoardRecord,
-    said: &[u16],
-) -> BoardAnswer
-    ensures { λ r. ⌜ r ≡ boardAnswer n source bound own heard before (now (said .entry)) ⌝ }
+// What a board is told of what a terminal answered.
+fn answer_of(before: BoardRecord, stepped: Stepped) -> BoardAnswer
+    ensures { λ r. ⌜ r ≡ answerOf before (numberOf (stepped .outcome)) (stepped .after) ⌝ }
 {
-    let stepped = terminal::step(n, source, bound, own, heard, record_of(before), said);
     let outcome = stepped.outcome;
     let after = stepped.after;
     let refused = terminal::number(outcome);
@@ -134,12 +136,52 @@ fn board_step(
     }
 }
 
-// A note again, its count and its values each by itself.
+// The record of a terminal that is switched on.
+#[no_mangle]
+pub extern "C" fn hulmayek_start() -> BoardRecord
+    ensures { λ r. ⌜ r ≡ boardOf (shown start) ⌝ }
+{
+    board_of(terminal::start())
+}
+
+// The same of the source, which has taken its own notice.
+#[no_mangle]
+pub extern "C" fn hulmayek_source_start(notice: u32) -> BoardRecord
+    ensures { λ r. ⌜ r ≡ boardOf (shown (sourceStart notice)) ⌝ }
+{
+    board_of(terminal::source_start(notice))
+}
+
+// One round of terminal `own`, which hears the set `heard`; said[j] is what terminal j said, 0 for
+// nothing. C lends the list by its address and its length. Kind 0 has at most told.count bad ones among
+// those that a terminal hears, kind 1 some of one of told.count groups.
+#[no_mangle]
+pub extern "C" fn hulmayek_bound_step(
+    n: usize,
+    source: usize,
+    kind: usize,
+    told: BoardGroups,
+    own: usize,
+    heard: u32,
+    before: BoardRecord,
+    said: &[u32],
+) -> BoardAnswer
+    ensures { λ r. ⌜ r ≡ boardAnswer n source (boundOf kind told) own heard before (now (said .entry)) ⌝ }
+{
+    let bound = bound_of(kind, told);
+    answer_of(
+        before,
+        terminal::step(n, source, bound, own, heard, record_of(before), said),
+    )
+}
+
+// A note again, its edition, its count and its layouts each by itself.
 fn note_apart(note: Note) -> Note
     ensures { λ r. ⌜ r ≡ note ⌝ }
 {
     let values = note.values;
     Note {
+        edition: note.edition,
         count: note.count,
         values: values,
     }
@@ -172,72 +214,33 @@ fn notes_apart(notes: [Note; 20]) -> [Note; 20]
     ]
 }
 
-// An answer again, note by note, as two functions hand it to C: as a whole each would copy it by a
-// call of memcpy, and the archive must need nothing from outside, which tests/firmware/run looks at.
-fn apart(answer: BoardAnswer) -> BoardAnswer
-    ensures { λ r. ⌜ r ≡ answer ⌝ }
+// The source's board takes a later notice of its office, in the round that its record shows. No note
+// changes, so they are copied from the record that went in, one by one: all at once the compiler would
+// copy them by a call of memcpy, and the archive must need nothing from outside, which
+// tests/firmware/run looks at.
+#[no_mangle]
+pub extern "C" fn hulmayek_issue(before: BoardRecord, notice: u32) -> BoardAnswer
+    ensures { λ r. ⌜ r ≡ boardIssued before notice ⌝ }
 {
+    let answer = answer_of(before, terminal::issue(record_of(before), notice));
     let after = answer.after;
-    let notes = after.notes;
+    let notes = before.notes;
     BoardAnswer {
         number: answer.number,
         after: BoardRecord {
             taken: after.taken,
             at: after.at,
-            value: after.value,
             round: after.round,
+            notice: after.notice,
             notes: notes_apart(notes),
         },
     }
 }
 
-// One round of terminal `own`, which hears the set `heard`, on a site where at most f that a terminal
-// hears are bad; said[j] is what terminal j said, 0 for nothing. C lends the list by its address and
-// its length.
-#[no_mangle]
-pub extern "C" fn hulmayek_step(
-    n: usize,
-    source: usize,
-    f: usize,
-    own: usize,
-    heard: u32,
-    before: BoardRecord,
-    said: &[u16],
-) -> BoardAnswer
-    ensures { λ r. ⌜ r ≡ boardAnswer n source (atMost f) own heard before (now (said .entry)) ⌝ }
-{
-    let bound = Bound {
-        kind: BoundKind::Most(f),
-        groups: [0u32; 16],
-    };
-    apart(board_step(n, source, bound, own, heard, before, said))
-}
-
-// The same on a site where the bad ones are some of one group.
-#[no_mangle]
-pub extern "C" fn hulmayek_group_step(
-    n: usize,
-    source: usize,
-    groups: BoardGroups,
-    own: usize,
-    heard: u32,
-    before: BoardRecord,
-    said: &[u16],
-) -> BoardAnswer
-    ensures { λ r. ⌜ r ≡ boardAnswer n source (groupsOf groups) own heard before (now (said .entry)) ⌝ }
-{
-    let masks = groups.groups;
-    let bound = Bound {
-        kind: BoundKind::Groups(groups.count),
-        groups: masks,
-    };
-    apart(board_step(n, source, bound, own, heard, before, said))
-}
-
-// What the terminal says in the round after the one that its record shows: its value if it took in
+// What the terminal says in the round after the one that its record shows: its notice if it took in
 // that round, else 0. Bytes that are no state say 0.
 #[no_mangle]
-pub extern "C" fn hulmayek_says(record: BoardRecord) -> u16
+pub extern "C" fn hulmayek_says(record: BoardRecord) -> u32
     ensures { λ r. ⌜ r ≡ boardSays «record» ⌝ }
 {
     terminal::says(record_of(record))
@@ -248,5 +251,5 @@ pub extern "C" fn hulmayek_says(record: BoardRecord) -> u16
 pub extern "C" fn hulmayek_layout() -> u32
     ensures { λ r. ⌜ r ≡ layoutVersion ⌝ }
 {
-    3
+    4
 }

@@ -10,15 +10,15 @@ use Rattle.sets.specs.Sets.{Set}
 use Rattle.quorum.specs.Quorum.{noGroups, listed}
 use Rattle.plan.specs.declared.Plan.{Plan}
 use Rattle.lines.specs.declared.Frame.{Frame}
-use Rattle.lines.specs.declared.Frame.the-variants.{Foreign, Unknown, Head, Link, Group, FaultSet, Start, Message}
+use Rattle.lines.specs.declared.Frame.the-variants.{Foreign, Unknown, Head, Link, Group, FaultSet, Start, Later, Message}
 use Rattle.lines.specs.Frames.{frameOf}
 use Rattle.frames.specs.declared.Progress.{Progress}
 use Rattle.frames.specs.declared.Reader.{Reader}
 use Rattle.frames.specs.Lines.{Line, ended, cut, linesFrom}
-use Rattle.frames.specs.Reading.{stageOf, nothingRead, noWords, kindRead, causeIn, linked, grouped, after, wordsAfter, Reading, told, reading}
+use Rattle.frames.specs.Reading.{stageOf, nothingRead, Lists, nothingSaid, kindRead, causeIn, linked, grouped, after, saidAfter, Reading, told, reading}
 use Rattle.frames.specs.Tells.{groupBefore, groupsIn}
 use Rattle.frames.proofs.Built.{none-listed}
-use Rattle.frames.proofs.Accepted.{head-accepted, group-accepted, frame-stage, line-read, end-read, text-read}
+use Rattle.frames.proofs.Keeps.{head-accepted, group-accepted, frame-stage, line-read, end-read, text-read}
 
 -- the groups that are listed
 abbrev pub groupsOf : Plan → List Set
@@ -32,7 +32,7 @@ pub record Open (p : Progress) : Type 0 where
 none-taken : (n : ℕ) (l : List ℕ) → n ≡ 0 → take n l ≡ []
 none-taken n l e = ap (λ (i : ℕ). take i l) e
 
-module _ (p : Progress) (words : List ℕ) (o : Open p) where
+module _ (p : Progress) (said : Lists) (o : Open p) where
   frame-places : (frame : Frame) → length (after p frame .plan .bound .groups) ≡ 16
   unfolding after linked grouped
   frame-places Foreign = o .places
@@ -41,11 +41,12 @@ module _ (p : Progress) (words : List ℕ) (o : Open p) where
   frame-places (Link from to) = o .places
   frame-places (Group s) = length-set (p .plan .bound .groups) (listed (p .plan .bound .kind)) s ∙ o .places
   frame-places (FaultSet s) = o .places
-  frame-places (Start value rounds) = o .places
-  frame-places (Message round from to value) = o .places
+  frame-places (Start form edition layout rounds) = o .places
+  frame-places (Later round edition layout) = o .places
+  frame-places (Message form round from to edition layout) = o .places
 
-  frame-open : (frame : Frame) → causeIn p words frame ≡ 0 → Open (after p frame)
-  frame-open frame h = record { places = frame-places frame; empty = λ z. absurd (frame-stage p words frame h z) }
+  frame-open : (frame : Frame) → causeIn p said frame ≡ 0 → Open (after p frame)
+  frame-open frame h = record { places = frame-places frame; empty = λ z. absurd (frame-stage p said frame h z) }
 
   -- a group is put after those that are listed
   group-last : (s : Set) (rest : List Set) → listed (p .plan .bound .kind) < 16 → groupsOf (p .plan) ++ s ∷ rest ≡ groupsOf (grouped (p .plan) s) ++ rest
@@ -58,34 +59,35 @@ module _ (p : Progress) (words : List ℕ) (o : Open p) where
       ∙ ap (λ (l : List ℕ). l ++ rest) (take-suc-set (p .plan .bound .groups) count s there)
       ∙ append-snoc (groupsOf (p .plan)) s rest)
 
-  frame-groups : (frame : Frame) (rest : List Set) → causeIn p words frame ≡ 0
+  frame-groups : (frame : Frame) (rest : List Set) → causeIn p said frame ≡ 0
       → groupsOf (p .plan) ++ groupBefore frame rest ≡ groupsOf (after p frame .plan) ++ rest
   unfolding causeIn after linked
   frame-groups Foreign rest h = refl
   frame-groups Unknown rest h = refl
   frame-groups (Head n source f) rest h =
       ap (λ (l : List ℕ). l ++ rest)
-      (none-taken _ _ (o .empty (head-accepted p words n source f h .0)) ∙ sym (none-taken (listed (kindRead f)) noGroups (none-listed f)))
+      (none-taken _ _ (o .empty (head-accepted p said n source f h .0)) ∙ sym (none-taken (listed (kindRead f)) noGroups (none-listed f)))
   frame-groups (Link from to) rest h = refl
-  frame-groups (Group s) rest h = group-last s rest (group-accepted p words s h .3)
+  frame-groups (Group s) rest h = group-last s rest (group-accepted p said s h .3)
   frame-groups (FaultSet s) rest h = refl
-  frame-groups (Start value rounds) rest h = refl
-  frame-groups (Message round from to value) rest h = refl
+  frame-groups (Start form edition layout rounds) rest h = refl
+  frame-groups (Later round edition layout) rest h = refl
+  frame-groups (Message form round from to edition layout) rest h = refl
 
 -- the groups known in the end are those known before, then those told
-pub told-groups : (reader : Reader) (p : Progress) (words : List ℕ) (k : ℕ) (lines : List Line) → Open p → told reader p words k lines .number ≡ 0
-    → groupsOf (p .plan) ++ groupsIn (reader .kinds) lines ≡ groupsOf (told reader p words k lines .progress .plan)
+pub told-groups : (reader : Reader) (p : Progress) (said : Lists) (k : ℕ) (lines : List Line) → Open p → told reader p said k lines .number ≡ 0
+    → groupsOf (p .plan) ++ groupsIn (reader .kinds) lines ≡ groupsOf (told reader p said k lines .progress .plan)
 unfolding told
-told-groups reader p words k [] o =
-    end-read reader p words k (λ (r : Reading). groupsOf (p .plan) ++ [] ≡ groupsOf (r .progress .plan)) (λ c. append-nil (groupsOf (p .plan)))
-told-groups reader p words k (cut line ∷ rest) o = λ z. absurd (omega arith)
-told-groups reader p words k (ended line ∷ rest) o =
-    line-read reader p words k line rest
+told-groups reader p said k [] o =
+    end-read reader p said k (λ (r : Reading). groupsOf (p .plan) ++ [] ≡ groupsOf (r .progress .plan)) (λ c. append-nil (groupsOf (p .plan)))
+told-groups reader p said k (cut line ∷ rest) o = λ z. absurd (omega arith)
+told-groups reader p said k (ended line ∷ rest) o =
+    line-read reader p said k line rest
     (λ (r : Reading). groupsOf (p .plan) ++ groupBefore (frameOf (reader .kinds) line) (groupsIn (reader .kinds) rest) ≡ groupsOf (r .progress .plan))
     (λ c z.
-    frame-groups p words o (frameOf (reader .kinds) line) (groupsIn (reader .kinds) rest) c
-    ∙ told-groups reader (after p (frameOf (reader .kinds) line)) (wordsAfter p words (frameOf (reader .kinds) line)) (k + 1) rest
-    (frame-open p words o (frameOf (reader .kinds) line) c) z)
+    frame-groups p said o (frameOf (reader .kinds) line) (groupsIn (reader .kinds) rest) c
+    ∙ told-groups reader (after p (frameOf (reader .kinds) line)) (saidAfter p said (frameOf (reader .kinds) line)) (k + 1) rest
+    (frame-open p said o (frameOf (reader .kinds) line) c) z)
 
 -- before the first line nothing is
 pub nothing-open : Open nothingRead
@@ -95,4 +97,4 @@ pub reading-groups : (reader : Reader) (text : List ℕ) → reading reader text
     → groupsIn (reader .kinds) (linesFrom [] text) ≡ groupsOf (reading reader text .progress .plan)
 reading-groups reader text =
     text-read reader text (λ (r : Reading). groupsIn (reader .kinds) (linesFrom [] text) ≡ groupsOf (r .progress .plan))
-    (λ one. told-groups reader nothingRead noWords 1 (linesFrom [] text) nothing-open)
+    (λ one. told-groups reader nothingRead nothingSaid 1 (linesFrom [] text) nothing-open)

@@ -1,10 +1,14 @@
 -- The laws that the readers' proofs cite, in the order in which they are read: of a reading that goes on, of where the links end, of a plan while it is
--- read, of an accepted file, of what a frame does, of the pass over a file's bytes, and of the file as a whole. EndLaws, Built, Accepted and FileLaws are
--- for callers too, and so are Starts, of an accepted file's start, GroupLaws, of its groups, TextLines, of the lines of a text that is written, and
+-- read, of an accepted frame and what a file keeps of all of them, of the list of later notices while it is filled and in the end, of an accepted file,
+-- of what a frame does, of the pass over a file's bytes, and of the file as a whole. EndLaws, Built, Keeps, Accepted and FileLaws are for callers too,
+-- and so are Starts, of an accepted file's start and later notices, GroupLaws, of its groups, TextLines, of the lines of a text that is written, and
 -- Archive, of the two readers of plans.
 mod Unless
 pub mod EndLaws
 pub mod Built
+pub mod Keeps
+mod Rising
+mod Issued
 pub mod Accepted
 mod TellLaws
 mod LineLaws

@@ -20,7 +20,7 @@ use Rattle.frames.specs.declared.Reader.{Reader}
 use Rattle.frames.specs.declared.Cursor.{Cursor}
 use Rattle.frames.specs.declared.FileRead.{FileRead}
 use Rattle.frames.specs.Lines.{ended, lastLine, linesFrom}
-use Rattle.frames.specs.Reading.{mostBytes, nothingRead, noWords, causeIn, linksCause, endCause, after, wordsAfter, Reading, refusal, unless, told, reading, fileRead}
+use Rattle.frames.specs.Reading.{mostBytes, nothingRead, Lists, nothingSaid, causeIn, linksCause, endCause, after, saidAfter, Reading, refusal, unless, told, reading, fileRead}
 use Rattle.frames.specs.Pass.{current, ahead, Going}
 use Rattle.frames.proofs.Unless.{unless-none, unless-some}
 use Rattle.frames.proofs.TellLaws.{kept-next}
@@ -57,93 +57,96 @@ lines-grow text from i f k h =
     ∙ pick-no _ _ _ (ne-eqb (getD text i 0) 10 h)
     ∙ ap₂ linesFrom (sym (current-grows text from i f k)) (ap (λ (j : ℕ). drop j text) (sym (add-one i)))
 
-module _ (reader : Reader) (text : List ℕ) (p : Progress) (words : List ℕ) (line from i : ℕ) where
+module _ (reader : Reader) (text : List ℕ) (p : Progress) (said : Lists) (line from i : ℕ) where
   -- a line ends
   module _ (k : i < length text) (h : getD text i 0 ≡ 10) (frame : Frame) (f : frame ≡ frameOf (reader .kinds) (current text from i)) (end : ℕ)
       (d : end ≡ endCause reader p frame) where
     -- what is told from the next line on
     abbrev rest : Reading
-    rest = told reader (after p frame) (wordsAfter p words frame) (line + 1) (linesFrom [] (drop (i + 1) text))
+    rest = told reader (after p frame) (saidAfter p said frame) (line + 1) (linesFrom [] (drop (i + 1) text))
 
-    line-is : ahead reader text p words line from i ≡ unless end 0 (unless (causeIn p words frame) line rest)
+    line-is : ahead reader text p said line from i ≡ unless end 0 (unless (causeIn p said frame) line rest)
     unfolding told
     line-is =
-        ap (told reader p words line) (lines-end text (current text from i) i k h)
+        ap (told reader p said line) (lines-end text (current text from i) i k h)
         ∙ ap
         (λ (x : Frame).
         unless (endCause reader p x) 0
-        (unless (causeIn p words x) line (told reader (after p x) (wordsAfter p words x) (line + 1) (linesFrom [] (drop (i + 1) text)))))
+        (unless (causeIn p said x) line (told reader (after p x) (saidAfter p said x) (line + 1) (linesFrom [] (drop (i + 1) text)))))
         (sym f)
-        ∙ ap (λ (c : ℕ). unless c 0 (unless (causeIn p words frame) line rest)) (sym d)
+        ∙ ap (λ (c : ℕ). unless c 0 (unless (causeIn p said frame) line rest)) (sym d)
 
     -- the links end with it and are refused
-    pub line-ends : (end ≡ 0 → ⊥) → ahead reader text p words line from i ≡ refusal end 0
+    pub line-ends : (end ≡ 0 → ⊥) → ahead reader text p said line from i ≡ refusal end 0
     line-ends n = line-is ∙ unless-some end 0 _ n
 
     -- or its frame is refused or accepted
-    module _ (o : end ≡ 0) (cause : ℕ) (e : cause ≡ causeIn p words frame) where
-      line-goes : ahead reader text p words line from i ≡ unless cause line rest
+    module _ (o : end ≡ 0) (cause : ℕ) (e : cause ≡ causeIn p said frame) where
+      line-goes : ahead reader text p said line from i ≡ unless cause line rest
       line-goes = line-is ∙ unless-none end 0 _ o ∙ ap (λ (c : ℕ). unless c line rest) (sym e)
 
-      pub line-refused : (cause ≡ 0 → ⊥) → ahead reader text p words line from i ≡ refusal cause line
+      pub line-refused : (cause ≡ 0 → ⊥) → ahead reader text p said line from i ≡ refusal cause line
       line-refused n = line-goes ∙ unless-some cause line rest n
 
-      pub line-told : (next : Progress) (said : List ℕ) → cause ≡ 0 → next ≡ after p frame
-          → said ≡ pick (eqb cause 0) (wordsAfter p words frame) words
-          → ahead reader text p words line from i ≡ ahead reader text next said (line + 1) (i + 1) (i + 1)
-      line-told next said z q w =
-          let there : wordsAfter p words frame ≡ said = sym (w ∙ pick-yes _ _ _ (eq-eqb cause 0 z)) in
+      pub line-told : (next : Progress) (last : Lists) → cause ≡ 0 → next ≡ after p frame
+          → last ≡ pick (eqb cause 0) (saidAfter p said frame) said
+          → ahead reader text p said line from i ≡ ahead reader text next last (line + 1) (i + 1) (i + 1)
+      line-told next last z q w =
+          let there : saidAfter p said frame ≡ last = sym (w ∙ pick-yes _ _ _ (eq-eqb cause 0 z)) in
           let none : [] ≡ current text (i + 1) (i + 1) = ap (λ (j : ℕ). take j (drop (i + 1) text)) (sym (sub-self (i + 1))) in
           line-goes
           ∙ unless-none cause line rest z
-          ∙ ap₂ (λ (x : Progress) (y : List ℕ). told reader x y (line + 1) (linesFrom [] (drop (i + 1) text))) (sym q) there
-          ∙ ap (λ (l : List ℕ). told reader next said (line + 1) (linesFrom l (drop (i + 1) text))) none
+          ∙ ap₂ (λ (x : Progress) (y : Lists). told reader x y (line + 1) (linesFrom [] (drop (i + 1) text))) (sym q) there
+          ∙ ap (λ (l : List ℕ). told reader next last (line + 1) (linesFrom l (drop (i + 1) text))) none
 
   -- the text ends, within a line or with one
-  cut-refused : (l : List ℕ) → 0 < length l → told reader p words line (linesFrom l []) ≡ refusal 1 line
+  cut-refused : (l : List ℕ) → 0 < length l → told reader p said line (linesFrom l []) ≡ refusal 1 line
   unfolding told linesFrom lastLine
   cut-refused [] h = absurd (omega arith)
   cut-refused (b ∷ l) h = refl
 
   module _ (t : length text ≤ i) where
-    pub ends-cut : i ≤ length text → from < i → ahead reader text p words line from i ≡ refusal 1 line
+    pub ends-cut : i ≤ length text → from < i → ahead reader text p said line from i ≡ refusal 1 line
     ends-cut u h =
-        ap (λ (l : List ℕ). told reader p words line (linesFrom (current text from i) l)) (drop-of-length-le text t)
+        ap (λ (l : List ℕ). told reader p said line (linesFrom (current text from i) l)) (drop-of-length-le text t)
         ∙ cut-refused (current text from i) (simp (length-take, length-drop) (omega arith))
 
     module _ (h : i ≤ from) (end : ℕ) (d : end ≡ linksCause reader p) where
-      ends-is : ahead reader text p words line from i ≡ unless end 0 (record { number = 0; line = 0; progress = p; words = words })
+      ends-is : ahead reader text p said line from i ≡ unless end 0 (record { number = 0; line = 0; progress = p; said = said })
       unfolding told linesFrom lastLine
       ends-is =
           let none : i - from ≡ 0 = omega arith in
-          ap (λ (l : List ℕ). told reader p words line (linesFrom (current text from i) l)) (drop-of-length-le text t)
-          ∙ ap (λ (j : ℕ). told reader p words line (linesFrom (take j (drop from text)) [])) none
-          ∙ ap (λ (c : ℕ). unless c 0 (record { number = 0; line = 0; progress = p; words = words })) (sym d)
+          ap (λ (l : List ℕ). told reader p said line (linesFrom (current text from i) l)) (drop-of-length-le text t)
+          ∙ ap (λ (j : ℕ). told reader p said line (linesFrom (take j (drop from text)) [])) none
+          ∙ ap (λ (c : ℕ). unless c 0 (record { number = 0; line = 0; progress = p; said = said })) (sym d)
 
-      pub ends-refused : (end ≡ 0 → ⊥) → ahead reader text p words line from i ≡ refusal end 0
+      pub ends-refused : (end ≡ 0 → ⊥) → ahead reader text p said line from i ≡ refusal end 0
       ends-refused n = ends-is ∙ unless-some end 0 _ n
 
-      pub ends-told : end ≡ 0 → ahead reader text p words line from i ≡ record { number = 0; line = 0; progress = p; words = words }
+      pub ends-told : end ≡ 0 → ahead reader text p said line from i ≡ record { number = 0; line = 0; progress = p; said = said }
       ends-told z = ends-is ∙ unless-none end 0 _ z
 
 -- ---- the file
 
-pub no-words : (words : List ℕ) → words ≡ noWords → length words ≡ mostWords
-no-words words e = ap length e ∙ length-replicate {A = ℕ} mostWords 0
+pub no-words : (said : Lists) → said ≡ nothingSaid → length (said .words) ≡ mostWords
+no-words said e = ap (λ (s : Lists). length (s .words)) e ∙ length-replicate {A = ℕ} mostWords 0
+
+pub no-later : (said : Lists) → said ≡ nothingSaid → length (said .later) ≡ mostRounds
+no-later said e = ap (λ (s : Lists). length (s .later)) e ∙ length-replicate {A = ℕ} mostRounds 0
 
 pub starts-small : (p : Progress) → p ≡ nothingRead → (p .plan .n ≤ mostTerminals) × (p .rounds ≤ mostRounds)
 starts-small p e = rw e (omega arith)
 
-pub starts : (reader : Reader) (text : List ℕ) (p : Progress) (words : List ℕ) → (1 ≤ length text) × (length text ≤ mostBytes) × (words ≡ noWords) → p ≡ nothingRead
-    → ahead reader text p words 1 0 0 ≡ reading reader text
+pub starts : (reader : Reader) (text : List ℕ) (p : Progress) (said : Lists) → (1 ≤ length text) × (length text ≤ mostBytes) × (said ≡ nothingSaid) → p ≡ nothingRead
+    → ahead reader text p said 1 0 0 ≡ reading reader text
 unfolding reading
-starts reader text p words h e =
-    ap₂ (λ (x : Progress) (y : List ℕ). told reader x y 1 (linesFrom [] text)) e (h .2)
+starts reader text p said h e =
+    ap₂ (λ (x : Progress) (y : Lists). told reader x y 1 (linesFrom [] text)) e (h .2)
     ∙ sym (pick-yes _ _ _ (and-i _ _ (le-leb 1 (length text) (h .0)) (le-leb (length text) mostBytes (h .1))))
 
-pub going-starts : (reader : Reader) (text : List ℕ) (p : Progress) (words : List ℕ) → (1 ≤ length text) × (length text ≤ mostBytes) × (words ≡ noWords)
-    → p ≡ nothingRead → Going reader text words (record { progress = p; line = 1; from = 0; cause = 0 }) 0
-going-starts reader text p words h e =
+pub going-starts : (reader : Reader) (text : List ℕ) (p : Progress) (said : Lists) → (1 ≤ length text) × (length text ≤ mostBytes) × (said ≡ nothingSaid)
+    → p ≡ nothingRead → Going reader text said (record { progress = p; line = 1; from = 0; cause = 0 }) 0
+going-starts reader text p said h e =
     let s = starts-small p e in
     record {
       accepted = refl;
@@ -152,15 +155,16 @@ going-starts reader text p words h e =
       counted = omega arith;
       twenty = s .0;
       forty = s .1;
-      places = no-words words (h .2);
-      same = starts reader text p words h e;
+      places = no-words said (h .2);
+      entries = no-later said (h .2);
+      same = starts reader text p said h e;
     }
 
 -- ---- the byte at i
 
-module _ (reader : Reader) (text words : List ℕ) (at : Cursor) (i : ℕ) (g : Going reader text words at i) (k : i < length text) where
+module _ (reader : Reader) (text : List ℕ) (said : Lists) (at : Cursor) (i : ℕ) (g : Going reader text said at i) (k : i < length text) where
   -- it is one more of the line
-  pub pass-grows : (getD text i 0 ≡ 10 → ⊥) → Going reader text words at (i + 1)
+  pub pass-grows : (getD text i 0 ≡ 10 → ⊥) → Going reader text said at (i + 1)
   pass-grows h = record {
     accepted = g .accepted;
     begun = omega (arith, g .begun);
@@ -169,24 +173,26 @@ module _ (reader : Reader) (text words : List ℕ) (at : Cursor) (i : ℕ) (g : 
     twenty = g .twenty;
     forty = g .forty;
     places = g .places;
-    same = ap (told reader (at .progress) words (at .line)) (sym (lines-grow text (at .from) i (g .begun) k h)) ∙ g .same;
+    entries = g .entries;
+    same = ap (told reader (at .progress) said (at .line)) (sym (lines-grow text (at .from) i (g .begun) k h)) ∙ g .same;
   }
 
   -- it ends the line, and the links are refused there, or the line's frame is refused or accepted
   module _ (h : getD text i 0 ≡ 10) (frame : Frame) (f : frame ≡ frameOf (reader .kinds) (current text (at .from) i)) (end : ℕ)
       (d : end ≡ endCause reader (at .progress) frame) where
     pub pass-ends : (end ≡ 0 → ⊥) → reading reader text ≡ refusal end 0
-    pass-ends n = sym (g .same) ∙ line-ends reader text (at .progress) words (at .line) (at .from) i k h frame f end d n
+    pass-ends n = sym (g .same) ∙ line-ends reader text (at .progress) said (at .line) (at .from) i k h frame f end d n
 
-    module _ (o : end ≡ 0) (cause : ℕ) (e : cause ≡ causeIn (at .progress) words frame) where
+    module _ (o : end ≡ 0) (cause : ℕ) (e : cause ≡ causeIn (at .progress) said frame) where
       pub pass-refused : (cause ≡ 0 → ⊥) → reading reader text ≡ refusal cause (at .line)
-      pass-refused n = sym (g .same) ∙ line-refused reader text (at .progress) words (at .line) (at .from) i k h frame f end d o cause e n
+      pass-refused n = sym (g .same) ∙ line-refused reader text (at .progress) said (at .line) (at .from) i k h frame f end d o cause e n
 
-      pub pass-told : (next : Progress) (said : List ℕ) → cause ≡ 0 → next ≡ after (at .progress) frame
-          → said ≡ pick (eqb cause 0) (wordsAfter (at .progress) words frame) words → length said ≡ length words
-          → Going reader text said (record { progress = next; line = at .line + 1; from = i + 1; cause = 0 }) (i + 1)
-      pass-told next said z q w l =
-          let small = kept-next (at .progress) words (g .twenty) (g .forty) frame cause next e z q in
+      pub pass-told : (next : Progress) (last : Lists) → cause ≡ 0 → next ≡ after (at .progress) frame
+          → last ≡ pick (eqb cause 0) (saidAfter (at .progress) said frame) said
+          → length (last .words) ≡ length (said .words) → length (last .later) ≡ length (said .later)
+          → Going reader text last (record { progress = next; line = at .line + 1; from = i + 1; cause = 0 }) (i + 1)
+      pass-told next last z q w l m =
+          let small = kept-next (at .progress) said (g .twenty) (g .forty) frame cause next e z q in
           record {
             accepted = refl;
             begun = omega arith;
@@ -195,18 +201,19 @@ module _ (reader : Reader) (text words : List ℕ) (at : Cursor) (i : ℕ) (g : 
             twenty = small .0;
             forty = small .1;
             places = l ∙ g .places;
+            entries = m ∙ g .entries;
             same =
-                sym (line-told reader text (at .progress) words (at .line) (at .from) i k h frame f end d o cause e next said z q w)
+                sym (line-told reader text (at .progress) said (at .line) (at .from) i k h frame f end d o cause e next last z q w)
                 ∙ g .same;
           }
 
 -- ---- what comes back
 
-pub file-refused : (r : FileRead) (number line : ℕ) (file : Reading) (words : List ℕ) → r ≡ record { number = number; line = line; progress = nothingRead }
-    → file ≡ refusal number line → (number ≡ 0 → ⊥) → (r ≡ fileRead file) × (r .number ≡ 0 → words ≡ file .words)
-file-refused r number line file words e h n =
+pub file-refused : (r : FileRead) (number line : ℕ) (file : Reading) (said : Lists) → r ≡ record { number = number; line = line; progress = nothingRead }
+    → file ≡ refusal number line → (number ≡ 0 → ⊥) → (r ≡ fileRead file) × (r .number ≡ 0 → said ≡ file .said)
+file-refused r number line file said e h n =
     (e ∙ sym (ap (λ (x : Reading). fileRead x) h), λ z. absurd (n (sym (ap (λ (x : FileRead). x .number) e) ∙ z)))
 
-pub file-told : (r : FileRead) (p : Progress) (file : Reading) (words : List ℕ) → r ≡ record { number = 0; line = 0; progress = p }
-    → file ≡ record { number = 0; line = 0; progress = p; words = words } → (r ≡ fileRead file) × (r .number ≡ 0 → words ≡ file .words)
-file-told r p file words e h = (e ∙ sym (ap (λ (x : Reading). fileRead x) h), λ z. sym (ap (λ (x : Reading). x .words) h))
+pub file-told : (r : FileRead) (p : Progress) (file : Reading) (said : Lists) → r ≡ record { number = 0; line = 0; progress = p }
+    → file ≡ record { number = 0; line = 0; progress = p; said = said } → (r ≡ fileRead file) × (r .number ≡ 0 → said ≡ file .said)
+file-told r p file said e h = (e ∙ sym (ap (λ (x : Reading). fileRead x) h), λ z. sym (ap (λ (x : Reading). x .said) h))

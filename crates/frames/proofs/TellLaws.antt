@@ -1,50 +1,64 @@
--- What refuses a head, a link, a group, a bad set, a start or a word, and what an accepted frame keeps. Assumes nothing.
+-- What refuses a head, a link, a group, a bad set, a start, a later notice or a word, and what an accepted frame keeps. Assumes nothing.
 use Prim.Native.Nat.{ℕ, _-_, _≤_, _<_}
 use mathlib.Core.Path.{_≡_, refl, sym, ap, _∙_}
 use mathlib.Core.Logic.{⊎-elim}
 use mathlib.Core.List.{List, [], _∷_}
 use mathlib.Core.Bool.{Bool, true, false, not}
 use native.Mathlib.Omega.{arith}
-use lib.Dec.{eqb, leb}
+use lib.Dec.{eqb, ltb, leb}
 use lib.ListN.{getD}
 use borrow.Author.Tests.{eq-eqb, ne-eqb, lt-ltb, le-ltb, le-leb, lt-leb, leb-true, ltb-true}
 use Rattle.sets.specs.Tests.{_or_, pick}
 use Rattle.sets.specs.Causes.{_gives_, firstCause}
 use Rattle.sets.specs.Sets.{mem}
-use Rattle.sets.proofs.Bools.{and-l, and-r, and-i, and-yes, and-no-l, and-no-r, or-l, or-r, or-no, not-i, not-yes}
+use Rattle.sets.proofs.Bools.{and-l, and-r, and-i, and-yes, and-no-l, and-no-r, or-l, or-r, or-no, or-none, not-i, not-yes}
 use Rattle.sets.proofs.Causes.{cause-here, cause-later, cause-last, given-decides}
 use Rattle.sets.proofs.Laws.{equal-or-not}
 use Rattle.quorum.specs.declared.BoundKind.{BoundKind}
 use Rattle.quorum.specs.Quorum.{mostTerminals, mostGroups, noGroups, listed, inRange, others}
+use Rattle.quorum.specs.Notice.{noticeOf}
 use Rattle.quorum.specs.Words.{mostRounds, startSound, placeOf}
 use Rattle.quorum.proofs.Words.{start-parts}
 use Rattle.plan.specs.declared.Plan.{Plan}
 use Rattle.plan.specs.Plan.{hears}
 use Rattle.faults.specs.Check.{faultCauseOf}
+use Rattle.lines.specs.declared.Form.{Form}
+use Rattle.lines.specs.declared.Form.the-variants.{New}
 use Rattle.lines.specs.declared.Rounds.{Rounds}
 use Rattle.lines.specs.declared.Rounds.the-variants.{Left}
 use Rattle.lines.specs.declared.Frame.{Frame}
-use Rattle.lines.specs.declared.Frame.the-variants.{Foreign, Unknown, Head, Link, Group, FaultSet, Start, Message}
-use Rattle.frames.specs.declared.Stage.the-variants.{Nothing, Links, Grouped, Faults, Words}
+use Rattle.lines.specs.declared.Frame.the-variants.{Foreign, Unknown, Head, Link, Group, FaultSet, Start, Later, Message}
+use Rattle.frames.specs.declared.Stage.the-variants.{Nothing, Links, Grouped, Faults, Started, Words}
 use Rattle.frames.specs.declared.Progress.{Progress}
 use Rattle.frames.specs.declared.told.Told.{Told}
-use Rattle.frames.specs.Reading.{isAt, inPlan, noLinks, kindRead, lists, roundsOf, headCause, linkCause, groupCause, faultSetCause, startCause, isWord, messageCause, causeIn, linked, grouped, after, wordsAfter}
-use Rattle.frames.proofs.Accepted.{head-accepted, link-accepted, group-accepted, start-accepted}
+use Rattle.frames.specs.Reading.{isAt, inPlan, isStarted, formOf, otherForm, noLinks, planned, Lists, both, nothingSaid, kindRead, lists, roundsOf, headCause, linkCause, groupCause, faultSetCause, startCause, laterCause, isWord, messageCause, causeIn, linked, grouped, after, saidAfter}
+use Rattle.frames.proofs.Keeps.{head-accepted, link-accepted, group-accepted, start-accepted, later-accepted}
+
+-- ---- the stage and the form
+
+-- not at the start, so among the words or before
+pub past-start : (p : Progress) → isAt Started p ≡ false → isStarted p ≡ isAt Words p
+unfolding isStarted
+past-start p h = or-none _ _ h
+
+module _ (p : Progress) (form : Form) where
+  pub other-none : isStarted p ≡ false → otherForm p form ≡ false
+  unfolding otherForm
+  other-none s = and-no-l _ _ s
+
+  -- by the numbers that the forms were found to have
+  pub other-is : (a b : ℕ) → isStarted p ≡ true → a ≡ formOf form → b ≡ formOf (p .form) → not (eqb a b) ≡ otherForm p form
+  unfolding otherForm
+  other-is a b s e d = (λ i. not (eqb (e i) (d i))) ∙ sym (and-yes _ _ s)
 
 -- ---- a head
 
 -- one in its place, by the bound that it was found to mean
 module _ (p : Progress) (n source f : ℕ) (kind : BoundKind) (e : kind ≡ kindRead f) where
-  pub head-next : record { stage = Links; plan = record { n = n; source = source; bound = record { kind = kind; groups = noGroups }; rows = noLinks }; faulty = 0; value = 0; rounds = 0 }
+  pub head-next : planned Links (record { n = n; source = source; bound = record { kind = kind; groups = noGroups }; rows = noLinks }) 0
       ≡ after p (Head n source f)
   unfolding after
-  head-next i = record {
-    stage = Links;
-    plan = record { n = n; source = source; bound = record { kind = e i; groups = noGroups }; rows = noLinks };
-    faulty = 0;
-    value = 0;
-    rounds = 0;
-  }
+  head-next i = planned Links (record { n = n; source = source; bound = record { kind = e i; groups = noGroups }; rows = noLinks }) 0
 
   pub head-right : isAt Nothing p ≡ true → inRange n source kind ≡ true → headCause p n source f ≡ 0
   unfolding headCause
@@ -56,10 +70,15 @@ module _ (p : Progress) (n source f : ℕ) (kind : BoundKind) (e : kind ≡ kind
 
 -- ---- a link
 
--- an accepted link ends at a terminal of the plan
+-- an accepted one, by the plan that was made of it
+pub link-next : (p : Progress) (from to : ℕ) (plan : Plan) → plan ≡ linked (p .plan) from to → planned Links plan 0 ≡ after p (Link from to)
+unfolding after
+link-next p from to plan e i = planned Links (e i) 0
+
+-- it ends at a terminal of the plan
 pub link-end : (p : Progress) (from to : ℕ) → linkCause p from to ≡ 0 → to < p .plan .n
 unfolding causeIn
-link-end p from to h = link-accepted p [] from to h .2
+link-end p from to h = link-accepted p nothingSaid from to h .2
 
 module _ (p : Progress) (from to : ℕ) (stage : isAt Links p ≡ true) where
   link-wrong : leb (p .plan .n) from or leb (p .plan .n) to or eqb from to ≡ true → linkCause p from to ≡ 5
@@ -93,7 +112,7 @@ module _ (p : Progress) (from to : ℕ) (stage : isAt Links p ≡ true) where
 -- an accepted group is at most the sixteenth
 pub group-room : (p : Progress) (s : ℕ) → groupCause p s ≡ 0 → listed (p .plan .bound .kind) < mostGroups
 unfolding causeIn
-group-room p s h = group-accepted p [] s h .3
+group-room p s h = group-accepted p nothingSaid s h .3
 
 module _ (p : Progress) (s : ℕ) where
   pub group-late : inPlan p ≡ false → groupCause p s ≡ 3
@@ -105,9 +124,9 @@ module _ (p : Progress) (s : ℕ) where
   group-unlisted h = cause-here _ _ _ (not-i (and-no-r _ _ h))
 
   -- an accepted one, by the plan that was made of it
-  pub group-next : (plan : Plan) → plan ≡ grouped (p .plan) s → record { stage = Grouped; plan = plan; faulty = 0; value = 0; rounds = 0 } ≡ after p (Group s)
+  pub group-next : (plan : Plan) → plan ≡ grouped (p .plan) s → planned Grouped plan 0 ≡ after p (Group s)
   unfolding after
-  group-next plan e i = record { stage = Grouped; plan = e i; faulty = 0; value = 0; rounds = 0 }
+  group-next plan e i = planned Grouped (e i) 0
 
   module _ (stage : inPlan p ≡ true) (l : lists (p .plan .bound .kind) ≡ true) where
     pub group-over : mostGroups ≤ listed (p .plan .bound .kind) → groupCause p s ≡ 17
@@ -139,59 +158,139 @@ fault-set-at p s stage =
 pub rounds-left : (n played : ℕ) (rounds : Rounds) → rounds ≡ Left → played ≡ n - 1 → played ≡ roundsOf n rounds
 rounds-left n played rounds e h = h ∙ sym (ap (roundsOf n) e)
 
--- one in its place, by the rounds that it was found to mean
-module _ (p : Progress) (value : ℕ) (rounds : Rounds) (played : ℕ) (e : played ≡ roundsOf (p .plan .n) rounds) where
-  pub start-next : record { stage = Words; plan = p .plan; faulty = p .faulty; value = value; rounds = played } ≡ after p (Start value rounds)
-  unfolding after
-  start-next i = record { stage = Words; plan = p .plan; faulty = p .faulty; value = value; rounds = e i }
+-- what is known after one, by the notice and the rounds that it was found to mean
+pub start-next : (p : Progress) (form : Form) (edition layout : ℕ) (rounds : Rounds) (notice played : ℕ) → notice ≡ noticeOf edition layout
+    → played ≡ roundsOf (p .plan .n) rounds
+    → record { stage = Started; plan = p .plan; faulty = p .faulty; form = form; notice = notice; rounds = played; issued = 0; edition = edition }
+    ≡ after p (Start form edition layout rounds)
+unfolding after
+start-next p form edition layout rounds notice played e d i = record {
+  stage = Started;
+  plan = p .plan;
+  faulty = p .faulty;
+  form = form;
+  notice = e i;
+  rounds = d i;
+  issued = 0;
+  edition = edition;
+}
 
-  pub start-sound : isAt Faults p ≡ true → startSound value played ≡ true → startCause p value rounds ≡ 0
+-- the tests in their order
+module _ (p : Progress) (form : Form) (edition layout : ℕ) (rounds : Rounds) where
+  pub start-other : otherForm p form ≡ true → startCause p form edition layout rounds ≡ 2
   unfolding startCause
-  start-sound stage h = cause-later _ _ _ (not-yes stage) ∙ cause-last _ _ (not-yes (sym (ap (startSound value) e) ∙ h))
+  start-other o = cause-here _ _ _ o
 
-  pub start-wrong : isAt Faults p ≡ true → startSound value played ≡ false → startCause p value rounds ≡ 9
-  unfolding startCause
-  start-wrong stage h = cause-later _ _ _ (not-yes stage) ∙ cause-here _ _ _ (not-i (sym (ap (startSound value) e) ∙ h))
+  module _ (o : otherForm p form ≡ false) where
+    pub start-late : isAt Faults p ≡ false → startCause p form edition layout rounds ≡ 3
+    unfolding startCause
+    start-late s = cause-later _ _ _ o ∙ cause-here _ _ _ (not-i s)
+
+    module _ (s : isAt Faults p ≡ true) (played : ℕ) (e : played ≡ roundsOf (p .plan .n) rounds) where
+      pub start-wrong : startSound layout played ≡ false → startCause p form edition layout rounds ≡ 9
+      unfolding startCause
+      start-wrong h = cause-later _ _ _ o ∙ cause-later _ _ _ (not-yes s) ∙ cause-here _ _ _ (not-i (sym (ap (startSound layout) e) ∙ h))
+
+      module _ (h : startSound layout played ≡ true) where
+        start-last : startCause p form edition layout rounds ≡ firstCause (eqb edition 0 gives 16 ∷ [])
+        unfolding startCause
+        start-last = cause-later _ _ _ o ∙ cause-later _ _ _ (not-yes s) ∙ cause-later _ _ _ (not-yes (sym (ap (startSound layout) e) ∙ h))
+
+        pub start-none : edition ≡ 0 → startCause p form edition layout rounds ≡ 16
+        start-none z = start-last ∙ cause-here _ _ _ (eq-eqb edition 0 z)
+
+        pub start-right : (edition ≡ 0 → ⊥) → startCause p form edition layout rounds ≡ 0
+        start-right n = start-last ∙ cause-last _ _ (ne-eqb edition 0 n)
+
+-- ---- a later notice
+
+-- an accepted one is issued in a round that is played
+pub later-round : (p : Progress) (round edition layout : ℕ) → laterCause p round edition layout ≡ 0 → (p .issued < round) × (round ≤ p .rounds)
+unfolding causeIn
+later-round p round edition layout h = let a = later-accepted p nothingSaid round edition layout h in (a .1, a .2)
+
+-- the tests in their order
+module _ (p : Progress) (round edition layout : ℕ) where
+  pub later-other : otherForm p New ≡ true → laterCause p round edition layout ≡ 2
+  unfolding laterCause
+  later-other o = cause-here _ _ _ o
+
+  module _ (o : otherForm p New ≡ false) where
+    pub later-stage : isAt Started p ≡ false → laterCause p round edition layout ≡ 3
+    unfolding laterCause
+    later-stage s = cause-later _ _ _ o ∙ cause-here _ _ _ (not-i (and-no-l _ _ s))
+
+    pub later-again : round ≤ p .issued → laterCause p round edition layout ≡ 3
+    unfolding laterCause
+    later-again h = cause-later _ _ _ o ∙ cause-here _ _ _ (not-i (and-no-r _ _ (and-no-l _ _ (le-ltb (p .issued) round h))))
+
+    pub later-over : p .rounds < round → laterCause p round edition layout ≡ 3
+    unfolding laterCause
+    later-over h = cause-later _ _ _ o ∙ cause-here _ _ _ (not-i (and-no-r _ _ (and-no-r _ _ (lt-leb round (p .rounds) h))))
+
+    module _ (s : isAt Started p ≡ true) (a : p .issued < round) (b : round ≤ p .rounds) where
+      later-played : laterCause p round edition layout ≡ firstCause (eqb layout 0 gives 9 ∷ not (ltb (p .edition) edition) gives 16 ∷ [])
+      unfolding laterCause
+      later-played =
+          cause-later _ _ _ o
+          ∙ cause-later _ _ _ (not-yes (and-i _ _ s (and-i _ _ (lt-ltb (p .issued) round a) (le-leb round (p .rounds) b))))
+
+      pub later-none : layout ≡ 0 → laterCause p round edition layout ≡ 9
+      later-none z = later-played ∙ cause-here _ _ _ (eq-eqb layout 0 z)
+
+      module _ (n : layout ≡ 0 → ⊥) where
+        pub later-below : edition ≤ p .edition → laterCause p round edition layout ≡ 16
+        later-below h = later-played ∙ cause-later _ _ _ (ne-eqb layout 0 n) ∙ cause-here _ _ _ (not-i (le-ltb (p .edition) edition h))
+
+        pub later-right : p .edition < edition → laterCause p round edition layout ≡ 0
+        later-right h = later-played ∙ cause-later _ _ _ (ne-eqb layout 0 n) ∙ cause-last _ _ (not-yes (lt-ltb (p .edition) edition h))
 
 -- ---- a word
 
-module _ (p : Progress) (round from to value : ℕ) where
-  pub word-early : round < 1 → isWord p round from to value ≡ false
+module _ (p : Progress) (round from to edition layout : ℕ) where
+  pub word-early : round < 1 → isWord p round from to edition layout ≡ false
   unfolding isWord
   word-early h = and-no-l _ _ (lt-leb 1 round h)
 
-  pub word-late : p .rounds < round → isWord p round from to value ≡ false
+  pub word-late : p .rounds < round → isWord p round from to edition layout ≡ false
   unfolding isWord
   word-late h = and-no-r _ _ (and-no-l _ _ (lt-leb round (p .rounds) h))
 
-  pub word-from : p .plan .n ≤ from → isWord p round from to value ≡ false
+  pub word-from : p .plan .n ≤ from → isWord p round from to edition layout ≡ false
   unfolding isWord
   word-from h = and-no-r _ _ (and-no-r _ _ (and-no-l _ _ (le-ltb from (p .plan .n) h)))
 
-  pub word-to : p .plan .n ≤ to → isWord p round from to value ≡ false
+  pub word-to : p .plan .n ≤ to → isWord p round from to edition layout ≡ false
   unfolding isWord
   word-to h = and-no-r _ _ (and-no-r _ _ (and-no-r _ _ (and-no-l _ _ (le-ltb to (p .plan .n) h))))
 
-  pub word-unheard : hears (p .plan) to from ≡ false → isWord p round from to value ≡ false
+  pub word-unheard : hears (p .plan) to from ≡ false → isWord p round from to edition layout ≡ false
   unfolding isWord
   word-unheard h = and-no-r _ _ (and-no-r _ _ (and-no-r _ _ (and-no-r _ _ (and-no-l _ _ h))))
 
-  pub word-good : mem from (p .faulty) ≡ false → isWord p round from to value ≡ false
+  pub word-good : mem from (p .faulty) ≡ false → isWord p round from to edition layout ≡ false
   unfolding isWord
   word-good h = and-no-r _ _ (and-no-r _ _ (and-no-r _ _ (and-no-r _ _ (and-no-r _ _ (and-no-l _ _ h)))))
 
-  pub word-said : 1 ≤ round → round ≤ p .rounds → from < p .plan .n → to < p .plan .n → hears (p .plan) to from ≡ true → mem from (p .faulty) ≡ true
-      → isWord p round from to value ≡ not (eqb value 0)
+  pub word-old : edition ≡ 0 → isWord p round from to edition layout ≡ false
   unfolding isWord
-  word-said a b c d e f =
+  word-old z =
+      and-no-r _ _
+      (and-no-r _ _ (and-no-r _ _ (and-no-r _ _ (and-no-r _ _ (and-no-r _ _ (and-no-l _ _ (not-yes (eq-eqb edition 0 z))))))))
+
+  pub word-said : 1 ≤ round → round ≤ p .rounds → from < p .plan .n → to < p .plan .n → hears (p .plan) to from ≡ true → mem from (p .faulty) ≡ true
+      → (edition ≡ 0 → ⊥) → isWord p round from to edition layout ≡ not (eqb layout 0)
+  unfolding isWord
+  word-said a b c d e f n =
       and-yes _ _ (le-leb 1 round a)
       ∙ and-yes _ _ (le-leb round (p .rounds) b)
       ∙ and-yes _ _ (lt-ltb from (p .plan .n) c)
       ∙ and-yes _ _ (lt-ltb to (p .plan .n) d)
       ∙ and-yes _ _ e
       ∙ and-yes _ _ f
+      ∙ and-yes _ _ (not-i (ne-eqb edition 0 n))
 
-  pub word-parts : isWord p round from to value ≡ true → (1 ≤ round) × (round ≤ p .rounds) × (from < p .plan .n) × (to < p .plan .n)
+  pub word-parts : isWord p round from to edition layout ≡ true → (1 ≤ round) × (round ≤ p .rounds) × (from < p .plan .n) × (to < p .plan .n)
   unfolding isWord
   word-parts h = (
     leb-true 1 round (and-l _ _ h),
@@ -200,53 +299,77 @@ module _ (p : Progress) (round from to value : ℕ) where
     ltb-true to (p .plan .n) (and-l _ _ (and-r _ _ (and-r _ _ (and-r _ _ h)))),
   )
 
-module _ (p : Progress) (words : List ℕ) (round from to value : ℕ) (stage : isAt Words p ≡ true) where
-  pub no-word : isWord p round from to value ≡ false → messageCause p words round from to value ≡ 10
+-- the tests in their order
+module _ (p : Progress) (words : List ℕ) (form : Form) (round from to edition layout : ℕ) where
+  pub word-other : otherForm p form ≡ true → messageCause p words form round from to edition layout ≡ 2
   unfolding messageCause
-  no-word w = cause-later _ _ _ (not-yes stage) ∙ cause-here _ _ _ (not-i w)
+  word-other o = cause-here _ _ _ o
 
-  -- a word whose place is taken, or free
-  module _ (w : isWord p round from to value ≡ true) (k : ℕ) (e : k ≡ placeOf (p .plan .n) round from to) where
-    at-place : getD words k 0 ≡ getD words (placeOf (p .plan .n) round from to) 0
-    at-place = ap (λ (j : ℕ). getD words j 0) e
-
-    pub word-again : (getD words k 0 ≡ 0 → ⊥) → messageCause p words round from to value ≡ 11
+  module _ (o : otherForm p form ≡ false) where
+    pub word-unstarted : isStarted p ≡ false → messageCause p words form round from to edition layout ≡ 3
     unfolding messageCause
-    word-again h =
-        cause-later _ _ _ (not-yes stage) ∙ cause-later _ _ _ (not-yes w) ∙ cause-here _ _ _ (not-i (ne-eqb _ 0 (λ z. h (at-place ∙ z))))
+    word-unstarted s = cause-later _ _ _ o ∙ cause-here _ _ _ (not-i s)
 
-    pub word-new : getD words k 0 ≡ 0 → messageCause p words round from to value ≡ 0
-    unfolding messageCause
-    word-new h =
-        cause-later _ _ _ (not-yes stage) ∙ cause-later _ _ _ (not-yes w) ∙ cause-last _ _ (not-yes (eq-eqb _ 0 (sym at-place ∙ h)))
+    module _ (s : isStarted p ≡ true) where
+      pub no-word : isWord p round from to edition layout ≡ false → messageCause p words form round from to edition layout ≡ 10
+      unfolding messageCause
+      no-word w = cause-later _ _ _ o ∙ cause-later _ _ _ (not-yes s) ∙ cause-here _ _ _ (not-i w)
+
+      -- a word whose place is taken, or free
+      module _ (w : isWord p round from to edition layout ≡ true) (k : ℕ) (e : k ≡ placeOf (p .plan .n) round from to) where
+        at-place : getD words k 0 ≡ getD words (placeOf (p .plan .n) round from to) 0
+        at-place = ap (λ (j : ℕ). getD words j 0) e
+
+        word-last : messageCause p words form round from to edition layout
+            ≡ firstCause (not (eqb (getD words (placeOf (p .plan .n) round from to) 0) 0) gives 11 ∷ [])
+        unfolding messageCause
+        word-last = cause-later _ _ _ o ∙ cause-later _ _ _ (not-yes s) ∙ cause-later _ _ _ (not-yes w)
+
+        pub word-again : (getD words k 0 ≡ 0 → ⊥) → messageCause p words form round from to edition layout ≡ 11
+        word-again h = word-last ∙ cause-here _ _ _ (not-i (ne-eqb _ 0 (λ z. h (at-place ∙ z))))
+
+        pub word-new : getD words k 0 ≡ 0 → messageCause p words form round from to edition layout ≡ 0
+        word-new h = word-last ∙ cause-last _ _ (not-yes (eq-eqb _ 0 (sym at-place ∙ h)))
 
 -- ---- a frame
 
 -- what was found of a frame by its variant holds of the frame
-pub told-by : (p : Progress) (words last : List ℕ) (frame known : Frame) (r : Told) → frame ≡ known → r .cause ≡ causeIn p words known
-    → (r .cause ≡ 0 → r .progress ≡ after p known) → last ≡ pick (eqb (r .cause) 0) (wordsAfter p words known) words
-    → (r .cause ≡ causeIn p words frame) × (r .cause ≡ 0 → r .progress ≡ after p frame)
-    × (last ≡ pick (eqb (r .cause) 0) (wordsAfter p words frame) words)
-told-by p words last frame known r e a b d = rw e (a, b, d)
+pub told-by : (p : Progress) (said last : Lists) (frame known : Frame) (r : Told) → frame ≡ known → r .cause ≡ causeIn p said known
+    → (r .cause ≡ 0 → r .progress ≡ after p known) → last ≡ pick (eqb (r .cause) 0) (saidAfter p said known) said
+    → (r .cause ≡ causeIn p said frame) × (r .cause ≡ 0 → r .progress ≡ after p frame)
+    × (last ≡ pick (eqb (r .cause) 0) (saidAfter p said frame) said)
+told-by p said last frame known r e a b d = rw e (a, b, d)
 
-pub either : (b : Bool) (words : List ℕ) → words ≡ pick b words words
+-- of the two lists one is changed, or neither
+pub either : (b : Bool) (said : Lists) → said ≡ pick b said said
 unfolding pick
-either true words = refl
-either false words = refl
+either true said = refl
+either false said = refl
+
+pub changed-words : (b : Bool) (last next words later : List ℕ) → last ≡ pick b next words → both last later ≡ pick b (both next later) (both words later)
+unfolding pick
+changed-words true last next words later e = ap (λ (l : List ℕ). both l later) e
+changed-words false last next words later e = ap (λ (l : List ℕ). both l later) e
+
+pub changed-later : (b : Bool) (last next words later : List ℕ) → last ≡ pick b next later → both words last ≡ pick b (both words next) (both words later)
+unfolding pick
+changed-later true last next words later e = ap (both words) e
+changed-later false last next words later e = ap (both words) e
 
 -- an accepted frame leaves at most 20 terminals and 40 rounds
-module _ (p : Progress) (words : List ℕ) (twenty : p .plan .n ≤ mostTerminals) (forty : p .rounds ≤ mostRounds) where
-  kept : (frame : Frame) → causeIn p words frame ≡ 0 → (after p frame .plan .n ≤ mostTerminals) × (after p frame .rounds ≤ mostRounds)
+module _ (p : Progress) (said : Lists) (twenty : p .plan .n ≤ mostTerminals) (forty : p .rounds ≤ mostRounds) where
+  kept : (frame : Frame) → causeIn p said frame ≡ 0 → (after p frame .plan .n ≤ mostTerminals) × (after p frame .rounds ≤ mostRounds)
   unfolding inRange after linked grouped
   kept Foreign h = (twenty, forty)
   kept Unknown h = (twenty, forty)
-  kept (Head n source f) h = (leb-true n 20 (and-l _ _ (and-r _ _ (head-accepted p words n source f h .1))), omega arith)
+  kept (Head n source f) h = (leb-true n 20 (and-l _ _ (and-r _ _ (head-accepted p said n source f h .1))), omega arith)
   kept (Link from to) h = (twenty, omega arith)
   kept (Group s) h = (twenty, omega arith)
   kept (FaultSet s) h = (twenty, omega arith)
-  kept (Start value rounds) h = (twenty, start-parts _ _ (start-accepted p words value rounds h .1) .1)
-  kept (Message round from to value) h = (twenty, forty)
+  kept (Start form edition layout rounds) h = (twenty, start-parts _ _ (start-accepted p said form edition layout rounds h .1) .1)
+  kept (Later round edition layout) h = (twenty, forty)
+  kept (Message form round from to edition layout) h = (twenty, forty)
 
-  pub kept-next : (frame : Frame) (cause : ℕ) (next : Progress) → cause ≡ causeIn p words frame → cause ≡ 0 → next ≡ after p frame
+  pub kept-next : (frame : Frame) (cause : ℕ) (next : Progress) → cause ≡ causeIn p said frame → cause ≡ 0 → next ≡ after p frame
       → (next .plan .n ≤ mostTerminals) × (next .rounds ≤ mostRounds)
   kept-next frame cause next e z q = rw q (kept frame (sym e ∙ z))

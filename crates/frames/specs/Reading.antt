@@ -11,18 +11,21 @@ use Rattle.sets.specs.Sets.{Terminal, Set, mem, with}
 use Rattle.quorum.specs.declared.BoundKind.{BoundKind}
 use Rattle.quorum.specs.declared.BoundKind.the-variants.{Most, Groups}
 use Rattle.quorum.specs.Quorum.{mostTerminals, mostGroups, noGroups, atMost, listed, inRange, others}
-use Rattle.quorum.specs.Words.{mostWords, startSound, placeOf}
+use Rattle.quorum.specs.Notice.{Edition, Layout, noticeOf}
+use Rattle.quorum.specs.Words.{mostRounds, mostWords, startSound, placeOf}
 use Rattle.plan.specs.declared.Plan.{Plan}
 use Rattle.plan.specs.Plan.{heardBy, hears}
 use Rattle.plan.specs.Deaf.{deafSet}
 use Rattle.faults.specs.Check.{faultCauseOf}
+use Rattle.lines.specs.declared.Form.{Form}
+use Rattle.lines.specs.declared.Form.the-variants.{Old, New}
 use Rattle.lines.specs.declared.Rounds.{Rounds}
 use Rattle.lines.specs.declared.Rounds.the-variants.{Given, Left}
 use Rattle.lines.specs.declared.Frame.{Frame}
-use Rattle.lines.specs.declared.Frame.the-variants.{Foreign, Unknown, Head, Link, Group, FaultSet, Start, Message}
+use Rattle.lines.specs.declared.Frame.the-variants.{Foreign, Unknown, Head, Link, Group, FaultSet, Start, Later, Message}
 use Rattle.lines.specs.Frames.{frameOf, numberOf}
 use Rattle.frames.specs.declared.Stage.{Stage}
-use Rattle.frames.specs.declared.Stage.the-variants.{Nothing, Links, Grouped, Faults, Words}
+use Rattle.frames.specs.declared.Stage.the-variants.{Nothing, Links, Grouped, Faults, Started, Words}
 use Rattle.frames.specs.declared.Progress.{Progress}
 use Rattle.frames.specs.declared.FileRead.{FileRead}
 use Rattle.frames.specs.declared.ArchiveRead.{ArchiveRead}
@@ -35,12 +38,12 @@ use Rattle.frames.specs.Lines.{Line, ended, cut, linesFrom}
 abbrev pub mostBytes : ℕ
 mostBytes = 24576
 
--- plan files have the kinds 01, 02 and 07, run files 03 to 05 too
+-- plan files have the kinds 01, 02 and 07, run files 03 to 05 and 08 too
 abbrev pub planKinds : Set
 planKinds = 2 ^ 1 + 2 ^ 2 + 2 ^ 7
 
 abbrev pub runKinds : Set
-runKinds = 2 ^ 1 + 2 ^ 2 + 2 ^ 3 + 2 ^ 4 + 2 ^ 5 + 2 ^ 7
+runKinds = 2 ^ 1 + 2 ^ 2 + 2 ^ 3 + 2 ^ 4 + 2 ^ 5 + 2 ^ 7 + 2 ^ 8
 
 -- the readers of new plans and of runs, and that of the archive, which opens plans with a deaf terminal too (document 02, P6)
 abbrev pub planReader : Reader
@@ -54,13 +57,14 @@ archiveReader = record { kinds = planKinds; archive = true }
 
 -- ---- what is known after some lines
 
--- the stages in their order: nothing; the head and perhaps links; groups too; the bad set too; the start too and perhaps words
+-- the stages in their order: nothing; the head and perhaps links; groups too; the bad set too; the start too and perhaps later notices; words too
 abbrev pub stageOf : Stage → ℕ
 stageOf Nothing = 0
 stageOf Links = 1
 stageOf Grouped = 2
 stageOf Faults = 3
-stageOf Words = 4
+stageOf Started = 4
+stageOf Words = 5
 
 unfoldable pub isAt : Stage → Progress → Bool
 isAt stage p = eqb (stageOf (p .stage)) (stageOf stage)
@@ -69,18 +73,48 @@ isAt stage p = eqb (stageOf (p .stage)) (stageOf stage)
 unfoldable pub inPlan : Progress → Bool
 inPlan p = isAt Links p or isAt Grouped p
 
+-- from the start on
+unfoldable pub isStarted : Progress → Bool
+isStarted p = isAt Started p or isAt Words p
+
+-- the start's form decides that of all frames after it (document 02, P8): a frame of this form is of the other one
+abbrev pub formOf : Form → ℕ
+formOf Old = 0
+formOf New = 1
+
+unfoldable pub otherForm : Progress → Form → Bool
+otherForm p form = isStarted p and not (eqb (formOf form) (formOf (p .form)))
+
 abbrev pub noLinks : List ℕ
 noLinks = replicate mostTerminals 0
 
 abbrev pub noPlan : Plan
 noPlan = record { n = 0; source = 0; bound = atMost 0; rows = noLinks }
 
-abbrev pub nothingRead : Progress
-nothingRead = record { stage = Nothing; plan = noPlan; faulty = 0; value = 0; rounds = 0 }
+-- what is known before the start
+abbrev pub planned : Stage → Plan → (faulty : Set) → Progress
+planned stage plan faulty =
+    record { stage = stage; plan = plan; faulty = faulty; form = Old; notice = 0; rounds = 0; issued = 0; edition = 0 }
 
--- the liars' words, each at its place
+abbrev pub nothingRead : Progress
+nothingRead = planned Nothing noPlan 0
+
+-- what is said: the liars' words, each at its place, and the office's later notices, that of round r at place r - 1
+pub record Lists : Type 0 where
+  pub words : List ℕ
+  pub later : List ℕ
+
+abbrev pub both : (words later : List ℕ) → Lists
+both words later = record { words = words; later = later }
+
 abbrev pub noWords : List ℕ
 noWords = replicate mostWords 0
+
+abbrev pub noLater : List ℕ
+noLater = replicate mostRounds 0
+
+abbrev pub nothingSaid : Lists
+nothingSaid = both noWords noLater
 
 -- the head's last byte: f, or ff where groups are listed instead (document 02, P10)
 unfoldable pub kindRead : (f : ℕ) → BoundKind
@@ -121,33 +155,52 @@ groupCause p s =
 unfoldable pub faultSetCause : Progress → (s : Set) → ℕ
 faultSetCause p s = firstCause (not (inPlan p) gives 3 ∷ given (faultCauseOf (p .plan) s) ∷ [])
 
-unfoldable pub startCause : Progress → (value : ℕ) → Rounds → ℕ
-startCause p value rounds =
-    firstCause (not (isAt Faults p) gives 3 ∷ not (startSound value (roundsOf (p .plan .n) rounds)) gives 9 ∷ [])
+-- 2: there was a start of the other form; 16: edition 0 (document 02, P8)
+unfoldable pub startCause : Progress → Form → Edition → Layout → Rounds → ℕ
+startCause p form edition layout rounds =
+    firstCause
+    (otherForm p form gives 2
+    ∷ not (isAt Faults p) gives 3
+    ∷ not (startSound layout (roundsOf (p .plan .n) rounds)) gives 9
+    ∷ eqb edition 0 gives 16
+    ∷ [])
+
+-- 3: it comes after a word, or its round is not above that of the notice before, or not played; 16: its edition is not above that of the notice before
+unfoldable pub laterCause : Progress → (round : ℕ) → Edition → Layout → ℕ
+laterCause p round edition layout =
+    firstCause
+    (otherForm p New gives 2
+    ∷ not (isAt Started p and ltb (p .issued) round and leb round (p .rounds)) gives 3
+    ∷ eqb layout 0 gives 9
+    ∷ not (ltb (p .edition) edition) gives 16
+    ∷ [])
 
 -- a word in a round that is played, on a link, from a bad sender, and not silence
-unfoldable pub isWord : Progress → (round : ℕ) (from to : Terminal) (value : ℕ) → Bool
-isWord p round from to value =
+unfoldable pub isWord : Progress → (round : ℕ) (from to : Terminal) → Edition → Layout → Bool
+isWord p round from to edition layout =
     leb 1 round and leb round (p .rounds) and ltb from (p .plan .n) and ltb to (p .plan .n) and hears (p .plan) to from
-    and mem from (p .faulty) and not (eqb value 0)
+    and mem from (p .faulty) and not (eqb edition 0) and not (eqb layout 0)
 
 -- 11: its place is taken
-unfoldable pub messageCause : Progress → (words : List ℕ) (round : ℕ) (from to : Terminal) (value : ℕ) → ℕ
-messageCause p words round from to value =
+unfoldable pub messageCause : Progress → (words : List ℕ) → Form → (round : ℕ) (from to : Terminal) → Edition → Layout → ℕ
+messageCause p words form round from to edition layout =
     firstCause
-    (not (isAt Words p) gives 3 ∷ not (isWord p round from to value) gives 10
+    (otherForm p form gives 2
+    ∷ not (isStarted p) gives 3
+    ∷ not (isWord p round from to edition layout) gives 10
     ∷ not (eqb (getD words (placeOf (p .plan .n) round from to) 0) 0) gives 11
     ∷ [])
 
-unfoldable pub causeIn : Progress → (words : List ℕ) → Frame → ℕ
-causeIn p words Foreign = numberOf Foreign
-causeIn p words Unknown = numberOf Unknown
-causeIn p words (Head n source f) = headCause p n source f
-causeIn p words (Link from to) = linkCause p from to
-causeIn p words (Group s) = groupCause p s
-causeIn p words (FaultSet s) = faultSetCause p s
-causeIn p words (Start value rounds) = startCause p value rounds
-causeIn p words (Message round from to value) = messageCause p words round from to value
+unfoldable pub causeIn : Progress → Lists → Frame → ℕ
+causeIn p said Foreign = numberOf Foreign
+causeIn p said Unknown = numberOf Unknown
+causeIn p said (Head n source f) = headCause p n source f
+causeIn p said (Link from to) = linkCause p from to
+causeIn p said (Group s) = groupCause p s
+causeIn p said (FaultSet s) = faultSetCause p s
+causeIn p said (Start form edition layout rounds) = startCause p form edition layout rounds
+causeIn p said (Later round edition layout) = laterCause p round edition layout
+causeIn p said (Message form round from to edition layout) = messageCause p (said .words) form round from to edition layout
 
 -- ---- where the links end (document 02, P6 and P10): at the first line after the head that passes 1 and 2 and is not a link, nor, where groups are
 -- listed, a group; or else at the end of the file
@@ -160,8 +213,9 @@ endsLinks kind (Head n source f) = true
 endsLinks kind (Link from to) = false
 endsLinks kind (Group s) = not (lists kind)
 endsLinks kind (FaultSet s) = true
-endsLinks kind (Start value rounds) = true
-endsLinks kind (Message round from to value) = true
+endsLinks kind (Start form edition layout rounds) = true
+endsLinks kind (Later round edition layout) = true
+endsLinks kind (Message form round from to edition layout) = true
 
 -- the number of the first cause that is looked at there, 0 for none: no group, and a deaf terminal
 unfoldable pub linksCause : Reader → Progress → ℕ
@@ -190,37 +244,60 @@ grouped p s = record {
   rows = p .rows;
 }
 
-unfoldable pub after : Progress → Frame → Progress
-after p Foreign = p
-after p Unknown = p
-after p (Head n source f) = record {
-  stage = Links;
-  plan = record { n = n; source = source; bound = record { kind = kindRead f; groups = noGroups }; rows = noLinks };
-  faulty = 0;
-  value = 0;
-  rounds = 0;
-}
-after p (Link from to) = record { stage = Links; plan = linked (p .plan) from to; faulty = 0; value = 0; rounds = 0 }
-after p (Group s) = record { stage = Grouped; plan = grouped (p .plan) s; faulty = 0; value = 0; rounds = 0 }
-after p (FaultSet s) = record { stage = Faults; plan = p .plan; faulty = s; value = 0; rounds = 0 }
-after p (Start value rounds) = record {
+-- a word was said
+abbrev pub spoken : Progress → Progress
+spoken p = record {
   stage = Words;
   plan = p .plan;
   faulty = p .faulty;
-  value = value;
-  rounds = roundsOf (p .plan .n) rounds;
+  form = p .form;
+  notice = p .notice;
+  rounds = p .rounds;
+  issued = p .issued;
+  edition = p .edition;
 }
-after p (Message round from to value) = p
 
-unfoldable pub wordsAfter : Progress → (words : List ℕ) → Frame → List ℕ
-wordsAfter p words Foreign = words
-wordsAfter p words Unknown = words
-wordsAfter p words (Head n source f) = words
-wordsAfter p words (Link from to) = words
-wordsAfter p words (Group s) = words
-wordsAfter p words (FaultSet s) = words
-wordsAfter p words (Start value rounds) = words
-wordsAfter p words (Message round from to value) = set words (placeOf (p .plan .n) round from to) value
+unfoldable pub after : Progress → Frame → Progress
+after p Foreign = p
+after p Unknown = p
+after p (Head n source f) =
+    planned Links (record { n = n; source = source; bound = record { kind = kindRead f; groups = noGroups }; rows = noLinks }) 0
+after p (Link from to) = planned Links (linked (p .plan) from to) 0
+after p (Group s) = planned Grouped (grouped (p .plan) s) 0
+after p (FaultSet s) = planned Faults (p .plan) s
+after p (Start form edition layout rounds) = record {
+  stage = Started;
+  plan = p .plan;
+  faulty = p .faulty;
+  form = form;
+  notice = noticeOf edition layout;
+  rounds = roundsOf (p .plan .n) rounds;
+  issued = 0;
+  edition = edition;
+}
+after p (Later round edition layout) = record {
+  stage = Started;
+  plan = p .plan;
+  faulty = p .faulty;
+  form = p .form;
+  notice = p .notice;
+  rounds = p .rounds;
+  issued = round;
+  edition = edition;
+}
+after p (Message form round from to edition layout) = spoken p
+
+unfoldable pub saidAfter : Progress → Lists → Frame → Lists
+saidAfter p said Foreign = said
+saidAfter p said Unknown = said
+saidAfter p said (Head n source f) = said
+saidAfter p said (Link from to) = said
+saidAfter p said (Group s) = said
+saidAfter p said (FaultSet s) = said
+saidAfter p said (Start form edition layout rounds) = said
+saidAfter p said (Later round edition layout) = both (said .words) (set (said .later) (round - 1) (noticeOf edition layout))
+saidAfter p said (Message form round from to edition layout) =
+    both (set (said .words) (placeOf (p .plan .n) round from to) (noticeOf edition layout)) (said .later)
 
 -- ---- the file
 
@@ -229,10 +306,10 @@ pub record Reading : Type 0 where
   pub number : ℕ
   pub line : ℕ
   pub progress : Progress
-  pub words : List ℕ
+  pub said : Lists
 
 abbrev pub refusal : (number line : ℕ) → Reading
-refusal number line = record { number = number; line = line; progress = nothingRead; words = noWords }
+refusal number line = record { number = number; line = line; progress = nothingRead; said = nothingSaid }
 
 -- the reading goes on where no cause was found
 abbrev pub unless : (cause line : ℕ) → Reading → Reading
@@ -240,22 +317,22 @@ unless cause line r = pick (eqb cause 0) r (refusal cause line)
 
 -- the lines from line k on: the first that fails decides. What is looked at where the links end comes before the line's other causes, and is told
 -- with line 0
-unfoldable pub told : Reader → Progress → (words : List ℕ) (k : ℕ) → List Line → Reading
-told reader p words k [] = unless (linksCause reader p) 0 (record { number = 0; line = 0; progress = p; words = words })
-told reader p words k (cut line ∷ rest) = refusal 1 k
-told reader p words k (ended line ∷ rest) =
+unfoldable pub told : Reader → Progress → Lists → (k : ℕ) → List Line → Reading
+told reader p said k [] = unless (linksCause reader p) 0 (record { number = 0; line = 0; progress = p; said = said })
+told reader p said k (cut line ∷ rest) = refusal 1 k
+told reader p said k (ended line ∷ rest) =
     unless (endCause reader p (frameOf (reader .kinds) line)) 0
-    (unless (causeIn p words (frameOf (reader .kinds) line)) k
-    (told reader (after p (frameOf (reader .kinds) line)) (wordsAfter p words (frameOf (reader .kinds) line)) (k + 1) rest))
+    (unless (causeIn p said (frameOf (reader .kinds) line)) k
+    (told reader (after p (frameOf (reader .kinds) line)) (saidAfter p said (frameOf (reader .kinds) line)) (k + 1) rest))
 
 -- the file's length comes first of all
 unfoldable pub reading : Reader → (text : List ℕ) → Reading
 reading reader text =
-    pick (leb 1 (length text) and leb (length text) mostBytes) (told reader nothingRead noWords 1 (linesFrom [] text)) (refusal 1 0)
+    pick (leb 1 (length text) and leb (length text) mostBytes) (told reader nothingRead nothingSaid 1 (linesFrom [] text)) (refusal 1 0)
 
 -- a file for `run` needs 03 and 04: that comes last
 unfoldable pub whole : Reading → Reading
-whole r = pick (eqb (r .number) 0 and not (isAt Words (r .progress))) (refusal 3 0) r
+whole r = pick (eqb (r .number) 0 and not (isStarted (r .progress))) (refusal 3 0) r
 
 unfoldable pub planReading : (text : List ℕ) → Reading
 planReading text = reading planReader text
@@ -266,7 +343,7 @@ archiveReading text = reading archiveReader text
 unfoldable pub runReading : (text : List ℕ) → Reading
 runReading text = whole (reading runReader text)
 
--- what a caller gets beside the words
+-- what a caller gets beside the lists
 abbrev pub fileRead : Reading → FileRead
 fileRead r = record { number = r .number; line = r .line; progress = r .progress }
 
@@ -274,10 +351,14 @@ fileRead r = record { number = r .number; line = r .line; progress = r .progress
 abbrev pub archiveRead : Reading → ArchiveRead
 archiveRead r = record { file = fileRead r; deaf = deafSet (r .progress .plan) }
 
--- the reader of run files is lent a list for the words: where the file is accepted, one of the wrong length is refused 12
-unfoldable pub runFile : (text : List ℕ) (room : ℕ) → Reading
-runFile text room = pick (eqb (runReading text .number) 0 and not (eqb room mostWords)) (refusal 12 0) (runReading text)
+-- the reader of run files is lent two lists, for the words and for the later notices: where the file is accepted, one of the wrong length is refused 12
+unfoldable pub runFile : (text : List ℕ) (room roomLater : ℕ) → Reading
+runFile text room roomLater =
+    pick (eqb (runReading text .number) 0 and not (eqb room mostWords and eqb roomLater mostRounds)) (refusal 12 0) (runReading text)
 
--- the list afterwards: a refused call leaves it as it was
+-- the lists afterwards: a refused call leaves them as they were
 unfoldable pub wordsRead : Reading → (before : List ℕ) → List ℕ
-wordsRead r before = pick (eqb (r .number) 0) (r .words) before
+wordsRead r before = pick (eqb (r .number) 0) (r .said .words) before
+
+unfoldable pub laterRead : Reading → (before : List ℕ) → List ℕ
+laterRead r before = pick (eqb (r .number) 0) (r .said .later) before

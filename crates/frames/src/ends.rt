@@ -22,8 +22,9 @@ fn ends_links(kind: BoundKind, frame: Frame) -> bool
         Frame::Link(_, _) => false,
         Frame::Group(_) => !told::lists(kind),
         Frame::FaultSet(_) => true,
-        Frame::Start(_, _) => true,
-        Frame::Message(_, _, _, _) => true,
+        Frame::Start(_, _, _, _) => true,
+        Frame::Later(_, _, _) => true,
+        Frame::Message(_, _, _, _, _, _) => true,
     }
 }
 

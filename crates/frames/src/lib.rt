@@ -6,21 +6,24 @@ mod told;
 ghost use mathlib.Core.Path.{_≡_};
 ghost use Prim.Native.Nat.{_+_, _<_, _≤_};
 ghost use lib.ListN.{length};
-ghost use Rattle.frames.specs.Reading.{mostBytes, stageOf, isAt, inPlan, nothingRead, noWords, refusal, reading, planReading, archiveReading, fileRead, archiveRead, runFile, wordsRead};
+ghost use Rattle.frames.specs.Reading.{mostBytes, stageOf, formOf, isAt, inPlan, isStarted, otherForm, planned, nothingRead, both, nothingSaid, refusal, reading, planReading, archiveReading, fileRead, archiveRead, runFile, wordsRead, laterRead};
 ghost use Rattle.frames.specs.Pass.{Going};
+use lines::Form;
 use plan::Plan;
 use quorum::Bound;
 use quorum::BoundKind;
 
-// The bytes of a file, and the words of a run.
+// The bytes of a file, and the words and the rounds of a run.
 const MOST_BYTES: usize = 24576;
 
 const MOST_WORDS: usize = 16000;
 
-// The kinds of a plan file, 01, 02 and 07, and of a run file, 01 to 05 and 07: bit i for kind i.
+const MOST_ROUNDS: usize = 40;
+
+// The kinds of a plan file, 01, 02 and 07, and of a run file, 01 to 05, 07 and 08: bit i for kind i.
 const PLAN_KINDS: u32 = 134;
 
-const RUN_KINDS: u32 = 190;
+const RUN_KINDS: u32 = 446;
 
 // What a reader opens: the kinds of frame that it knows, and whether plans with a deaf terminal too, as
 // that of the archive does.
@@ -30,22 +33,28 @@ pub struct Reader {
 }
 
 // How far a file was read: nothing; the head and perhaps links; groups too; the fault set too; the start
-// too and perhaps words.
+// too and perhaps later notices; words too.
 pub enum Stage {
     Nothing,
     Links,
     Grouped,
     Faults,
+    Started,
     Words,
 }
 
-// What is known after some lines.
+// What is known after some lines: beside the plan and the fault set the form of the start, its notice
+// (edition and layout in one number) and its rounds, and of the office's last notice the round in which
+// it is issued, 0 for the start, and its edition.
 pub struct Progress {
     pub stage: Stage,
     pub plan: Plan,
     pub faulty: u32,
-    pub value: u16,
+    pub form: Form,
+    pub notice: u32,
     pub rounds: u8,
+    pub issued: u8,
+    pub edition: u16,
 }
 
 // The number of a refusal and its line, 0 and 0 where the file is read. A refused file gives only
@@ -71,7 +80,18 @@ fn order(stage: Stage) -> u8
         Stage::Links => 1,
         Stage::Grouped => 2,
         Stage::Faults => 3,
-        Stage::Words => 4,
+        Stage::Started => 4,
+        Stage::Words => 5,
+    }
+}
+
+// The two forms as numbers.
+fn form_of(form: Form) -> u8
+    ensures { λ r. ⌜ r ≡ formOf form ⌝ }
+{
+    match form {
+        Form::Old => 0,
+        Form::New => 1,
     }
 }
 
@@ -92,28 +112,60 @@ pub(crate) fn in_plan(p: Progress) -> bool
     is_at(Stage::Grouped, p)
 }
 
+// From the start on.
+pub(crate) fn is_started(p: Progress) -> bool
+    ensures { λ r. ⌜ r ≡ isStarted p ⌝ }
+{
+    if is_at(Stage::Started, p) {
+        return true;
+    }
+    is_at(Stage::Words, p)
+}
+
+// The start was of the other form.
+pub(crate) fn other_form(p: Progress, form: Form) -> bool
+    ensures { λ r. ⌜ r ≡ otherForm p form ⌝ }
+{
+    let known = p.form;
+    if is_started(p) {
+        return form_of(form) != form_of(known);
+    }
+    false
+}
+
+// What is known before the start.
+pub(crate) fn planned(stage: Stage, plan: Plan, faulty: u32) -> Progress
+    ensures { λ r. ⌜ r ≡ planned stage plan faulty ⌝ }
+{
+    Progress {
+        stage: stage,
+        plan: plan,
+        faulty: faulty,
+        form: Form::Old,
+        notice: 0,
+        rounds: 0,
+        issued: 0,
+        edition: 0,
+    }
+}
+
 // A refused file: its number and line, and only zeros beside them.
 fn refusal(number: u8, line: u16) -> FileRead
     ensures { λ r. ⌜ r ≡ record { number = number; line = line; progress = nothingRead } ⌝ }
 {
+    let plan = Plan {
+        n: 0,
+        source: 0,
+        bound: Bound {
+            kind: BoundKind::Most(0),
+            groups: [0u32; 16],
+        },
+        rows: [0u32; 20],
+    };
     FileRead {
         number: number,
         line: line,
-        progress: Progress {
-            stage: Stage::Nothing,
-            plan: Plan {
-                n: 0,
-                source: 0,
-                bound: Bound {
-                    kind: BoundKind::Most(0),
-                    groups: [0u32; 16],
-                },
-                rows: [0u32; 20],
-            },
-            faulty: 0,
-            value: 0,
-            rounds: 0,
-        },
+        progress: planned(Stage::Nothing, plan, 0),
     }
 }
 
@@ -128,14 +180,21 @@ struct Cursor {
 
 // The byte at i: it ends a line, where the links may end too and whose frame is then told, or it is
 // one more of the line.
-fn pass(reader: Reader, text: &[u8], words: &mut [u16], at: Cursor, i: usize) -> Cursor
-    requires { ⌜ Going reader (now text) (now words) at i × (i < length (now text)) × (length (now text) ≤ mostBytes) ⌝ }
-    ensures { λ r. ⌜ (r .cause ≡ 0 → Going reader (now (text .entry)) (now (words .exit)) r (i + 1)) ⌝ }
+fn pass(
+    reader: Reader,
+    text: &[u8],
+    words: &mut [u32],
+    later: &mut [u32],
+    at: Cursor,
+    i: usize,
+) -> Cursor
+    requires { ⌜ Going reader (now text) (both (now words) (now later)) at i × (i < length (now text)) × (length (now text) ≤ mostBytes) ⌝ }
+    ensures { λ r. ⌜ (r .cause ≡ 0 → Going reader (now (text .entry)) (both (now (words .exit)) (now (later .exit))) r (i + 1)) ⌝ }
     ensures { λ r. ⌜ ((r .cause ≡ 0 → ⊥) → reading reader (now (text .entry)) ≡ refusal (r .cause) (r .line)) ⌝ }
 {
-    let from = at.from;
-    let known = at.progress;
     if text[i] == 10 {
+        let from = at.from;
+        let known = at.progress;
         let frame = lines::frame_of(reader.kinds, &text[from..i]);
         let end = ends::end_cause(reader, known, frame);
         if end != 0 {
@@ -146,7 +205,7 @@ fn pass(reader: Reader, text: &[u8], words: &mut [u16], at: Cursor, i: usize) ->
                 cause: end,
             };
         }
-        let told = told::tell(known, words, frame);
+        let told = told::tell(known, words, later, frame);
         if told.cause != 0 {
             return Cursor {
                 progress: known,
@@ -167,9 +226,9 @@ fn pass(reader: Reader, text: &[u8], words: &mut [u16], at: Cursor, i: usize) ->
 }
 
 // The lines of a file of fitting length, from the first: each is told as its end is met.
-fn read_lines(reader: Reader, text: &[u8], words: &mut [u16]) -> FileRead
-    requires { ⌜ (1 ≤ length (now text)) × (length (now text) ≤ mostBytes) × (now words ≡ noWords) ⌝ }
-    ensures { λ r. ⌜ (r ≡ fileRead (reading reader (now (text .entry)))) × (r .number ≡ 0 → now (words .exit) ≡ reading reader (now (text .entry)) .words) ⌝ }
+fn read_lines(reader: Reader, text: &[u8], words: &mut [u32], later: &mut [u32]) -> FileRead
+    requires { ⌜ (1 ≤ length (now text)) × (length (now text) ≤ mostBytes) × (both (now words) (now later) ≡ nothingSaid) ⌝ }
+    ensures { λ r. ⌜ (r ≡ fileRead (reading reader (now (text .entry)))) × (r .number ≡ 0 → both (now (words .exit)) (now (later .exit)) ≡ reading reader (now (text .entry)) .said) ⌝ }
 {
     let nothing = refusal(0, 0);
     let start = nothing.progress;
@@ -181,7 +240,7 @@ fn read_lines(reader: Reader, text: &[u8], words: &mut [u16]) -> FileRead
     };
     let mut i = 0;
     while i < text.len() {
-        at = pass(reader, text, words, at, i);
+        at = pass(reader, text, words, later, at, i);
         if at.cause != 0 {
             return refusal(at.cause, at.line);
         }
@@ -203,9 +262,9 @@ fn read_lines(reader: Reader, text: &[u8], words: &mut [u16]) -> FileRead
 }
 
 // The file's own length is looked at first of all.
-fn read(reader: Reader, text: &[u8], words: &mut [u16]) -> FileRead
-    requires { ⌜ now words ≡ noWords ⌝ }
-    ensures { λ r. ⌜ (r ≡ fileRead (reading reader (now (text .entry)))) × (r .number ≡ 0 → now (words .exit) ≡ reading reader (now (text .entry)) .words) ⌝ }
+fn read(reader: Reader, text: &[u8], words: &mut [u32], later: &mut [u32]) -> FileRead
+    requires { ⌜ both (now words) (now later) ≡ nothingSaid ⌝ }
+    ensures { λ r. ⌜ (r ≡ fileRead (reading reader (now (text .entry)))) × (r .number ≡ 0 → both (now (words .exit)) (now (later .exit)) ≡ reading reader (now (text .entry)) .said) ⌝ }
 {
     if text.len() < 1 {
         return refusal(1, 0);
@@ -213,38 +272,40 @@ fn read(reader: Reader, text: &[u8], words: &mut [u16]) -> FileRead
     if MOST_BYTES < text.len() {
         return refusal(1, 0);
     }
-    read_lines(reader, text, words)
+    read_lines(reader, text, words, later)
 }
 
 // The plan of a file with head, links and groups only, of which every terminal but the source hears somebody.
 pub fn read_plan(text: &[u8]) -> FileRead
     ensures { λ r. ⌜ r ≡ fileRead (planReading (now (text .entry))) ⌝ }
 {
-    let mut words = [0u16; MOST_WORDS];
+    let mut words = [0u32; MOST_WORDS];
+    let mut later = [0u32; MOST_ROUNDS];
     let reader = Reader {
         kinds: PLAN_KINDS,
         archive: false,
     };
-    read(reader, text, &mut words)
+    read(reader, text, &mut words, &mut later)
 }
 
 // The plan of such a file, whoever is deaf, and the deaf terminals.
 pub fn read_archive(text: &[u8]) -> ArchiveRead
     ensures { λ r. ⌜ r ≡ archiveRead (archiveReading (now (text .entry))) ⌝ }
 {
-    let mut words = [0u16; MOST_WORDS];
+    let mut words = [0u32; MOST_WORDS];
+    let mut later = [0u32; MOST_ROUNDS];
     let reader = Reader {
         kinds: PLAN_KINDS,
         archive: true,
     };
-    let file = read(reader, text, &mut words);
+    let file = read(reader, text, &mut words, &mut later);
     ArchiveRead {
         file: file,
         deaf: deaf::deaf_set(file.progress.plan),
     }
 }
 
-fn copy_words(from: &[u16], to: &mut [u16])
+fn copy_notices(from: &[u32], to: &mut [u32])
     requires { ⌜ length (now from) ≡ length (now to) ⌝ }
     ensures { λ _. ⌜ now (to .exit) ≡ now (from .entry) ⌝ }
 {
@@ -255,25 +316,32 @@ fn copy_words(from: &[u16], to: &mut [u16])
     }
 }
 
-// A run file: what it holds, and the liars' words in the lent list of 16,000 places.
-pub fn read_run(text: &[u8], words: &mut [u16]) -> FileRead
-    ensures { λ r. ⌜ (r ≡ fileRead (runFile (now (text .entry)) (length (now (words .entry))))) × (now (words .exit) ≡ wordsRead (runFile (now (text .entry)) (length (now (words .entry)))) (now (words .entry))) ⌝ }
+// A run file: what it holds; the liars' words in the lent list of 16,000 places, and the office's later
+// notices in that of 40, entry r - 1 being what it issues in round r.
+pub fn read_run(text: &[u8], words: &mut [u32], later: &mut [u32]) -> FileRead
+    ensures { λ r. ⌜ r ≡ fileRead (runFile (now (text .entry)) (length (now (words .entry))) (length (now (later .entry)))) ⌝ }
+    ensures { λ r. ⌜ now (words .exit) ≡ wordsRead (runFile (now (text .entry)) (length (now (words .entry))) (length (now (later .entry)))) (now (words .entry)) ⌝ }
+    ensures { λ r. ⌜ now (later .exit) ≡ laterRead (runFile (now (text .entry)) (length (now (words .entry))) (length (now (later .entry)))) (now (later .entry)) ⌝ }
 {
-    let mut local = [0u16; MOST_WORDS];
+    let mut said = [0u32; MOST_WORDS];
+    let mut issued = [0u32; MOST_ROUNDS];
     let reader = Reader {
         kinds: RUN_KINDS,
         archive: false,
     };
-    let file = read(reader, text, &mut local);
+    let file = read(reader, text, &mut said, &mut issued);
     if file.number != 0 {
         return file;
     }
-    if is_at(Stage::Words, file.progress) {
-        if words.len() != MOST_WORDS {
-            return refusal(12, 0);
+    if is_started(file.progress) {
+        if words.len() == MOST_WORDS {
+            if later.len() == MOST_ROUNDS {
+                copy_notices(&said, words);
+                copy_notices(&issued, later);
+                return file;
+            }
         }
-        copy_words(&local, words);
-        return file;
+        return refusal(12, 0);
     }
     refusal(3, 0)
 }

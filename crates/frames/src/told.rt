@@ -1,17 +1,22 @@
 // What each frame does to what is known so far, or why it is refused.
 ghost use mathlib.Core.Path.{_≡_};
-ghost use Prim.Native.Nat.{_<_, _≤_};
+ghost use Prim.Native.Nat.{_-_, _<_, _≤_};
 ghost use lib.Dec.{eqb};
 ghost use lib.ListN.{length, set};
 ghost use Rattle.sets.specs.Tests.{pick};
-ghost use Rattle.lines.specs.declared.Frame.the-variants.{Head, Link, Group, FaultSet, Start};
+ghost use Rattle.lines.specs.declared.Frame.the-variants.{Head, Link, Group, FaultSet, Start, Later};
 ghost use Rattle.quorum.specs.Quorum.{mostTerminals, mostGroups, listed};
+ghost use Rattle.quorum.specs.Notice.{noticeOf};
 ghost use Rattle.quorum.specs.Words.{mostRounds, mostWords, placeOf};
-ghost use Rattle.frames.specs.Reading.{kindRead, lists, roundsOf, headCause, linkCause, groupCause, faultSetCause, startCause, isWord, messageCause, causeIn, linked, grouped, after, wordsAfter};
+ghost use Rattle.frames.specs.Reading.{kindRead, lists, roundsOf, headCause, linkCause, groupCause, faultSetCause, startCause, laterCause, isWord, messageCause, causeIn, linked, grouped, spoken, after, both, saidAfter};
 use super::Progress;
 use super::Stage;
 use super::in_plan;
 use super::is_at;
+use super::is_started;
+use super::other_form;
+use super::planned;
+use lines::Form;
 use lines::Frame;
 use lines::Rounds;
 use plan::Plan;
@@ -40,23 +45,18 @@ fn head(p: Progress, n: u8, source: u8, f: u8) -> Told
     let kind = kind_read(f);
     if is_at(Stage::Nothing, p) {
         if quorum::in_range(n as usize, source as usize, kind) {
+            let plan = Plan {
+                n: n as usize,
+                source: source as usize,
+                bound: Bound {
+                    kind: kind,
+                    groups: [0u32; 16],
+                },
+                rows: [0u32; 20],
+            };
             return Told {
                 cause: 0,
-                progress: Progress {
-                    stage: Stage::Links,
-                    plan: Plan {
-                        n: n as usize,
-                        source: source as usize,
-                        bound: Bound {
-                            kind: kind,
-                            groups: [0u32; 16],
-                        },
-                        rows: [0u32; 20],
-                    },
-                    faulty: 0,
-                    value: 0,
-                    rounds: 0,
-                },
+                progress: planned(Stage::Links, plan, 0),
             };
         }
         return Told {
@@ -124,13 +124,7 @@ fn link(p: Progress, from: usize, to: usize) -> Told
     }
     Told {
         cause: 0,
-        progress: Progress {
-            stage: Stage::Links,
-            plan: with_link(plan, from, to),
-            faulty: 0,
-            value: 0,
-            rounds: 0,
-        },
+        progress: planned(Stage::Links, with_link(plan, from, to), 0),
     }
 }
 
@@ -198,13 +192,7 @@ fn group(p: Progress, s: u32) -> Told
     }
     Told {
         cause: 0,
-        progress: Progress {
-            stage: Stage::Grouped,
-            plan: with_group(plan, s),
-            faulty: 0,
-            value: 0,
-            rounds: 0,
-        },
+        progress: planned(Stage::Grouped, with_group(plan, s), 0),
     }
 }
 
@@ -222,13 +210,7 @@ fn fault_set(p: Progress, s: u32) -> Told
         }
         return Told {
             cause: 0,
-            progress: Progress {
-                stage: Stage::Faults,
-                plan: plan,
-                faulty: s,
-                value: 0,
-                rounds: 0,
-            },
+            progress: planned(Stage::Faults, plan, s),
         };
     }
     Told {
@@ -254,40 +236,104 @@ fn rounds_of(n: usize, rounds: Rounds) -> u8
     }
 }
 
-fn start(p: Progress, value: u16, rounds: Rounds) -> Told
+// The cause that refuses a start, 0 for none.
+fn start_cause(p: Progress, form: Form, edition: u16, layout: u16, rounds: Rounds) -> u8
     requires { ⌜ p .plan .n ≤ mostTerminals ⌝ }
-    ensures { λ r. ⌜ (r .cause ≡ startCause p value rounds) × (r .cause ≡ 0 → r .progress ≡ after p (Start value rounds)) ⌝ }
+    ensures { λ r. ⌜ r ≡ startCause p form edition layout rounds ⌝ }
 {
     let plan = p.plan;
+    if other_form(p, form) {
+        return 2;
+    }
     if is_at(Stage::Faults, p) {
-        let played = rounds_of(plan.n, rounds);
-        if quorum::start_sound(value, played) {
-            return Told {
-                cause: 0,
-                progress: Progress {
-                    stage: Stage::Words,
-                    plan: plan,
-                    faulty: p.faulty,
-                    value: value,
-                    rounds: played,
-                },
-            };
+        if quorum::start_sound(layout, rounds_of(plan.n, rounds)) {
+            if edition == 0 {
+                return 16;
+            }
+            return 0;
         }
+        return 9;
+    }
+    3
+}
+
+fn start(p: Progress, form: Form, edition: u16, layout: u16, rounds: Rounds) -> Told
+    requires { ⌜ p .plan .n ≤ mostTerminals ⌝ }
+    ensures { λ r. ⌜ (r .cause ≡ startCause p form edition layout rounds) × (r .cause ≡ 0 → r .progress ≡ after p (Start form edition layout rounds)) ⌝ }
+{
+    let plan = p.plan;
+    Told {
+        cause: start_cause(p, form, edition, layout, rounds),
+        progress: Progress {
+            stage: Stage::Started,
+            plan: plan,
+            faulty: p.faulty,
+            form: form,
+            notice: quorum::notice_of(edition, layout),
+            rounds: rounds_of(plan.n, rounds),
+            issued: 0,
+            edition: edition,
+        },
+    }
+}
+
+// The cause that refuses a later notice, 0 for none.
+fn later_cause(p: Progress, round: u8, edition: u16, layout: u16) -> u8
+    ensures { λ r. ⌜ r ≡ laterCause p round edition layout ⌝ }
+{
+    if other_form(p, Form::New) {
+        return 2;
+    }
+    if is_at(Stage::Started, p) {
+        if p.issued < round {
+            if round <= p.rounds {
+                if layout == 0 {
+                    return 9;
+                }
+                if p.edition < edition {
+                    return 0;
+                }
+                return 16;
+            }
+        }
+    }
+    3
+}
+
+// A later notice, which is kept where it is accepted.
+fn later_notice(p: Progress, later: &mut [u32], round: u8, edition: u16, layout: u16) -> Told
+    requires { ⌜ (p .rounds ≤ mostRounds) × (length (now later) ≡ mostRounds) ⌝ }
+    ensures { λ r. ⌜ (r .cause ≡ laterCause p round edition layout) × (r .cause ≡ 0 → r .progress ≡ after p (Later round edition layout)) × (now (later .exit) ≡ pick (eqb (r .cause) 0) (set (now (later .entry)) (round - 1) (noticeOf edition layout)) (now (later .entry))) ⌝ }
+{
+    let plan = p.plan;
+    let form = p.form;
+    let cause = later_cause(p, round, edition, layout);
+    if cause != 0 {
         return Told {
-            cause: 9,
+            cause: cause,
             progress: p,
         };
     }
+    later[(round as usize) - 1] = quorum::notice_of(edition, layout);
     Told {
-        cause: 3,
-        progress: p,
+        cause: 0,
+        progress: Progress {
+            stage: Stage::Started,
+            plan: plan,
+            faulty: p.faulty,
+            form: form,
+            notice: p.notice,
+            rounds: p.rounds,
+            issued: round,
+            edition: edition,
+        },
     }
 }
 
 // A word in a round that is played, on a link, from a bad sender, and not silence.
-fn is_word(p: Progress, round: u8, from: usize, to: usize, value: u16) -> bool
+fn is_word(p: Progress, round: u8, from: usize, to: usize, edition: u16, layout: u16) -> bool
     requires { ⌜ p .plan .n ≤ mostTerminals ⌝ }
-    ensures { λ r. ⌜ r ≡ isWord p round from to value ⌝ }
+    ensures { λ r. ⌜ r ≡ isWord p round from to edition layout ⌝ }
 {
     let plan = p.plan;
     let rows = plan.rows;
@@ -305,7 +351,10 @@ fn is_word(p: Progress, round: u8, from: usize, to: usize, value: u16) -> bool
     }
     if sets::member(rows[to], from) {
         if sets::member(p.faulty, from) {
-            return value != 0;
+            if edition == 0 {
+                return false;
+            }
+            return layout != 0;
         }
     }
     false
@@ -320,18 +369,30 @@ fn place_of(n: usize, round: u8, from: usize, to: usize) -> usize
 }
 
 // The cause that refuses a word, 0 for none: then it is kept.
-fn message(p: Progress, words: &mut [u16], round: u8, from: usize, to: usize, value: u16) -> u8
+fn message(
+    p: Progress,
+    words: &mut [u32],
+    form: Form,
+    round: u8,
+    from: usize,
+    to: usize,
+    edition: u16,
+    layout: u16,
+) -> u8
     requires { ⌜ (p .plan .n ≤ mostTerminals) × (p .rounds ≤ mostRounds) × (length (now words) ≡ mostWords) ⌝ }
-    ensures { λ r. ⌜ (r ≡ messageCause p (now (words .entry)) round from to value) × (now (words .exit) ≡ pick (eqb r 0) (set (now (words .entry)) (placeOf (p .plan .n) round from to) value) (now (words .entry))) ⌝ }
+    ensures { λ r. ⌜ (r ≡ messageCause p (now (words .entry)) form round from to edition layout) × (now (words .exit) ≡ pick (eqb r 0) (set (now (words .entry)) (placeOf (p .plan .n) round from to) (noticeOf edition layout)) (now (words .entry))) ⌝ }
 {
     let plan = p.plan;
-    if is_at(Stage::Words, p) {
-        if is_word(p, round, from, to, value) {
+    if other_form(p, form) {
+        return 2;
+    }
+    if is_started(p) {
+        if is_word(p, round, from, to, edition, layout) {
             let k = place_of(plan.n, round, from, to);
             if words[k] != 0 {
                 return 11;
             }
-            words[k] = value;
+            words[k] = quorum::notice_of(edition, layout);
             return 0;
         }
         return 10;
@@ -339,10 +400,28 @@ fn message(p: Progress, words: &mut [u16], round: u8, from: usize, to: usize, va
     3
 }
 
-// What a frame does, or the cause that refuses it: then the words stay as they are.
-pub(crate) fn tell(p: Progress, words: &mut [u16], frame: Frame) -> Told
-    requires { ⌜ (p .plan .n ≤ mostTerminals) × (p .rounds ≤ mostRounds) × (length (now words) ≡ mostWords) ⌝ }
-    ensures { λ r. ⌜ (r .cause ≡ causeIn p (now (words .entry)) frame) × (r .cause ≡ 0 → r .progress ≡ after p frame) × (now (words .exit) ≡ pick (eqb (r .cause) 0) (wordsAfter p (now (words .entry)) frame) (now (words .entry))) ⌝ }
+// What is known once a word was said.
+fn spoken(p: Progress) -> Progress
+    ensures { λ r. ⌜ r ≡ spoken p ⌝ }
+{
+    let plan = p.plan;
+    let form = p.form;
+    Progress {
+        stage: Stage::Words,
+        plan: plan,
+        faulty: p.faulty,
+        form: form,
+        notice: p.notice,
+        rounds: p.rounds,
+        issued: p.issued,
+        edition: p.edition,
+    }
+}
+
+// What a frame does, or the cause that refuses it: then both lists stay as they are.
+pub(crate) fn tell(p: Progress, words: &mut [u32], later: &mut [u32], frame: Frame) -> Told
+    requires { ⌜ (p .plan .n ≤ mostTerminals) × (p .rounds ≤ mostRounds) × (length (now words) ≡ mostWords) × (length (now later) ≡ mostRounds) ⌝ }
+    ensures { λ r. ⌜ (r .cause ≡ causeIn p (both (now (words .entry)) (now (later .entry))) frame) × (r .cause ≡ 0 → r .progress ≡ after p frame) × (both (now (words .exit)) (now (later .exit)) ≡ pick (eqb (r .cause) 0) (saidAfter p (both (now (words .entry)) (now (later .entry))) frame) (both (now (words .entry)) (now (later .entry)))) ⌝ }
 {
     match frame {
         Frame::Foreign => Told {
@@ -357,10 +436,20 @@ pub(crate) fn tell(p: Progress, words: &mut [u16], frame: Frame) -> Told
         Frame::Link(from, to) => link(p, from as usize, to as usize),
         Frame::Group(s) => group(p, s),
         Frame::FaultSet(s) => fault_set(p, s),
-        Frame::Start(value, rounds) => start(p, value, rounds),
-        Frame::Message(round, from, to, value) => Told {
-            cause: message(p, words, round, from as usize, to as usize, value),
-            progress: p,
+        Frame::Start(form, edition, layout, rounds) => start(p, form, edition, layout, rounds),
+        Frame::Later(round, edition, layout) => later_notice(p, later, round, edition, layout),
+        Frame::Message(form, round, from, to, edition, layout) => Told {
+            cause: message(
+                p,
+                words,
+                form,
+                round,
+                from as usize,
+                to as usize,
+                edition,
+                layout,
+            ),
+            progress: spoken(p),
         },
     }
 }

@@ -68,16 +68,16 @@ module _ (line : List ℕ) where
   unfolding digitAt
   digit-small i = value-small (getD line i 0)
 
-  -- six bytes hold the digits before i
+  -- eight bytes hold the digits before i
   abbrev pub Held : (i : ℕ) (first : List ℕ) → Type 0
-  Held i first = (length first ≡ 6) × ((k : ℕ) → k < 6 → getD first k 0 ≡ begun i k)
+  Held i first = (length first ≡ 8) × ((k : ℕ) → k < 8 → getD first k 0 ≡ begun i k)
 
   -- one digit more, into its byte from the right
   module _ (first : List ℕ) (i v : ℕ) (held : Held i first) where
     abbrev pub grown : List ℕ
     grown = set first (i / 2) (16 * (getD first (i / 2) 0 % 16) + v)
 
-    module _ (near : i / 2 < 6) (value : v ≡ digitAt line i) where
+    module _ (near : i / 2 < 8) (value : v ≡ digitAt line i) where
       grown-here : getD grown (i / 2) 0 ≡ 16 * (begun i (i / 2) % 16) + v
       grown-here =
           getD-set-same first (i / 2) (16 * (getD first (i / 2) 0 % 16) + v) 0 (omega arith) ∙ ap (λ (b : ℕ). 16 * (b % 16) + v) (held .1 (i / 2) near)
@@ -109,11 +109,11 @@ module _ (line : List ℕ) where
       )
 
   -- past the bytes that are kept
-  pub kept-held : (first : List ℕ) (i : ℕ) → Held i first → 6 ≤ i / 2 → Held (i + 1) first
+  pub kept-held : (first : List ℕ) (i : ℕ) → Held i first → 8 ≤ i / 2 → Held (i + 1) first
   kept-held first i held far = (held .0, λ k h. held .1 k h ∙ begun-stays i k (λ e. omega arith))
 
-  pub start-held : Held 0 (replicate 6 0)
-  start-held = (refl, λ k h. getD-replicate 6 k 0 0 h ∙ sym (begun-not 0 k (omega arith)))
+  pub start-held : Held 0 (replicate 8 0)
+  start-held = (refl, λ k h. getD-replicate 8 k 0 0 h ∙ sym (begun-not 0 k (omega arith)))
 
   digit-none : (i : ℕ) → length line ≤ i → digitAt line i ≡ 0
   unfolding digitAt
@@ -131,5 +131,5 @@ module _ (line : List ℕ) where
       omega arith)
       (below-or-not (2 * k + 1) i)
 
-  pub end-held : (first : List ℕ) (i : ℕ) → Held i first → i ≡ length line → length line % 2 ≡ 0 → (k : ℕ) → k < 6 → getD first k 0 ≡ byteAt line k
+  pub end-held : (first : List ℕ) (i : ℕ) → Held i first → i ≡ length line → length line % 2 ≡ 0 → (k : ℕ) → k < 8 → getD first k 0 ≡ byteAt line k
   end-held first i held e even k h = held .1 k h ∙ begun-end i k e even

@@ -4,7 +4,7 @@ ghost use mathlib.Core.Bool.{true};
 ghost use Prim.Native.Nat.{ℕ, _+_, _<_};
 ghost use lib.ListN.{length, getD};
 ghost use Rattle.lines.specs.Bytes.{byteAt, wellFormed};
-ghost use Rattle.lines.specs.Frames.{pairAt, tripleAt, headOf, linkOf, groupOf, faultSetOf, startOf, messageOf, kindOf, knownFrame, frameOf};
+ghost use Rattle.lines.specs.Frames.{pairAt, tripleAt, headOf, linkOf, groupOf, faultSetOf, startOf, laterOf, messageOf, kindOf, knownFrame, frameOf};
 use digits::Digit;
 
 // What a line says. Foreign is no whole number of hexadecimal bytes; Unknown is a kind that the
@@ -16,8 +16,15 @@ pub enum Frame {
     Link(u8, u8),
     Group(u32),
     FaultSet(u32),
-    Start(u16, Rounds),
-    Message(u8, u8, u8, u16),
+    Start(Form, u16, u16, Rounds),
+    Later(u8, u16, u16),
+    Message(Form, u8, u8, u8, u16, u16),
+}
+
+// Whether a start and words have an edition. In the old form they have none, which counts as edition 1.
+pub enum Form {
+    Old,
+    New,
 }
 
 // The rounds of a start frame: a byte, or none.
@@ -27,7 +34,7 @@ pub enum Rounds {
 }
 
 // No frame has more bytes than this.
-const MOST: usize = 6;
+const MOST: usize = 8;
 
 // A line's first bytes, 0 past its end. It is whole if it is bytes and nothing else.
 struct Bytes {
@@ -38,7 +45,7 @@ struct Bytes {
 // Each digit goes into its byte from the right, so that the first one becomes the high one.
 fn bytes_of(line: &[u8]) -> Bytes
     ensures { λ r. ⌜ r .whole ≡ wellFormed (now (line .entry)) ⌝ }
-    ensures { λ r. ⌜ (r .whole ≡ true → (k : ℕ) → k < 6 → getD (r .first) k 0 ≡ byteAt (now (line .entry)) k) ⌝ }
+    ensures { λ r. ⌜ (r .whole ≡ true → (k : ℕ) → k < 8 → getD (r .first) k 0 ≡ byteAt (now (line .entry)) k) ⌝ }
 {
     let mut first = [0u8; MOST];
     if line.len() < 1 {
@@ -125,15 +132,40 @@ fn fault_set_of(bytes: &[u8]) -> Frame
     Frame::Unknown
 }
 
-// The rounds byte may be left out.
+// The rounds byte may be left out, in both forms.
 fn start_of(bytes: &[u8]) -> Frame
     ensures { λ r. ⌜ r ≡ startOf (now (bytes .entry)) ⌝ }
 {
     if bytes.len() == 4 {
-        return Frame::Start(pair_at(bytes, 1), Rounds::Given(bytes[3]));
+        return Frame::Start(Form::Old, 1, pair_at(bytes, 1), Rounds::Given(bytes[3]));
     }
     if bytes.len() == 3 {
-        return Frame::Start(pair_at(bytes, 1), Rounds::Left);
+        return Frame::Start(Form::Old, 1, pair_at(bytes, 1), Rounds::Left);
+    }
+    if bytes.len() == 6 {
+        return Frame::Start(
+            Form::New,
+            pair_at(bytes, 1),
+            pair_at(bytes, 3),
+            Rounds::Given(bytes[5]),
+        );
+    }
+    if bytes.len() == 5 {
+        return Frame::Start(
+            Form::New,
+            pair_at(bytes, 1),
+            pair_at(bytes, 3),
+            Rounds::Left,
+        );
+    }
+    Frame::Unknown
+}
+
+fn later_of(bytes: &[u8]) -> Frame
+    ensures { λ r. ⌜ r ≡ laterOf (now (bytes .entry)) ⌝ }
+{
+    if bytes.len() == 6 {
+        return Frame::Later(bytes[1], pair_at(bytes, 2), pair_at(bytes, 4));
     }
     Frame::Unknown
 }
@@ -142,7 +174,24 @@ fn message_of(bytes: &[u8]) -> Frame
     ensures { λ r. ⌜ r ≡ messageOf (now (bytes .entry)) ⌝ }
 {
     if bytes.len() == 6 {
-        return Frame::Message(bytes[1], bytes[2], bytes[3], pair_at(bytes, 4));
+        return Frame::Message(
+            Form::Old,
+            bytes[1],
+            bytes[2],
+            bytes[3],
+            1,
+            pair_at(bytes, 4),
+        );
+    }
+    if bytes.len() == 8 {
+        return Frame::Message(
+            Form::New,
+            bytes[1],
+            bytes[2],
+            bytes[3],
+            pair_at(bytes, 4),
+            pair_at(bytes, 6),
+        );
     }
     Frame::Unknown
 }
@@ -167,6 +216,9 @@ fn kind_of(kind: u8, bytes: &[u8]) -> Frame
     }
     if kind == 7 {
         return group_of(bytes);
+    }
+    if kind == 8 {
+        return later_of(bytes);
     }
     Frame::Unknown
 }

@@ -1,4 +1,5 @@
 -- The theorems, in the order in which they are read.
+pub mod Offices
 pub mod Steps
 pub mod Rounds
 pub mod Safety

@@ -1,5 +1,5 @@
--- The drawings A to J of document 01, its remark on f (n - 1 is read, n is refused), and F with groups that fail together (document 02, P10), as rows of
--- one table: a question, and the answer that the documents give. B is judged as a plan record; as a file it is the archive's
+-- The drawings A to J of document 01, its remark on f (n - 1 is read, n is refused), F with groups that fail together (document 02, P10), and a notice that
+-- was overtaken (document 02, P8), as rows of one table: a question, and the answer that the documents give. B is judged as a plan record; as a file it is the archive's
 -- (crates/verdict_output/specs/DrawingB.antt). Assumes nothing.
 use Prim.Native.Nat.{ℕ, _+_, _^_}
 use mathlib.Core.Bool.{Bool, false}
@@ -12,11 +12,12 @@ use Rattle.sets.specs.Sets.{Terminal, Set, mask}
 use Rattle.quorum.specs.declared.BoundKind.the-variants.{Groups}
 use Rattle.quorum.specs.declared.Bound.{Bound}
 use Rattle.quorum.specs.Quorum.{mostTerminals, mostGroups, noGroups, atMost}
+use Rattle.quorum.specs.Notice.{Notice, noticeOf, editionOf, layoutOf}
 use Rattle.terminal.specs.declared.State.{State}
 use Rattle.terminal.specs.declared.State.the-variants.{Waiting, Taken}
 use Rattle.plan.specs.declared.Plan.{Plan}
 use Rattle.closure.specs.Answer.{Answer, answerOf}
-use Rattle.propagation.specs.Run.{silence, site}
+use Rattle.propagation.specs.Run.{silence, oneNotice, officeOf, site}
 
 -- "0>1" of the document: terminal 1 hears terminal 0
 infix 90 _▷_
@@ -47,25 +48,27 @@ setOf (i ∷ s) = 2 ^ i + setOf s
 pub data Question : Type 0 where
   judge : Plan → Question
   stateAfter : ℕ → Plan → Set → ℕ → Question
+  stateLater : ℕ → Plan → Set → List Notice → ℕ → Question
 
 pub data Told : Type 0 where
   pass : Told
   fail : ℕ → ℕ → ℕ → Told
   refusal : ℕ → Told
   waits : Told
-  takes : ℕ → ℕ → Told
+  takes : (round edition layout : ℕ) → Told
 
 unfoldable pub ofAnswer : Answer → Told
 ofAnswer a = pick (eqb (a .number) 0) (pick (eqb (a .failed) 0) pass (fail (a .f) (a .l) (a .r))) (refusal (a .number))
 
 unfoldable pub ofState : State → Told
 ofState Waiting = waits
-ofState (Taken round value) = takes round value
+ofState (Taken round notice) = takes round (editionOf notice) (layoutOf notice)
 
--- the definitions' own answers; the liars of a run are silent, and its layout is 7
+-- the definitions' own answers; the liars of a run are silent, and it starts with layout 7 in edition 1
 unfoldable pub answer : Question → Told
 answer (judge p) = ofAnswer (answerOf p)
-answer (stateAfter rounds p faulty b) = ofState (site p faulty 7 silence rounds b .state)
+answer (stateAfter rounds p faulty b) = ofState (site p faulty (oneNotice (noticeOf 1 7)) silence rounds b .state)
+answer (stateLater rounds p faulty later b) = ofState (site p faulty (officeOf (noticeOf 1 7) later) silence rounds b .state)
 
 pub record Row : Type 0 where
   pub asked : Question
@@ -84,6 +87,14 @@ pairF = drawn 5 (groupsOf (setOf (1 ∷ 2 ∷ []) ∷ setOf (3 ∷ []) ∷ [])) 
 unfoldable pub singlesF : Plan
 singlesF = drawn 5 (groupsOf (setOf (1 ∷ []) ∷ setOf (2 ∷ []) ∷ setOf (3 ∷ []) ∷ [])) linksF
 
+-- a plan of six in which terminal 5 hears of each notice from terminal 1 a round before it hears of it from terminal 4
+unfoldable pub lagging : Plan
+lagging = drawing 6 1 (0 ▷ 1 ∷ 0 ▷ 2 ∷ 0 ▷ 3 ∷ 1 ▷ 4 ∷ 2 ▷ 4 ∷ 3 ▷ 4 ∷ 1 ▷ 5 ∷ 2 ▷ 5 ∷ 4 ▷ 5 ∷ [])
+
+-- later notices in the rounds 1 to 3
+unfoldable pub mindChanged : List Notice
+mindChanged = noticeOf 2 8 ∷ noticeOf 3 7 ∷ noticeOf 4 9 ∷ []
+
 unfoldable pub chain : List Link
 chain = 0 ▷ 1 ∷ 1 ▷ 2 ∷ []
 
@@ -93,7 +104,7 @@ rows =
     ∷ record { asked = judge (drawing 2 0 []); expected = fail (setOf []) (setOf (0 ∷ [])) (setOf (1 ∷ [])) }
     ∷ record { asked = judge (drawing 3 0 chain); expected = pass }
     ∷ record { asked = stateAfter 1 (drawing 3 0 chain) (setOf []) 2; expected = waits }
-    ∷ record { asked = stateAfter 2 (drawing 3 0 chain) (setOf []) 2; expected = takes 2 7 }
+    ∷ record { asked = stateAfter 2 (drawing 3 0 chain) (setOf []) 2; expected = takes 2 1 7 }
     ∷ record { asked = judge (drawing 3 1 chain); expected = fail (setOf []) (setOf (0 ∷ 1 ∷ [])) (setOf (2 ∷ [])) }
     ∷ record {
       asked = judge (drawing 4 1 (0 ▷ 1 ∷ 0 ▷ 2 ∷ 1 ▷ 3 ∷ 2 ▷ 3 ∷ []));
@@ -109,5 +120,10 @@ rows =
     ∷ record { asked = judge pairF; expected = fail (setOf (3 ∷ [])) (setOf (0 ∷ 1 ∷ 2 ∷ [])) (setOf (4 ∷ [])) }
     ∷ record { asked = stateAfter 4 pairF (setOf (3 ∷ [])) 4; expected = waits }
     ∷ record { asked = judge singlesF; expected = pass }
-    ∷ record { asked = stateAfter 2 singlesF (setOf (3 ∷ [])) 4; expected = takes 2 7 }
+    ∷ record { asked = stateAfter 2 singlesF (setOf (3 ∷ [])) 4; expected = takes 2 1 7 }
+    ∷ record { asked = judge lagging; expected = pass }
+    ∷ record { asked = stateAfter 5 lagging (setOf (2 ∷ [])) 5; expected = takes 3 1 7 }
+    ∷ record { asked = stateLater 5 lagging (setOf (2 ∷ [])) mindChanged 4; expected = takes 5 4 9 }
+    ∷ record { asked = stateLater 5 lagging (setOf (2 ∷ [])) mindChanged 5; expected = waits }
+    ∷ record { asked = stateLater 8 lagging (setOf (2 ∷ [])) mindChanged 5; expected = takes 6 4 9 }
     ∷ []

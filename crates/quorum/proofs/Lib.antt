@@ -1,3 +1,4 @@
--- All that the layers above use of `enough` (Laws), and of a start and the place of a word (Words).
+-- All that the layers above use of `enough` (Laws), of notices (Notices), and of a start and the place of a word (Words).
 pub mod Laws
+pub mod Notices
 pub mod Words

@@ -10,10 +10,10 @@ use Rattle.sets.proofs.Bools.{and-l, and-r, not-e}
 use Rattle.quorum.specs.Quorum.{mostTerminals}
 use Rattle.quorum.specs.Words.{mostRounds, mostWords, startSound, placeOf}
 
-pub start-parts : (value rounds : ℕ) → startSound value rounds ≡ true → (1 ≤ value) × (rounds ≤ mostRounds)
+pub start-parts : (layout rounds : ℕ) → startSound layout rounds ≡ true → (1 ≤ layout) × (rounds ≤ mostRounds)
 unfolding startSound
-start-parts value rounds h =
-    let some = eqb-false value 0 (not-e (eqb value 0) (and-l _ _ h)) in (omega (arith, some), leb-true rounds mostRounds (and-r _ _ h))
+start-parts layout rounds h =
+    let some = eqb-false layout 0 (not-e (eqb layout 0) (and-l _ _ h)) in (omega (arith, some), leb-true rounds mostRounds (and-r _ _ h))
 
 -- each product that the place is a sum of
 pub square-le : (n : ℕ) → n ≤ mostTerminals → n * n ≤ 400

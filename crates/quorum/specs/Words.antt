@@ -1,4 +1,4 @@
--- What a run is given beside its plan: a value, a number of rounds, and the liars' words as a list (document 01, "The run"). Assumes nothing.
+-- What a run is given beside its plan: a layout, a number of rounds, and the liars' words as a list (document 01, "The run"). Assumes nothing.
 use Prim.Native.Nat.{ℕ, _+_, _-_, _*_}
 use mathlib.Core.Bool.{Bool, not}
 use lib.Dec.{eqb, leb}
@@ -14,9 +14,9 @@ mostRounds = 40
 abbrev pub mostWords : ℕ
 mostWords = mostRounds * (mostTerminals * mostTerminals)
 
--- a value that is not silence, and at most 40 rounds
-unfoldable pub startSound : (value rounds : ℕ) → Bool
-startSound value rounds = not (eqb value 0) and leb rounds mostRounds
+-- a layout that is not 0, and at most 40 rounds
+unfoldable pub startSound : (layout rounds : ℕ) → Bool
+startSound layout rounds = not (eqb layout 0) and leb rounds mostRounds
 
 -- the place of a word: round 1 first, then by sender, then by hearer
 unfoldable pub placeOf : (n round : ℕ) (sender hearer : Terminal) → ℕ

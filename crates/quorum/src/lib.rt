@@ -1,11 +1,12 @@
-// The numbers of a plan and of a run, what a terminal may hear, and who may be bad together: causes 4, 5,
-// 9 and 17 have one test each.
+// The numbers of a plan and of a run, what a terminal may hear, who may be bad together, and what a notice
+// is: causes 4, 5, 9, 16 and 17 have one test each.
 ghost use mathlib.Core.Path.{_≡_};
 ghost use lib.Dec.{eqb, ltb};
 ghost use lib.ListN.{getD};
 ghost use Rattle.sets.specs.Tests.{_implies_, pick};
 ghost use Rattle.sets.specs.Sets.{mem, all, some};
 ghost use Rattle.quorum.specs.Quorum.{kindInRange, inRange, listed, others, listedSound, groupsSound, enough};
+ghost use Rattle.quorum.specs.Notice.{noticeOf, editionOf, layoutOf, silent, rising};
 ghost use Rattle.quorum.specs.Words.{startSound};
 
 // Most(f): a good terminal hears at most f bad ones. Groups(count): the bad ones are some of one group.
@@ -141,11 +142,62 @@ pub fn enough(bound: Bound, who: u32) -> bool
     }
 }
 
-// A run can start so: a value that is not silence, and 0 to 40 rounds.
-pub fn start_sound(value: u16, rounds: u8) -> bool
-    ensures { λ r. ⌜ r ≡ startSound value rounds ⌝ }
+// A notice is one number: edition times 65,536 and the layout.
+pub fn notice_of(edition: u16, layout: u16) -> u32
+    ensures { λ r. ⌜ r ≡ noticeOf edition layout ⌝ }
 {
-    if value == 0 {
+    (edition as u32) * 65536 + (layout as u32)
+}
+
+pub fn edition_of(notice: u32) -> u16
+    ensures { λ r. ⌜ r ≡ editionOf notice ⌝ }
+{
+    (notice / 65536) as u16
+}
+
+pub fn layout_of(notice: u32) -> u16
+    ensures { λ r. ⌜ r ≡ layoutOf notice ⌝ }
+{
+    (notice % 65536) as u16
+}
+
+// A zero in either half is silence.
+pub fn silent(notice: u32) -> bool
+    ensures { λ r. ⌜ r ≡ silent notice ⌝ }
+{
+    if edition_of(notice) == 0 {
+        return true;
+    }
+    layout_of(notice) == 0
+}
+
+// The editions that are issued later rise, each above the last before it. Silence issues nothing.
+pub fn rising(first: u16, later: &[u32]) -> bool
+    ensures { λ r. ⌜ r ≡ rising first (now (later .entry)) ⌝ }
+{
+    let mut last = first;
+    let mut i = 0;
+    while i < later.len() {
+        let notice = later[i];
+        if silent(notice) {
+            i += 1;
+        } else {
+            let edition = edition_of(notice);
+            if edition <= last {
+                return false;
+            }
+            last = edition;
+            i += 1;
+        }
+    }
+    true
+}
+
+// A run can start so: a layout that is not 0, and 0 to 40 rounds.
+pub fn start_sound(layout: u16, rounds: u8) -> bool
+    ensures { λ r. ⌜ r ≡ startSound layout rounds ⌝ }
+{
+    if layout == 0 {
         return false;
     }
     rounds <= 40

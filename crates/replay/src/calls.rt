@@ -1,10 +1,10 @@
-// The calls on values: the step, the two checks of sets, the run.
+// The calls on values: the step, a later notice of the office, the two checks of sets, the run.
 use super::said;
 use super::say;
 use partition::WitnessCheck;
 use terminal::Record;
 
-fn step_on(body: &[u8], before: Record, said_to: &[u16], line: &mut [u8]) -> usize {
+fn step_on(body: &[u8], before: Record, said_to: &[u32], line: &mut [u8]) -> usize {
     let placed = said::bound(body, 2);
     let bound = placed.bound;
     let at = placed.next;
@@ -29,12 +29,23 @@ pub(crate) fn step(count: usize, body: &[u8], line: &mut [u8]) -> usize {
     let told = said::bound(body, 2);
     let placed = said::record(body, told.next + 5);
     let before = placed.record;
-    let mut words = [0u16; 64];
-    said::pairs(body, placed.next, &mut words);
+    let mut words = [0u32; 64];
+    said::quads(body, placed.next, &mut words);
     if count <= 64 {
         return step_on(body, before, &words[..count], line);
     }
     0
+}
+
+// A record and a notice.
+pub(crate) fn issue(body: &[u8], line: &mut [u8]) -> usize {
+    let placed = said::record(body, 0);
+    let before = placed.record;
+    let issued = terminal::issue(before, said::quad(body, placed.next));
+    let outcome = issued.outcome;
+    let after = issued.after;
+    let one = say::byte(line, 0, terminal::number(outcome));
+    say::record(line, one, after)
 }
 
 fn witness_number(c: WitnessCheck) -> u8 {
@@ -86,7 +97,7 @@ fn records(line: &mut [u8], at: usize, n: usize, list: [Record; 20]) -> usize {
     k
 }
 
-fn site_on(body: &[u8], words: &[u16], line: &mut [u8]) -> usize {
+fn site_on(body: &[u8], later: &[u32], words: &[u32], line: &mut [u8]) -> usize {
     let placed = said::plan(body);
     let p = placed.plan;
     let n = p.n;
@@ -94,8 +105,9 @@ fn site_on(body: &[u8], words: &[u16], line: &mut [u8]) -> usize {
     let ran = simulation::run_site(
         p,
         said::quad(body, at),
-        said::pair(body, at + 4),
-        said::byte(body, at + 6),
+        said::quad(body, at + 4),
+        later,
+        said::byte(body, at + 8),
         words,
     );
     let outcome = ran.outcome;
@@ -104,13 +116,17 @@ fn site_on(body: &[u8], words: &[u16], line: &mut [u8]) -> usize {
     records(line, one, n, list)
 }
 
-// The count of words, then a plan, the fault set, the value, the rounds, and the words.
+// The count of words, then a plan, the fault set, the start's notice, the rounds, how many later notices,
+// these, and the words.
 pub(crate) fn site(count: usize, body: &[u8], line: &mut [u8]) -> usize {
     let placed = said::plan(body);
-    let mut words = [0u16; 12000];
-    said::pairs(body, placed.next + 7, &mut words);
+    let issues = said::issues(body, placed.next + 9);
+    let mut later = [0u32; 64];
+    said::quads(body, placed.next + 11, &mut later);
+    let mut words = [0u32; 12000];
+    said::quads(body, placed.next + 11 + 4 * issues, &mut words);
     if count <= 12000 {
-        return site_on(body, &words[..count], line);
+        return site_on(body, &later[..issues], &words[..count], line);
     }
     0
 }

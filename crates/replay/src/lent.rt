@@ -21,9 +21,17 @@ fn lent_of(outcome: Outcome, records: [Record; 5]) -> Lent {
 }
 
 // The one function that lends records; it is proved by hand, so it does nothing else.
-fn lend(p: Plan, faulty: u32, value: u16, rounds: u8, words: &[u16], records: [Record; 5]) -> Lent {
+fn lend(
+    p: Plan,
+    faulty: u32,
+    first: u32,
+    later: &[u32],
+    rounds: u8,
+    words: &[u32],
+    records: [Record; 5],
+) -> Lent {
     let mut places = records;
-    let outcome = simulation::run(p, faulty, value, rounds, words, &mut places);
+    let outcome = simulation::run(p, faulty, first, later, rounds, words, &mut places);
     lent_of(outcome, places)
 }
 
@@ -47,7 +55,8 @@ fn places(body: &[u8]) -> Before
     ensures { λ r. ⌜ r .next ≤ 9000 ⌝ }
 {
     let placed = said::plan(body);
-    let first = said::record(body, placed.next + 7);
+    let issues = said::issues(body, placed.next + 9);
+    let first = said::record(body, placed.next + 11 + 4 * issues);
     let second = said::record(body, first.next);
     let third = said::record(body, second.next);
     let fourth = said::record(body, third.next);
@@ -63,15 +72,22 @@ fn places(body: &[u8]) -> Before
     }
 }
 
-fn lent_on(body: &[u8], before: [Record; 5], words: &[u16], line: &mut [u8]) -> usize {
+fn lent_on(
+    body: &[u8],
+    before: [Record; 5],
+    later: &[u32],
+    words: &[u32],
+    line: &mut [u8],
+) -> usize {
     let placed = said::plan(body);
     let p = placed.plan;
     let at = placed.next;
     let ran = lend(
         p,
         said::quad(body, at),
-        said::pair(body, at + 4),
-        said::byte(body, at + 6),
+        said::quad(body, at + 4),
+        later,
+        said::byte(body, at + 8),
         words,
         before,
     );
@@ -81,15 +97,19 @@ fn lent_on(body: &[u8], before: [Record; 5], words: &[u16], line: &mut [u8]) -> 
     records(line, one, after)
 }
 
-// The count of words, then a plan, the fault set, the value, the rounds, what the five places hold
-// before, and the words.
+// The count of words, then a plan, the fault set, the start's notice, the rounds, how many later notices,
+// these, what the five places hold before, and the words.
 pub(crate) fn run(count: usize, body: &[u8], line: &mut [u8]) -> usize {
+    let placed = said::plan(body);
+    let issues = said::issues(body, placed.next + 9);
+    let mut later = [0u32; 64];
+    said::quads(body, placed.next + 11, &mut later);
     let held = places(body);
     let before = held.records;
-    let mut words = [0u16; 12000];
-    said::pairs(body, held.next, &mut words);
+    let mut words = [0u32; 12000];
+    said::quads(body, held.next, &mut words);
     if count <= 12000 {
-        return lent_on(body, before, &words[..count], line);
+        return lent_on(body, before, &later[..issues], &words[..count], line);
     }
     0
 }

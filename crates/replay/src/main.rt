@@ -18,6 +18,7 @@ fn answer(kind: u8, size: usize, body: &[u8], line: &mut [u8]) -> usize {
         b'f' => texts::read(size, body, line),
         b'p' => texts::write(size, body, line),
         b's' => calls::step(size, body, line),
+        b'i' => calls::issue(body, line),
         b'w' => calls::witness(body, line),
         b'c' => calls::fault_set(body, line),
         b'n' => calls::site(size, body, line),
@@ -54,9 +55,9 @@ fn next() -> bool {
     if io::read_full(0, &mut head) < 5 {
         return false;
     }
-    let mut body = [0u8; 32768];
+    let mut body = [0u8; 60000];
     let n = said::pair(&head, 3) as usize;
-    if n <= 32768 {
+    if n <= 60000 {
         return play_body(head[0], said::pair(&head, 1) as usize, &mut body[..n]);
     }
     false

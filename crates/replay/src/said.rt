@@ -91,14 +91,14 @@ pub(crate) fn plan(body: &[u8]) -> PlacedPlan
     }
 }
 
-// 0 for waiting, else the round and the value.
+// 0 for waiting, else the round and the notice.
 fn state(body: &[u8], i: usize) -> State
     requires { ⌜ i ≤ 20000 ⌝ }
 {
     if byte(body, i) == 0 {
         return State::Waiting;
     }
-    State::Taken(byte(body, i + 1), pair(body, i + 2))
+    State::Taken(byte(body, i + 1), quad(body, i + 2))
 }
 
 // How many places are listed: at most so many.
@@ -112,19 +112,20 @@ fn listed(body: &[u8], i: usize, most: usize) -> usize
     most
 }
 
-// The count, how many places are listed, and these; 0 at the others.
+// The edition, the count, how many places are listed, and these; 0 at the others.
 fn note(body: &[u8], i: usize) -> Note
     requires { ⌜ i ≤ 60000 ⌝ }
 {
     let mut values = [0u16; 40];
-    let places = listed(body, i + 1, 40);
+    let places = listed(body, i + 3, 40);
     let mut k = 0;
     while k < places {
-        values[k] = pair(body, i + 2 + 2 * k);
+        values[k] = pair(body, i + 4 + 2 * k);
         k += 1;
     }
     Note {
-        count: byte(body, i),
+        edition: pair(body, i),
+        count: byte(body, i + 2),
         values: values,
     }
 }
@@ -135,51 +136,64 @@ pub(crate) struct Placed {
     pub next: usize,
 }
 
-// The state in four bytes, the round, then 20 notes: at most 1,645 bytes.
+// The state in six bytes, the round, then 20 notes: at most 1,687 bytes.
 pub(crate) fn record(body: &[u8], i: usize) -> Placed
     requires { ⌜ i ≤ 20000 ⌝ }
-    ensures { λ r. ⌜ r .next ≤ i + 1645 ⌝ }
+    ensures { λ r. ⌜ r .next ≤ i + 1687 ⌝ }
 {
     let nothing = Note {
+        edition: 0,
         count: 0,
         values: [0u16; 40],
     };
     let mut notes = [nothing; 20];
-    let mut at = i + 5;
+    let mut at = i + 7;
     let mut j = 0;
     while j < 20 {
         notes[j] = note(body, at);
-        at = at + 2 + 2 * listed(body, at + 1, 40);
+        at = at + 4 + 2 * listed(body, at + 3, 40);
         j += 1;
     }
     let state = state(body, i);
     Placed {
         record: Record {
             state: state,
-            round: byte(body, i + 4),
+            round: byte(body, i + 6),
             notes: notes,
         },
         next: at,
     }
 }
 
-// Pair j of those from place i on; 0 past so many.
-fn pair_from(body: &[u8], i: usize, j: usize) -> u16
-    requires { ⌜ i ≤ 30000 ⌝ }
+// How many later notices are given: at most 64.
+pub(crate) fn issues(body: &[u8], i: usize) -> usize
+    requires { ⌜ i ≤ 60000 ⌝ }
+    ensures { λ r. ⌜ r ≤ 64 ⌝ }
 {
-    if j < 16000 {
-        return pair(body, i + 2 * j);
+    let count = pair(body, i) as usize;
+    if count <= 64 {
+        return count;
+    }
+    64
+}
+
+// Notice j of those from place i on; 0 past so many.
+fn quad_from(body: &[u8], i: usize, j: usize) -> u32
+    requires { ⌜ i ≤ 17000 ⌝ }
+{
+    if j < 12000 {
+        return quad(body, i + 4 * j);
     }
     0
 }
 
-// The pairs from place i on, into the lent list.
-pub(crate) fn pairs(body: &[u8], i: usize, list: &mut [u16])
-    requires { ⌜ i ≤ 30000 ⌝ }
+// The notices from place i on, into the lent list.
+pub(crate) fn quads(body: &[u8], i: usize, list: &mut [u32])
+    requires { ⌜ i ≤ 17000 ⌝ }
 {
     let mut j = 0;
     while j < list.len() {
-        list[j] = pair_from(body, i, j);
+        list[j] = quad_from(body, i, j);
         j += 1;
     }
 }

@@ -46,11 +46,14 @@ pub(crate) fn bytes(line: &mut [u8], at: usize, list: &[u8]) -> usize {
 
 fn state(line: &mut [u8], at: usize, s: State) -> usize {
     match s {
-        State::Waiting => quad(line, at, 0),
-        State::Taken(round, value) => {
+        State::Waiting => {
+            let two = pair(line, at, 0);
+            quad(line, two, 0)
+        }
+        State::Taken(round, notice) => {
             let one = byte(line, at, 1);
             let two = byte(line, one, round);
-            pair(line, two, value)
+            quad(line, two, notice)
         }
     }
 }
@@ -78,12 +81,13 @@ fn listed(values: [u16; 40]) -> usize
     last
 }
 
-// The count, how many places are listed, and these: all up to the last that is not 0.
+// The edition, the count, how many places are listed, and these: all up to the last that is not 0.
 fn note(line: &mut [u8], at: usize, heard: Note) -> usize {
     let values = heard.values;
     let places = listed(values);
-    let one = byte(line, at, heard.count);
-    let mut k = byte(line, one, places as u8);
+    let one = pair(line, at, heard.edition);
+    let two = byte(line, one, heard.count);
+    let mut k = byte(line, two, places as u8);
     let mut i = 0;
     while i < places {
         k = pair(line, k, values[i]);

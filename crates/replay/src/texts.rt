@@ -1,8 +1,10 @@
 // The calls that have a text: a file in, or a plan out. A lent list holds a mark at each place before
 // the call, so that a place that was not to be touched shows.
+ghost use Prim.Native.Nat.{_≤_};
 use super::said;
 use super::say;
 use frames::FileRead;
+use lines::Form;
 use plan::Plan;
 
 // The number, the text's length, and all of the lent list.
@@ -71,15 +73,15 @@ pub(crate) fn write(room: usize, body: &[u8], line: &mut [u8]) -> usize {
 }
 
 // 1 for a place that holds the mark.
-fn mark(word: u16) -> u32 {
-    if word == 23130 {
+fn mark(notice: u32) -> u32 {
+    if notice == 1515870810 {
         return 1;
     }
     0
 }
 
 // How many places of the list hold the mark.
-fn marks(words: &[u16]) -> u32 {
+fn marks(words: &[u32]) -> u32 {
     let mut count = 0u32;
     let mut i = 0;
     while i < words.len() {
@@ -89,19 +91,19 @@ fn marks(words: &[u16]) -> u32 {
     count
 }
 
-// A place that holds a word, and the word; nothing for silence and for the mark.
-fn word(line: &mut [u8], at: usize, place: usize, w: u16) -> usize {
+// A place that holds a notice, and the notice; nothing for silence and for the mark.
+fn word(line: &mut [u8], at: usize, place: usize, w: u32) -> usize {
     if w == 0 {
         return at;
     }
-    if w == 23130 {
+    if w == 1515870810 {
         return at;
     }
     let one = say::size(line, at, place);
-    say::pair(line, one, w)
+    say::quad(line, one, w)
 }
 
-fn words_in(line: &mut [u8], at: usize, words: &[u16]) -> usize {
+fn words_in(line: &mut [u8], at: usize, words: &[u32]) -> usize {
     let mut k = at;
     let mut i = 0;
     while i < words.len() {
@@ -134,13 +136,23 @@ fn plan_of(line: &mut [u8], r: FileRead) -> usize {
     rows(line, five, list)
 }
 
-// What was read, beside the words.
+// 0 for the old form, 1 for the new one.
+fn form(of: Form) -> u8 {
+    match of {
+        Form::Old => 0,
+        Form::New => 1,
+    }
+}
+
+// What was read, beside the two lists.
 fn file(line: &mut [u8], r: FileRead) -> usize {
     let progress = r.progress;
+    let of = progress.form;
     let one = plan_of(line, r);
     let two = say::quad(line, one, progress.faulty);
-    let three = say::pair(line, two, progress.value);
-    say::byte(line, three, progress.rounds)
+    let three = say::byte(line, two, form(of));
+    let four = say::quad(line, three, progress.notice);
+    say::byte(line, four, progress.rounds)
 }
 
 // What the archive's reader answers: the deaf set too.
@@ -150,18 +162,44 @@ pub(crate) fn open(text: &[u8], line: &mut [u8]) -> usize {
     say::quad(line, one, r.deaf)
 }
 
-fn read_into(text: &[u8], words: &mut [u16], line: &mut [u8]) -> usize {
-    let r = frames::read_run(text, words);
-    let one = file(line, r);
-    let two = say::quad(line, one, marks(words));
-    words_in(line, two, words)
+// How many places of a list hold the mark, and the notices in it.
+fn list_in(line: &mut [u8], at: usize, list: &[u32]) -> usize {
+    let one = say::quad(line, at, marks(list));
+    words_in(line, one, list)
 }
 
-// The room of the lent list of words, and the file.
-pub(crate) fn read(room: usize, text: &[u8], line: &mut [u8]) -> usize {
-    let mut words = [23130u16; 16001];
+fn read_into(text: &[u8], words: &mut [u32], later: &mut [u32], line: &mut [u8]) -> usize {
+    let r = frames::read_run(text, words, later);
+    let one = file(line, r);
+    let two = list_in(line, one, words);
+    list_in(line, two, later)
+}
+
+// The room of the list of later notices; at most 41.
+fn room_later(body: &[u8]) -> usize
+    ensures { λ r. ⌜ r ≤ 41 ⌝ }
+{
+    let room = said::byte(body, 0) as usize;
+    if room <= 41 {
+        return room;
+    }
+    41
+}
+
+// The room of the lent list of words; a byte with that of the list of later notices, and the file.
+pub(crate) fn read(room: usize, body: &[u8], line: &mut [u8]) -> usize {
+    let mut words = [1515870810u32; 16001];
+    let mut later = [1515870810u32; 41];
+    if body.len() < 1 {
+        return 0;
+    }
     if room <= 16001 {
-        return read_into(text, &mut words[..room], line);
+        return read_into(
+            &body[1..],
+            &mut words[..room],
+            &mut later[..room_later(body)],
+            line,
+        );
     }
     0
 }

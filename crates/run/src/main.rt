@@ -3,7 +3,7 @@
 fn main() {
     let mut file = [0u8; 24577];
     let n = io::read_full(0, &mut file);
-    let mut out = [0u8; 272];
+    let mut out = [0u8; 344];
     let written = run_output::run_text(&file[..n], &mut out);
     io::write_all(1, &out[..written.len]);
 }

@@ -1,27 +1,27 @@
--- A list of 260 bytes has room for every run: 13 for each of 20 terminals. Assumes nothing.
+-- A list of 340 bytes has room for every run: 17 for each of 20 terminals. Assumes nothing.
 use Prim.Native.Nat.{ℕ, _*_, _≤_}
 use mathlib.Core.Path.{_≡_}
 use mathlib.Core.List.{List}
 use native.Mathlib.Omega.{arith}
 use lib.ListN.{length}
 use Rattle.frames.specs.declared.Progress.{Progress}
-use Rattle.frames.specs.Reading.{runReading, fileRead}
+use Rattle.frames.specs.Reading.{Lists, runReading, fileRead}
 use Rattle.output.specs.OnFile.{answerOn}
 use Rattle.output.proofs.Laws.{on-length, whole-text}
 use Rattle.run_output.specs.Site.{ranText, ranOn, runText}
 use Rattle.run_output.proofs.SiteLaws.{site-length, run-playable}
 
-ran-length : (p : Progress) (words : List ℕ) → length (ranText p words) ≡ 13 * p .plan .n
+ran-length : (p : Progress) (said : Lists) → length (ranText p said) ≤ 17 * p .plan .n
 unfolding ranText
-ran-length p words = site-length (p .plan .n) (p .faulty) _
+ran-length p said = site-length (p .form) (p .plan .n) (p .faulty) _
 
-pub run-short : (file : List ℕ) → length (runText file) ≤ 260
+pub run-short : (file : List ℕ) → length (runText file) ≤ 340
 unfolding runText ranOn
 run-short file =
-    on-length (fileRead (runReading file)) _ 260 (omega arith)
-    (λ z. omega (arith, run-playable file z .twenty, ran-length (runReading file .progress) (runReading file .words)))
+    on-length (fileRead (runReading file)) _ 340 (omega arith)
+    (λ z. omega (arith, run-playable file z .twenty, ran-length (runReading file .progress) (runReading file .said)))
 
-pub run-fits : (file : List ℕ) (room : ℕ) → 260 ≤ room
+pub run-fits : (file : List ℕ) (room : ℕ) → 340 ≤ room
     → answerOn (fileRead (runReading file)) (runText file) room
     ≡ record { number = runReading file .number; line = runReading file .line; len = length (runText file) }
 run-fits file room h = whole-text (fileRead (runReading file)) (runText file) room (omega (arith, run-short file))

@@ -3,3 +3,4 @@
 mod SiteLaws
 pub mod Laws
 pub mod RoundsLeftOut
+pub mod OldRuns

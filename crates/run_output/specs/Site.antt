@@ -8,52 +8,67 @@ use Rattle.sets.specs.Tests.{pick}
 use Rattle.sets.specs.Sets.{Terminal, Set, mem}
 use Rattle.terminal.specs.declared.State.{State}
 use Rattle.terminal.specs.declared.State.the-variants.{Waiting, Taken}
-use Rattle.propagation.specs.Run.{Script, site, scriptOf}
+use Rattle.propagation.specs.Run.{Script, Office, officeOf, site, scriptOf}
 use Rattle.faults.specs.Check.{faultCauseOf}
+use Rattle.quorum.specs.Notice.{Notice, editionOf, layoutOf}
 use Rattle.quorum.specs.Words.{startSound}
+use Rattle.simulation.specs.Answer.{officeSound}
 use Rattle.text.specs.Digits.{hexByte, hexPair}
+use Rattle.lines.specs.declared.Form.{Form}
+use Rattle.lines.specs.declared.Form.the-variants.{Old, New}
 use Rattle.frames.specs.declared.Progress.{Progress}
 use Rattle.frames.specs.declared.FileRead.{FileRead}
-use Rattle.frames.specs.Reading.{runReading, fileRead}
+use Rattle.frames.specs.Reading.{Lists, runReading, fileRead}
 use Rattle.output.specs.OnFile.{textOn}
 
--- 82: a terminal's number, its state (00 waiting, 01 taken, 02 bad), the round in which it took, and the value
-unfoldable pub terminalLine : (b : Terminal) (state round value : ℕ) → List ℕ
-terminalLine b state round value = hexByte 130 ++ hexByte b ++ hexByte state ++ hexByte round ++ hexPair value ++ (10 ∷ [])
+-- a notice as it is printed: in the old form its layout alone, in the new one its edition and its layout (document 02, P8)
+unfoldable pub noticeText : Form → Notice → List ℕ
+noticeText Old notice = hexPair (layoutOf notice)
+noticeText New notice = hexPair (editionOf notice) ++ hexPair (layoutOf notice)
 
--- a good terminal's line: round and value are zero where it has not taken
-unfoldable pub goodLine : (b : Terminal) → State → List ℕ
-goodLine b Waiting = terminalLine b 0 0 0
-goodLine b (Taken round value) = terminalLine b 1 round value
+-- 82: a terminal's number, its state (00 waiting, 01 taken, 02 bad), the round in which it took, and the notice
+unfoldable pub terminalLine : Form → (b : Terminal) (state round : ℕ) → Notice → List ℕ
+terminalLine form b state round notice = hexByte 130 ++ hexByte b ++ hexByte state ++ hexByte round ++ noticeText form notice ++ (10 ∷ [])
 
--- a bad terminal has neither round nor value
-unfoldable pub stateLine : (b : Terminal) (bad : Bool) → State → List ℕ
-stateLine b bad state = pick bad (terminalLine b 2 0 0) (goodLine b state)
+-- a good terminal's line: round and notice are zero where it has not taken
+unfoldable pub goodLine : Form → (b : Terminal) → State → List ℕ
+goodLine form b Waiting = terminalLine form b 0 0 0
+goodLine form b (Taken round notice) = terminalLine form b 1 round notice
+
+-- a bad terminal has neither round nor notice
+unfoldable pub stateLine : Form → (b : Terminal) (bad : Bool) → State → List ℕ
+stateLine form b bad state = pick bad (terminalLine form b 2 0 0) (goodLine form b state)
 
 -- the lines of the terminals 0 to k - 1 in ascending order, where `faulty` are the bad ones and `state b` is terminal b's after the last round
-unfoldable pub siteLines : (k : ℕ) (faulty : Set) (state : Terminal → State) → List ℕ
-siteLines zero faulty state = []
-siteLines (suc k) faulty state = siteLines k faulty state ++ stateLine k (mem k faulty) (state k)
+unfoldable pub siteLines : Form → (k : ℕ) (faulty : Set) (state : Terminal → State) → List ℕ
+siteLines form zero faulty state = []
+siteLines form (suc k) faulty state = siteLines form k faulty state ++ stateLine form k (mem k faulty) (state k)
 
 -- the liars' script of an accepted run file: a word for each round, sender and hearer, the first of the 16,000 places that the reader fills
 unfoldable pub scriptRead : Progress → (words : List ℕ) → Script
 scriptRead p words = scriptOf (p .plan .n) (take (p .rounds * (p .plan .n * p .plan .n)) words)
 
+-- its office: the start, and what is issued in the rounds that are played
+unfoldable pub officeRead : Progress → (later : List ℕ) → Office
+officeRead p later = officeOf (p .notice) (take (p .rounds) later)
+
 -- the lines of the run by the rules
-unfoldable pub ranText : Progress → (words : List ℕ) → List ℕ
-ranText p words =
-    siteLines (p .plan .n) (p .faulty) (λ b. site (p .plan) (p .faulty) (p .value) (scriptRead p words) (p .rounds) b .state)
+unfoldable pub ranText : Progress → Lists → List ℕ
+ranText p said =
+    siteLines (p .form) (p .plan .n) (p .faulty)
+    (λ b. site (p .plan) (p .faulty) (officeRead p (said .later)) (scriptRead p (said .words)) (p .rounds) b .state)
 
 -- what `run` prints: the terminals after the run that the file asks for
-unfoldable pub ranOn : (read : FileRead) (words : List ℕ) → List ℕ
-ranOn read words = textOn read (ranText (read .progress) words)
+unfoldable pub ranOn : (read : FileRead) → Lists → List ℕ
+ranOn read said = textOn read (ranText (read .progress) said)
 
 unfoldable pub runText : (file : List ℕ) → List ℕ
-runText file = ranOn (fileRead (runReading file)) (runReading file .words)
+runText file = ranOn (fileRead (runReading file)) (runReading file .said)
 
 -- what the run needs of what was read, so that it is not refused; every accepted file has it (proofs/SiteLaws.antt)
-pub record Playable (p : Progress) : Type 0 where
+pub record Playable (p : Progress) (later : List ℕ) : Type 0 where
   pub twenty : p .plan .n ≤ 20
   pub forty : p .rounds ≤ 40
   pub bad-set : faultCauseOf (p .plan) (p .faulty) ≡ 0
-  pub in-range : startSound (p .value) (p .rounds) ≡ true
+  pub in-range : startSound (layoutOf (p .notice)) (p .rounds) ≡ true
+  pub rises : officeSound (p .notice) (take (p .rounds) later) ≡ true

@@ -69,6 +69,11 @@ unfolding _or_
 or-no true b p q = clash refl p
 or-no false b p q = q
 
+pub or-none : (a b : Bool) → a ≡ false → a or b ≡ b
+unfolding _or_
+or-none true b p = clash refl p
+or-none false b p = refl
+
 -- the code's own
 pub or-code : (a b : Bool) → (a || b) ≡ (a or b)
 unfolding _or_

@@ -19,7 +19,7 @@ use Rattle.plan.specs.declared.Plan.{Plan}
 use Rattle.plan.specs.Plan as plan
 use Rattle.simulation.specs.declared.Turn.{Turn}
 use Rattle.simulation.specs.declared.Made.{Made}
-use Rattle.simulation.specs.Turns.{recordOf, nextTurn, madeOf, Played, playOne, playedAfter, firstTurn, Ready}
+use Rattle.simulation.specs.Turns.{carried, recordOf, nextTurn, madeOf, Played, playOne, playedAfter, firstTurn, Ready}
 
 pub played-add : (words : List ℕ) (s : Played) (a b : ℕ) → playedAfter words s (a + b) ≡ playedAfter words (playedAfter words s a) b
 unfolding playedAfter
@@ -41,13 +41,14 @@ played-length words s zero = refl
 played-length words s (suc k) = length-set (playedAfter words s k .records) _ _ ∙ played-length words s k
 
 -- `here r b` is the record of terminal b after r rounds
-module _ (p : Plan) (faulty value : ℕ) (words : List ℕ) (here : ℕ → ℕ → Record) where
+module _ (p : Plan) (faulty first : ℕ) (later words : List ℕ) (here : ℕ → ℕ → Record) where
   -- ---- what holds before the turn of terminal b in round r, where ys are the records that were lent
 
   pub record At (ys : List Record) (r b : ℕ) (s : Played) : Type 0 where
     pub plan-is : s .turn .plan ≡ p
     pub faulty-is : s .turn .faulty ≡ faulty
-    pub value-is : s .turn .value ≡ value
+    pub first-is : s .turn .first ≡ first
+    pub later-is : s .turn .later ≡ carried later
     pub round-is : s .turn .round ≡ r
     pub at-is : s .turn .at ≡ b
     pub spoken-is : (q : ℕ) → r ≡ suc q → (j : ℕ) → j < p .n → getD (s .turn .spoken) j 0 ≡ saysIn r (here q j .state)
@@ -59,28 +60,28 @@ module _ (p : Plan) (faulty value : ℕ) (words : List ℕ) (here : ℕ → ℕ 
     pub beyond : (i : ℕ) → p .n ≤ i → getD (s .records) i nothingHeard ≡ getD ys i nothingHeard
 
 -- where each turn makes the record that is said
-module _ (p : Plan) (two : 2 ≤ p .n) (twenty : p .n ≤ 20) (faulty value : ℕ) (words : List ℕ) (here : ℕ → ℕ → Record)
-    (makes : (ys : List Record) (r b : ℕ) (s : Played) → At p faulty value words here ys r b s → r ≤ 40 → b < p .n
+module _ (p : Plan) (two : 2 ≤ p .n) (twenty : p .n ≤ 20) (faulty first : ℕ) (later words : List ℕ) (here : ℕ → ℕ → Record)
+    (makes : (ys : List Record) (r b : ℕ) (s : Played) → At p faulty first later words here ys r b s → r ≤ 40 → b < p .n
     → recordOf (s .turn) words (getD (s .records) (s .turn .at) nothingHeard) ≡ here r b) where
   -- the records and what is collected, one turn on
-  next-records : (ys : List Record) (r b : ℕ) (s : Played) → At p faulty value words here ys r b s → r ≤ 40 → b < p .n → p .n ≤ length ys
+  next-records : (ys : List Record) (r b : ℕ) (s : Played) → At p faulty first later words here ys r b s → r ≤ 40 → b < p .n → p .n ≤ length ys
       → playOne words s .records ≡ set (s .records) b (here r b)
   unfolding playOne madeOf
   next-records ys r b s a h k l = λ i. set (s .records) (a .at-is i) (makes ys r b s a h k i)
 
-  next-turn-is : (ys : List Record) (r b : ℕ) (s : Played) → At p faulty value words here ys r b s → r ≤ 40 → b < p .n
+  next-turn-is : (ys : List Record) (r b : ℕ) (s : Played) → At p faulty first later words here ys r b s → r ≤ 40 → b < p .n
       → playOne words s .turn ≡ nextTurn (s .turn) (saysIn (r + 1) (here r b .state))
   unfolding playOne madeOf
   next-turn-is ys r b s a h k = λ i. nextTurn (s .turn) (saysIn (a .round-is i + 1) (makes ys r b s a h k i .state))
 
-  set-done : (ys : List Record) (r b : ℕ) (s : Played) → At p faulty value words here ys r b s → b < p .n → p .n ≤ length ys
+  set-done : (ys : List Record) (r b : ℕ) (s : Played) → At p faulty first later words here ys r b s → b < p .n → p .n ≤ length ys
       → (i : ℕ) → i < b + 1 → getD (set (s .records) b (here r b)) i nothingHeard ≡ here r i
   set-done ys r b s a k l =
       below-more (λ (i : ℕ). getD (set (s .records) b (here r b)) i nothingHeard ≡ here r i) b
       (λ i h. getD-set-other (s .records) b i (here r b) nothingHeard (λ q. omega arith) ∙ a .done i h)
       (getD-set-same (s .records) b (here r b) nothingHeard (let e = a .records-room in omega arith))
 
-  set-next : (ys : List Record) (r b : ℕ) (s : Played) → At p faulty value words here ys r b s → b < p .n
+  set-next : (ys : List Record) (r b : ℕ) (s : Played) → At p faulty first later words here ys r b s → b < p .n
       → (j : ℕ) → j < b + 1 → getD (set (s .turn .next) b (saysIn (r + 1) (here r b .state))) j 0 ≡ saysIn (r + 1) (here r j .state)
   set-next ys r b s a k =
       below-more (λ (j : ℕ). getD (set (s .turn .next) b (saysIn (r + 1) (here r b .state))) j 0 ≡ saysIn (r + 1) (here r j .state)) b
@@ -88,7 +89,7 @@ module _ (p : Plan) (two : 2 ≤ p .n) (twenty : p .n ≤ 20) (faulty value : �
       (getD-set-same (s .turn .next) b (saysIn (r + 1) (here r b .state)) 0 (let e = a .next-room in omega arith))
 
   -- a turn within a round
-  turn-inside : (ys : List Record) (r b : ℕ) (s : Played) → At p faulty value words here ys r b s → r ≤ 40 → b + 1 < p .n → p .n ≤ length ys → At p faulty value words here ys r (b + 1) (playOne words s)
+  turn-inside : (ys : List Record) (r b : ℕ) (s : Played) → At p faulty first later words here ys r b s → r ≤ 40 → b + 1 < p .n → p .n ≤ length ys → At p faulty first later words here ys r (b + 1) (playOne words s)
   unfolding nextTurn
   turn-inside ys r b s a h k l =
       let bk : b < p .n = omega arith in
@@ -97,7 +98,8 @@ module _ (p : Plan) (two : 2 ≤ p .n) (twenty : p .n ≤ 20) (faulty value : �
       let tn : playOne words s .turn ≡ record {
         plan = s .turn .plan;
         faulty = s .turn .faulty;
-        value = s .turn .value;
+        first = s .turn .first;
+        later = s .turn .later;
         round = s .turn .round;
         at = s .turn .at + 1;
         spoken = s .turn .spoken;
@@ -109,7 +111,8 @@ module _ (p : Plan) (two : 2 ≤ p .n) (twenty : p .n ≤ 20) (faulty value : �
       record {
         plan-is = ap (λ (t : Turn). t .plan) tn ∙ a .plan-is;
         faulty-is = ap (λ (t : Turn). t .faulty) tn ∙ a .faulty-is;
-        value-is = ap (λ (t : Turn). t .value) tn ∙ a .value-is;
+        first-is = ap (λ (t : Turn). t .first) tn ∙ a .first-is;
+        later-is = ap (λ (t : Turn). t .later) tn ∙ a .later-is;
         round-is = ap (λ (t : Turn). t .round) tn ∙ a .round-is;
         at-is = ap (λ (t : Turn). t .at) tn ∙ ap (λ (x : ℕ). x + 1) (a .at-is);
         spoken-is = λ q e j lj. ap (λ (t : Turn). getD (t .spoken) j 0) tn ∙ a .spoken-is q e j lj;
@@ -123,7 +126,7 @@ module _ (p : Plan) (two : 2 ≤ p .n) (twenty : p .n ≤ 20) (faulty value : �
       }
 
   -- the last turn of a round
-  turn-last : (ys : List Record) (r b : ℕ) (s : Played) → At p faulty value words here ys r b s → r ≤ 40 → b + 1 ≡ p .n → p .n ≤ length ys → At p faulty value words here ys (r + 1) 0 (playOne words s)
+  turn-last : (ys : List Record) (r b : ℕ) (s : Played) → At p faulty first later words here ys r b s → r ≤ 40 → b + 1 ≡ p .n → p .n ≤ length ys → At p faulty first later words here ys (r + 1) 0 (playOne words s)
   unfolding nextTurn
   turn-last ys r b s a h k l =
       let bk : b < p .n = omega arith in
@@ -132,7 +135,8 @@ module _ (p : Plan) (two : 2 ≤ p .n) (twenty : p .n ≤ 20) (faulty value : �
       let tn : playOne words s .turn ≡ record {
         plan = s .turn .plan;
         faulty = s .turn .faulty;
-        value = s .turn .value;
+        first = s .turn .first;
+        later = s .turn .later;
         round = s .turn .round + 1;
         at = 0;
         spoken = set (s .turn .next) (s .turn .at) w;
@@ -144,7 +148,8 @@ module _ (p : Plan) (two : 2 ≤ p .n) (twenty : p .n ≤ 20) (faulty value : �
       record {
         plan-is = ap (λ (t : Turn). t .plan) tn ∙ a .plan-is;
         faulty-is = ap (λ (t : Turn). t .faulty) tn ∙ a .faulty-is;
-        value-is = ap (λ (t : Turn). t .value) tn ∙ a .value-is;
+        first-is = ap (λ (t : Turn). t .first) tn ∙ a .first-is;
+        later-is = ap (λ (t : Turn). t .later) tn ∙ a .later-is;
         round-is = ap (λ (t : Turn). t .round) tn ∙ ap (λ (x : ℕ). x + 1) (a .round-is);
         at-is = ap (λ (t : Turn). t .at) tn;
         spoken-is = λ q e j lj.
@@ -162,25 +167,26 @@ module _ (p : Plan) (two : 2 ≤ p .n) (twenty : p .n ≤ 20) (faulty value : �
 
   -- ---- whole rounds
 
-  in-round : (ys : List Record) (r : ℕ) (s : Played) → At p faulty value words here ys r 0 s → r ≤ 40 → p .n ≤ length ys → (b : ℕ) → b < p .n → At p faulty value words here ys r b (playedAfter words s b)
+  in-round : (ys : List Record) (r : ℕ) (s : Played) → At p faulty first later words here ys r 0 s → r ≤ 40 → p .n ≤ length ys → (b : ℕ) → b < p .n → At p faulty first later words here ys r b (playedAfter words s b)
   unfolding playedAfter
   in-round ys r s a h l zero k = a
   in-round ys r s a h l (suc b) k =
-      subst (λ (x : ℕ). At p faulty value words here ys r x (playOne words (playedAfter words s b))) (add-one b)
+      subst (λ (x : ℕ). At p faulty first later words here ys r x (playOne words (playedAfter words s b))) (add-one b)
       (turn-inside ys r b (playedAfter words s b) (in-round ys r s a h l b (omega arith)) h (omega arith) l)
 
-  round-on : (ys : List Record) (r : ℕ) (s : Played) → At p faulty value words here ys r 0 s → r ≤ 40 → p .n ≤ length ys → At p faulty value words here ys (r + 1) 0 (playedAfter words s (p .n))
+  round-on : (ys : List Record) (r : ℕ) (s : Played) → At p faulty first later words here ys r 0 s → r ≤ 40 → p .n ≤ length ys → At p faulty first later words here ys (r + 1) 0 (playedAfter words s (p .n))
   unfolding playedAfter
   round-on ys r s a h l =
       let e : suc (p .n - 1) ≡ p .n = omega arith in
-      subst (λ (x : ℕ). At p faulty value words here ys (r + 1) 0 (playedAfter words s x)) e
+      subst (λ (x : ℕ). At p faulty first later words here ys (r + 1) 0 (playedAfter words s x)) e
       (turn-last ys r (p .n - 1) (playedAfter words s (p .n - 1)) (in-round ys r s a h l (p .n - 1) (omega arith)) h (omega arith) l)
 
-  first-at : (ys : List Record) → At p faulty value words here ys 0 0 (record { turn = firstTurn p faulty value; records = ys })
+  first-at : (ys : List Record) → At p faulty first later words here ys 0 0 (record { turn = firstTurn p faulty first later; records = ys })
   first-at ys = record {
     plan-is = refl;
     faulty-is = refl;
-    value-is = refl;
+    first-is = refl;
+    later-is = refl;
     round-is = refl;
     at-is = refl;
     spoken-is = λ q e j l. absurd (omega arith);
@@ -193,31 +199,31 @@ module _ (p : Plan) (two : 2 ≤ p .n) (twenty : p .n ≤ 20) (faulty value : �
   }
 
   pub rounds-on : (ys : List Record) → p .n ≤ length ys → (r : ℕ) → r ≤ 41
-      → At p faulty value words here ys r 0 (playedAfter words (record { turn = firstTurn p faulty value; records = ys }) (r * p .n))
+      → At p faulty first later words here ys r 0 (playedAfter words (record { turn = firstTurn p faulty first later; records = ys }) (r * p .n))
   unfolding playedAfter
   rounds-on ys l zero h =
-      subst (λ (x : ℕ). At p faulty value words here ys 0 0 (playedAfter words (record { turn = firstTurn p faulty value; records = ys }) x)) (sym (zero-mul (p .n))) (first-at ys)
+      subst (λ (x : ℕ). At p faulty first later words here ys 0 0 (playedAfter words (record { turn = firstTurn p faulty first later; records = ys }) x)) (sym (zero-mul (p .n))) (first-at ys)
   rounds-on ys l (suc r) h =
-      subst (λ (x : ℕ). At p faulty value words here ys x 0 (playedAfter words (record { turn = firstTurn p faulty value; records = ys }) (suc r * p .n))) (add-one r)
-      (subst (At p faulty value words here ys (r + 1) 0) (sym (played-add words (record { turn = firstTurn p faulty value; records = ys }) (r * p .n) (p .n)) ∙ ap (playedAfter words (record { turn = firstTurn p faulty value; records = ys })) (sym (suc-mul r (p .n))))
-      (round-on ys r (playedAfter words (record { turn = firstTurn p faulty value; records = ys }) (r * p .n)) (rounds-on ys l r (omega arith)) (omega arith) l))
+      subst (λ (x : ℕ). At p faulty first later words here ys x 0 (playedAfter words (record { turn = firstTurn p faulty first later; records = ys }) (suc r * p .n))) (add-one r)
+      (subst (At p faulty first later words here ys (r + 1) 0) (sym (played-add words (record { turn = firstTurn p faulty first later; records = ys }) (r * p .n) (p .n)) ∙ ap (playedAfter words (record { turn = firstTurn p faulty first later; records = ys })) (sym (suc-mul r (p .n))))
+      (round-on ys r (playedAfter words (record { turn = firstTurn p faulty first later; records = ys }) (r * p .n)) (rounds-on ys l r (omega arith)) (omega arith) l))
 
   -- ---- the records that the run leaves
 
   pub walk-at : (ys : List Record) → p .n ≤ length ys → (r : ℕ) → r ≤ 40 → (b : ℕ) → b < p .n
-      → getD (playedAfter words (record { turn = firstTurn p faulty value; records = ys }) (suc r * p .n) .records) b nothingHeard ≡ here r b
+      → getD (playedAfter words (record { turn = firstTurn p faulty first later; records = ys }) (suc r * p .n) .records) b nothingHeard ≡ here r b
   walk-at ys l r h b k = rounds-on ys l (suc r) (omega arith) .waiting r refl b (omega arith) k
 
   -- ---- every turn on the way is one that can be played
 
   turn-at : (ys : List Record) → p .n ≤ length ys → (q b : ℕ) → q ≤ 40 → b < p .n
-      → At p faulty value words here ys q b (playedAfter words (record { turn = firstTurn p faulty value; records = ys }) (q * p .n + b))
+      → At p faulty first later words here ys q b (playedAfter words (record { turn = firstTurn p faulty first later; records = ys }) (q * p .n + b))
   turn-at ys l q b h k =
-      subst (At p faulty value words here ys q b) (sym (played-add words (record { turn = firstTurn p faulty value; records = ys }) (q * p .n) b))
-      (in-round ys q (playedAfter words (record { turn = firstTurn p faulty value; records = ys }) (q * p .n)) (rounds-on ys l q (omega arith)) h l b k)
+      subst (At p faulty first later words here ys q b) (sym (played-add words (record { turn = firstTurn p faulty first later; records = ys }) (q * p .n) b))
+      (in-round ys q (playedAfter words (record { turn = firstTurn p faulty first later; records = ys }) (q * p .n)) (rounds-on ys l q (omega arith)) h l b k)
 
   on-the-way : (ys : List Record) → p .n ≤ length ys → (r : ℕ) → r ≤ 40 → (k : ℕ) → k < suc r * p .n
-      → (k / p .n ≤ 40) × (k % p .n < p .n) × At p faulty value words here ys (k / p .n) (k % p .n) (playedAfter words (record { turn = firstTurn p faulty value; records = ys }) k)
+      → (k / p .n ≤ 40) × (k % p .n < p .n) × At p faulty first later words here ys (k / p .n) (k % p .n) (playedAfter words (record { turn = firstTurn p faulty first later; records = ys }) k)
   on-the-way ys l r h k m =
       let pos : 0 < p .n = omega arith in
       let q : k / p .n < suc r = div-lt-iff-lt-mul pos .1 m in
@@ -225,12 +231,12 @@ module _ (p : Plan) (two : 2 ≤ p .n) (twenty : p .n ≤ 20) (faulty value : �
       let s : k / p .n * p .n + k % p .n ≡ k = div-add-mod' k (p .n) in (
         omega arith,
         b,
-        subst (λ (x : ℕ). At p faulty value words here ys (k / p .n) (k % p .n) (playedAfter words (record { turn = firstTurn p faulty value; records = ys }) x)) s
+        subst (λ (x : ℕ). At p faulty first later words here ys (k / p .n) (k % p .n) (playedAfter words (record { turn = firstTurn p faulty first later; records = ys }) x)) s
             (turn-at ys l (k / p .n) (k % p .n) (omega arith) b),
       )
 
   pub placed-on : (ys : List Record) → p .n ≤ length ys → (r : ℕ) → r ≤ 40 → (k : ℕ) → k < suc r * p .n → (t : Turn)
-      → t ≡ playedAfter words (record { turn = firstTurn p faulty value; records = ys }) k .turn → Ready t (length ys)
+      → t ≡ playedAfter words (record { turn = firstTurn p faulty first later; records = ys }) k .turn → Ready t (length ys)
   placed-on ys l r h k m t e =
       let w = on-the-way ys l r h k m in
       let a = w .2 in

@@ -3,10 +3,10 @@ mod playing;
 
 ghost use mathlib.Core.Path.{_≡_};
 ghost use Prim.Native.Nat.{_≤_};
-ghost use lib.ListN.{length};
+ghost use lib.ListN.{length, getD};
 ghost use Rattle.faults.specs.Check.{faultNumberOf};
-ghost use Rattle.simulation.specs.Turns.{firstTurn, CanPlay, leftAfter};
-ghost use Rattle.simulation.specs.Answer.{numberOf, listsFit, runCause, turnsOf, recordsAfter, arrayAfter, Demand3Holds};
+ghost use Rattle.simulation.specs.Turns.{carried, firstTurn, CanPlay, leftAfter};
+ghost use Rattle.simulation.specs.Answer.{numberOf, officeSound, listsFit, givenCause, runCause, turnsOf, recordsAfter, arrayAfter, Demand3Holds};
 use faults::FaultSetCheck;
 use plan::Plan;
 use terminal::Record;
@@ -19,6 +19,7 @@ pub enum Outcome {
     WrongMember,
     OverBound,
     WrongStart,
+    WrongEdition,
     WrongLength,
 }
 
@@ -34,20 +35,23 @@ pub fn number(o: Outcome) -> u8
         Outcome::WrongMember => 7,
         Outcome::OverBound => 8,
         Outcome::WrongStart => 9,
+        Outcome::WrongEdition => 16,
         Outcome::WrongLength => 12,
     }
 }
 
-// Whose turn it is: terminal `at` in a round. `spoken` is what each good terminal says to all this
-// round, fixed before its first step; `next` collects what they say in the next.
+// Whose turn it is: terminal `at` in a round. The office issues `first` at the start and later[r - 1]
+// in round r, if that is no silence. `spoken` is what each good terminal says to all this round, fixed
+// before its first step; `next` collects what they say in the next.
 pub(crate) struct Turn {
     pub plan: Plan,
     pub faulty: u32,
-    pub value: u16,
+    pub first: u32,
+    pub later: [u32; 40],
     pub round: u8,
     pub at: usize,
-    pub spoken: [u16; 20],
-    pub next: [u16; 20],
+    pub spoken: [u32; 20],
+    pub next: [u32; 20],
 }
 
 pub(crate) struct Made {
@@ -69,17 +73,41 @@ pub(crate) struct Begun {
     pub turns: usize,
 }
 
-fn first_turn(p: Plan, faulty: u32, value: u16) -> Turn
-    ensures { λ r. ⌜ r ≡ firstTurn p faulty value ⌝ }
+// An entry of the list; silence past its end.
+fn entry(later: &[u32], i: usize) -> u32
+    ensures { λ r. ⌜ r ≡ getD (now (later .entry)) i 0 ⌝ }
+{
+    if i < later.len() {
+        return later[i];
+    }
+    0
+}
+
+// What the office issues in each of forty rounds.
+fn carried(later: &[u32]) -> [u32; 40]
+    ensures { λ r. ⌜ r ≡ carried (now (later .entry)) ⌝ }
+{
+    let mut notices = [0u32; 40];
+    let mut i = 0;
+    while i < 40 {
+        notices[i] = entry(later, i);
+        i += 1;
+    }
+    notices
+}
+
+fn first_turn(p: Plan, faulty: u32, first: u32, later: &[u32]) -> Turn
+    ensures { λ r. ⌜ r ≡ firstTurn p faulty first (now (later .entry)) ⌝ }
 {
     Turn {
         plan: p,
         faulty: faulty,
-        value: value,
+        first: first,
+        later: carried(later),
         round: 0,
         at: 0,
-        spoken: [0u16; 20],
-        next: [0u16; 20],
+        spoken: [0u32; 20],
+        next: [0u32; 20],
     }
 }
 
@@ -96,41 +124,89 @@ fn refused(c: FaultSetCheck) -> Outcome
     }
 }
 
-// The lists fit: a word for each round, sender and hearer, and a record for each terminal.
-fn lists_fit(p: Plan, rounds: u8, words: usize, places: usize) -> bool
+// The office's first notice has an edition, and those of the later ones rise above it.
+fn office_sound(first: u32, later: &[u32]) -> bool
+    ensures { λ r. ⌜ r ≡ officeSound first (now (later .entry)) ⌝ }
+{
+    let edition = quorum::edition_of(first);
+    if edition == 0 {
+        return false;
+    }
+    quorum::rising(edition, later)
+}
+
+// The lists fit: a word for each round, sender and hearer, a later notice for each round, and a record
+// for each terminal.
+fn lists_fit(p: Plan, rounds: u8, words: usize, issues: usize, places: usize) -> bool
     requires { ⌜ (p .n ≤ 20) × (rounds ≤ 40) ⌝ }
-    ensures { λ r. ⌜ r ≡ listsFit p rounds words places ⌝ }
+    ensures { λ r. ⌜ r ≡ listsFit p rounds words issues places ⌝ }
 {
     let n = p.n;
     if words == (rounds as usize) * (n * n) {
-        return places == n;
+        if issues == rounds as usize {
+            return places == n;
+        }
     }
     false
 }
 
-// The first cause that applies.
-fn first_cause(p: Plan, faulty: u32, value: u16, rounds: u8, words: usize, places: usize) -> Outcome
-    ensures { λ r. ⌜ numberOf r ≡ runCause p faulty value rounds words places ⌝ }
+// The first cause that applies where plan and fault set are sound.
+fn given_cause(
+    p: Plan,
+    first: u32,
+    later: &[u32],
+    rounds: u8,
+    words: usize,
+    places: usize,
+) -> Outcome
+    requires { ⌜ p .n ≤ 20 ⌝ }
+    ensures { λ r. ⌜ numberOf r ≡ givenCause p first (now (later .entry)) rounds words places ⌝ }
 {
-    let fault = refused(faults::check_fault_set(p, faulty));
-    if let Outcome::Played = fault {
-        if quorum::start_sound(value, rounds) {
-            if lists_fit(p, rounds, words, places) {
+    if quorum::start_sound(quorum::layout_of(first), rounds) {
+        if office_sound(first, later) {
+            if lists_fit(p, rounds, words, later.len(), places) {
                 return Outcome::Played;
             }
             return Outcome::WrongLength;
         }
-        return Outcome::WrongStart;
+        return Outcome::WrongEdition;
+    }
+    Outcome::WrongStart
+}
+
+// The first cause that applies.
+fn first_cause(
+    p: Plan,
+    faulty: u32,
+    first: u32,
+    later: &[u32],
+    rounds: u8,
+    words: usize,
+    places: usize,
+) -> Outcome
+    ensures { λ r. ⌜ numberOf r ≡ runCause p faulty first (now (later .entry)) rounds words places ⌝ }
+{
+    let fault = refused(faults::check_fault_set(p, faulty));
+    if let Outcome::Played = fault {
+        return given_cause(p, first, later, rounds, words, places);
     }
     fault
 }
 
 // Judges a run, before a record is touched.
-fn begin(p: Plan, faulty: u32, value: u16, rounds: u8, words: usize, places: usize) -> Begun
-    ensures { λ r. ⌜ (numberOf (r .outcome) ≡ runCause p faulty value rounds words places) × (r .turn ≡ firstTurn p faulty value) × (r .turns ≡ turnsOf p faulty value rounds words places) ⌝ }
+fn begin(
+    p: Plan,
+    faulty: u32,
+    first: u32,
+    later: &[u32],
+    rounds: u8,
+    words: usize,
+    places: usize,
+) -> Begun
+    ensures { λ r. ⌜ (numberOf (r .outcome) ≡ runCause p faulty first (now (later .entry)) rounds words places) × (r .turn ≡ firstTurn p faulty first (now (later .entry))) × (r .turns ≡ turnsOf p faulty first (now (later .entry)) rounds words places) ⌝ }
 {
-    let outcome = first_cause(p, faulty, value, rounds, words, places);
-    let turn = first_turn(p, faulty, value);
+    let outcome = first_cause(p, faulty, first, later, rounds, words, places);
+    let turn = first_turn(p, faulty, first, later);
     if let Outcome::Played = outcome {
         return Begun {
             outcome: Outcome::Played,
@@ -146,7 +222,7 @@ fn begin(p: Plan, faulty: u32, value: u16, rounds: u8, words: usize, places: usi
 }
 
 // Plays some turns, one record a turn, in place.
-fn play_turns(t: Turn, turns: usize, words: &[u16], records: &mut [Record])
+fn play_turns(t: Turn, turns: usize, words: &[u32], records: &mut [Record])
     requires { ⌜ CanPlay (now words) t (now records) turns ⌝ }
     ensures { λ _. ⌜ now (records .exit) ≡ leftAfter (now (words .entry)) t (now (records .entry)) turns ⌝ }
 {
@@ -161,7 +237,7 @@ fn play_turns(t: Turn, turns: usize, words: &[u16], records: &mut [Record])
 }
 
 // The same on an array by value: whoever has the records in an array calls this, and needs no walk.
-fn play_array(t: Turn, turns: usize, words: &[u16], records: [Record; 20]) -> [Record; 20]
+fn play_array(t: Turn, turns: usize, words: &[u32], records: [Record; 20]) -> [Record; 20]
     requires { ⌜ CanPlay (now words) t records turns ⌝ }
     ensures { λ r. ⌜ r ≡ leftAfter (now (words .entry)) t records turns ⌝ }
 {
@@ -170,13 +246,14 @@ fn play_array(t: Turn, turns: usize, words: &[u16], records: [Record; 20]) -> [R
     s
 }
 
-// The run by value.
-pub fn run_site(p: Plan, faulty: u32, value: u16, rounds: u8, words: &[u16]) -> Ran
-    ensures { λ r. ⌜ numberOf (r .outcome) ≡ runCause p faulty value rounds (length (now (words .entry))) (p .n) ⌝ }
-    ensures { λ r. ⌜ r .records ≡ arrayAfter p faulty value rounds (now (words .entry)) ⌝ }
-    ensures { λ r. ⌜ (numberOf (r .outcome) ≡ 0 → Demand3Holds p faulty value rounds (now (words .entry)) (r .records)) ⌝ }
+// The run by value. later[r - 1] is what the office issues in round r; a zero in either half of it is
+// silence.
+pub fn run_site(p: Plan, faulty: u32, first: u32, later: &[u32], rounds: u8, words: &[u32]) -> Ran
+    ensures { λ r. ⌜ numberOf (r .outcome) ≡ runCause p faulty first (now (later .entry)) rounds (length (now (words .entry))) (p .n) ⌝ }
+    ensures { λ r. ⌜ r .records ≡ arrayAfter p faulty first (now (later .entry)) rounds (now (words .entry)) ⌝ }
+    ensures { λ r. ⌜ (numberOf (r .outcome) ≡ 0 → Demand3Holds p faulty first (now (later .entry)) rounds (now (words .entry)) (r .records)) ⌝ }
 {
-    let b = begin(p, faulty, value, rounds, words.len(), p.n);
+    let b = begin(p, faulty, first, later, rounds, words.len(), p.n);
     let outcome = b.outcome;
     Ran {
         outcome: outcome,
@@ -188,16 +265,17 @@ pub fn run_site(p: Plan, faulty: u32, value: u16, rounds: u8, words: &[u16]) -> 
 pub fn run(
     p: Plan,
     faulty: u32,
-    value: u16,
+    first: u32,
+    later: &[u32],
     rounds: u8,
-    words: &[u16],
+    words: &[u32],
     records: &mut [Record],
 ) -> Outcome
-    ensures { λ r. ⌜ numberOf r ≡ runCause p faulty value rounds (length (now (words .entry))) (length (now (records .entry))) ⌝ }
-    ensures { λ r. ⌜ now (records .exit) ≡ recordsAfter p faulty value rounds (now (words .entry)) (now (records .entry)) ⌝ }
-    ensures { λ r. ⌜ (numberOf r ≡ 0 → Demand3Holds p faulty value rounds (now (words .entry)) (now (records .exit))) ⌝ }
+    ensures { λ r. ⌜ numberOf r ≡ runCause p faulty first (now (later .entry)) rounds (length (now (words .entry))) (length (now (records .entry))) ⌝ }
+    ensures { λ r. ⌜ now (records .exit) ≡ recordsAfter p faulty first (now (later .entry)) rounds (now (words .entry)) (now (records .entry)) ⌝ }
+    ensures { λ r. ⌜ (numberOf r ≡ 0 → Demand3Holds p faulty first (now (later .entry)) rounds (now (words .entry)) (now (records .exit))) ⌝ }
 {
-    let b = begin(p, faulty, value, rounds, words.len(), records.len());
+    let b = begin(p, faulty, first, later, rounds, words.len(), records.len());
     play_turns(b.turn, b.turns, words, records);
     b.outcome
 }

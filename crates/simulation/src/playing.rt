@@ -4,7 +4,7 @@ ghost use Prim.Native.Nat.{_+_, _<_, _≤_};
 ghost use Rattle.propagation.specs.Run.{startRecord, scriptOf};
 ghost use Rattle.terminal.specs.Rule.{saysIn};
 ghost use Rattle.terminal.specs.Shown.{shown};
-ghost use Rattle.simulation.specs.Turns.{heardIn, recordOf, nextTurn, madeOf};
+ghost use Rattle.simulation.specs.Turns.{heardIn, issuedIn, recordOf, nextTurn, madeOf};
 ghost use Rattle.sets.specs.Tables.{table};
 use super::Made;
 use super::Turn;
@@ -12,7 +12,7 @@ use terminal::Record;
 use terminal::State;
 
 // The word of a round, a sender and a hearer; 0 past the list's end.
-fn word(words: &[u16], n: usize, round: u8, sender: usize, hearer: usize) -> u16
+fn word(words: &[u32], n: usize, round: u8, sender: usize, hearer: usize) -> u32
     requires { ⌜ (n ≤ 20) × (1 ≤ round) × (round ≤ 40) × (sender < 20) × (hearer < n) ⌝ }
     ensures { λ r. ⌜ r ≡ scriptOf n (now (words .entry)) round sender hearer ⌝ }
 {
@@ -23,7 +23,7 @@ fn word(words: &[u16], n: usize, round: u8, sender: usize, hearer: usize) -> u16
     0
 }
 
-fn heard_from(t: Turn, words: &[u16], j: usize) -> u16
+fn heard_from(t: Turn, words: &[u32], j: usize) -> u32
     requires { ⌜ (t .plan .n ≤ 20) × (t .at < t .plan .n) × (1 ≤ t .round) × (t .round ≤ 40) × (j < 20) ⌝ }
     ensures { λ r. ⌜ r ≡ heardIn t (now (words .entry)) j ⌝ }
 {
@@ -41,11 +41,11 @@ fn heard_from(t: Turn, words: &[u16], j: usize) -> u16
 }
 
 // All that the terminal hears this round.
-fn heard(t: Turn, words: &[u16]) -> [u16; 20]
+fn heard(t: Turn, words: &[u32]) -> [u32; 20]
     requires { ⌜ (t .plan .n ≤ 20) × (t .at < t .plan .n) × (1 ≤ t .round) × (t .round ≤ 40) ⌝ }
     ensures { λ r. ⌜ r ≡ table 20 (heardIn t (now (words .entry))) ⌝ }
 {
-    let mut said = [0u16; 20];
+    let mut said = [0u32; 20];
     let mut j = 0;
     while j < 20 {
         said[j] = heard_from(t, words, j);
@@ -55,17 +55,35 @@ fn heard(t: Turn, words: &[u16]) -> [u16; 20]
 }
 
 fn start_record(t: Turn) -> Record
-    ensures { λ r. ⌜ r ≡ shown (startRecord (t .plan) (t .value) (t .at)) ⌝ }
+    ensures { λ r. ⌜ r ≡ shown (startRecord (t .plan) (t .first) (t .at)) ⌝ }
 {
     let plan = t.plan;
     if t.at == plan.source {
-        return terminal::source_start(t.value);
+        return terminal::source_start(t.first);
     }
     terminal::start()
 }
 
+// What the office issues this round is written into the source's record after its step, as on its board.
+fn issued(t: Turn, stepped: Record) -> Record
+    requires { ⌜ (1 ≤ t .round) × (t .round ≤ 40) ⌝ }
+    ensures { λ r. ⌜ r ≡ issuedIn t stepped ⌝ }
+{
+    let plan = t.plan;
+    let later = t.later;
+    if t.at == plan.source {
+        let notice = later[(t.round - 1) as usize];
+        if quorum::silent(notice) {
+            return stepped;
+        }
+        let taken = terminal::issue(stepped, notice);
+        return taken.after;
+    }
+    stepped
+}
+
 // The record after the turn. A bad terminal is not played.
-fn record_of(t: Turn, words: &[u16], before: Record) -> Record
+fn record_of(t: Turn, words: &[u32], before: Record) -> Record
     requires { ⌜ (t .plan .n ≤ 20) × (t .at < t .plan .n) × (t .round ≤ 40) ⌝ }
     ensures { λ r. ⌜ r ≡ recordOf t (now (words .entry)) before ⌝ }
 {
@@ -82,39 +100,41 @@ fn record_of(t: Turn, words: &[u16], before: Record) -> Record
     }
     let said = heard(t, words);
     let stepped = terminal::step(n, plan.source, bound, at, rows[at], before, &said[..n]);
-    stepped.after
+    issued(t, stepped.after)
 }
 
-// What a terminal says in a round: its value in the round after it took.
-fn says_in(round: u8, state: State) -> u16
+// What a terminal says in a round: its notice in the round after it took.
+fn says_in(round: u8, state: State) -> u32
     requires { ⌜ round ≤ 41 ⌝ }
     ensures { λ r. ⌜ r ≡ saysIn round state ⌝ }
 {
     match state {
         State::Waiting => 0,
-        State::Taken(at, value) => {
+        State::Taken(at, notice) => {
             if (at as u16) + 1 == round as u16 {
-                return value;
+                return notice;
             }
             0
         }
     }
 }
 
-fn next_turn(t: Turn, word: u16) -> Turn
+fn next_turn(t: Turn, word: u32) -> Turn
     requires { ⌜ (t .plan .n ≤ 20) × (t .at < t .plan .n) × (t .round ≤ 40) ⌝ }
     ensures { λ r. ⌜ r ≡ nextTurn t word ⌝ }
 {
     let plan = t.plan;
     let at = t.at;
     let spoken = t.spoken;
+    let later = t.later;
     let mut next = t.next;
     next[at] = word;
     if at + 1 < plan.n {
         return Turn {
             plan: plan,
             faulty: t.faulty,
-            value: t.value,
+            first: t.first,
+            later: later,
             round: t.round,
             at: at + 1,
             spoken: spoken,
@@ -124,16 +144,17 @@ fn next_turn(t: Turn, word: u16) -> Turn
     Turn {
         plan: plan,
         faulty: t.faulty,
-        value: t.value,
+        first: t.first,
+        later: later,
         round: t.round + 1,
         at: 0,
         spoken: next,
-        next: [0u16; 20],
+        next: [0u32; 20],
     }
 }
 
 // One turn, by value.
-pub(crate) fn play(t: Turn, words: &[u16], before: Record) -> Made
+pub(crate) fn play(t: Turn, words: &[u32], before: Record) -> Made
     requires { ⌜ (t .plan .n ≤ 20) × (t .at < t .plan .n) × (t .round ≤ 40) ⌝ }
     ensures { λ r. ⌜ r ≡ madeOf t (now (words .entry)) before ⌝ }
 {

@@ -1,5 +1,5 @@
 -- The laws of the rule (specs/Rule.antt) that the layers above use in place of its text. They speak of a record's round and state, and of its notes
--- only through `holds`: which values it has from which neighbour. Assumes nothing.
+-- only through `holds`, which notices it has from which neighbour, and through the edition that is noted of each. Assumes nothing.
 use Prim.Native.Nat.{ℕ, zero, suc, _+_, _≤_, _<_}
 use mathlib.Core.Path.{_≡_, refl, sym, ap, _∙_, subst}
 use mathlib.Core.Logic.{_⊎_, inl, inr, ⊎-elim}
@@ -9,237 +9,297 @@ use native.Mathlib.Omega.{arith}
 use lib.Dec.{eqb, ltb, leb}
 use borrow.Author.Tests.{lt-ltb, le-leb, eq-eqb, ne-eqb}
 use lib.ListN.{length, getD, replicate, length-replicate}
-use Rattle.sets.specs.Tests.{_and_, _implies_}
+use Rattle.sets.specs.Tests.{_and_, _implies_, pick}
 use Rattle.sets.specs.Sets.{mem}
 use Rattle.quorum.specs.declared.Bound.{Bound}
 use Rattle.quorum.specs.Quorum.{enough, inRange, others, groupsSound}
-use Rattle.sets.proofs.Bools.{no-by, and-i, and-no-l, and-no-r, not-i, not-yes, implies-i, pick-yes, pick-no}
-use Rattle.sets.proofs.Laws.{all-i}
+use Rattle.quorum.specs.Notice.{editionOf, layoutOf, silent}
+use Rattle.quorum.proofs.Notices.{same-notice, edition-zero, said-layout}
+use Rattle.sets.proofs.Bools.{clash, and-i, and-no-l, and-no-r, not-i, not-yes, implies-i, pick-yes, pick-no}
+use Rattle.sets.proofs.Laws.{all-i, equal-or-not, below-or-not}
 use Rattle.sets.proofs.Causes.{cause-here, cause-later, cause-last}
 use Rattle.terminal.specs.declared.State.{State}
 use Rattle.terminal.specs.declared.State.the-variants.{Waiting, Taken}
 use Rattle.terminal.specs.declared.Record.{Record}
-use Rattle.terminal.specs.Rule.{View, start, sourceStart, among, withWord, noted, valuesOf, hasNoted, holds, certified, firstOf, choice, taking, stepFrom, step, saysIn}
+use Rattle.terminal.specs.Rule.{Spoken, nothingSaid, View, start, sourceStart, spokenBy, inEdition, among, withWord, noted, holds, chosen, heldBy, taking, step, issue, saysIn}
 use Rattle.terminal.specs.Regular.{Regular}
 use Rattle.terminal.specs.Shown.{noteOf, shownOver, shown, says}
-use Rattle.terminal.specs.Answer.{stateSound, countsSound, recordSound, causeOf, recordAfter}
-use Rattle.terminal.proofs.Values.{unheard-word, word-length, word-longer, word-said, word-stays, word-noted, word-clean, first-some}
-use Rattle.terminal.proofs.Notes.{noted-length, noted-at, noted-by, nothing-noted, has-i, has-layout, has-among, choice-why, choice-none-source, choice-none-certified, choice-least}
+use Rattle.terminal.specs.Answer.{stateSound, countsSound, recordSound, causeOf, recordAfter, issueCause, recordIssued}
+use Rattle.terminal.proofs.Values.{in-by, unheard-word, word-length, word-longer, word-edition, word-why, word-said, word-stays, word-noted, word-clean, word-small}
+use Rattle.terminal.proofs.Notes.{noted-length, noted-at, noted-by, nothing-noted}
+use Rattle.terminal.proofs.Newest.{holds-i, holds-said, holds-among, Reason, chosen-why, chosen-source, chosen-votes}
 use Rattle.terminal.proofs.Shown.{shown-state, shown-round, shown-count, view-shown, shown-over}
 
--- why a waiting terminal took v: it has it from the source, or from enough neighbours
-unfoldable pub Reason : ℕ → ℕ → Bound → ℕ → View → ℕ → Type 0
-Reason n source bound heard r v =
-    ((mem source heard ≡ true) × (holds r v source ≡ true))
-    ⊎ (enough n bound (λ j. mem j heard and holds r v j) ≡ true)
-
-taking-taken : (round v at w : ℕ) → taking round v ≡ Taken at w → (at ≡ round) × (w ≡ v) × (v ≡ 0 → ⊥)
+pub taking-none : (round : ℕ) (state : State) (x : ℕ) → x ≡ 0 → taking round state x ≡ state
 unfolding taking
-taking-taken round zero at w e = let z : _≡_ {A = ℕ} 0 1 = cc in absurd (omega arith)
-taking-taken round (suc v) at w e = (cc, cc, λ z. omega arith)
+taking-none round state zero e = refl
+taking-none round state (suc x) e = absurd (omega arith)
 
-taking-waits : (round v : ℕ) → taking round v ≡ Waiting → v ≡ 0
+pub taking-some : (round : ℕ) (state : State) (x : ℕ) → (x ≡ 0 → ⊥) → taking round state x ≡ Taken round x
 unfolding taking
-taking-waits round zero e = refl
-taking-waits round (suc v) e = let z : _≡_ {A = ℕ} 0 1 = cc in absurd (omega arith)
+taking-some round state zero n = absurd (n refl)
+taking-some round state (suc x) n = refl
+
+-- the edition that a state holds
+pub held-waiting : (s : State) → s ≡ Waiting → heldBy s ≡ 0
+unfolding heldBy
+held-waiting s e = ap heldBy e
+
+pub held-taken : (s : State) (at x : ℕ) → s ≡ Taken at x → heldBy s ≡ editionOf x
+unfolding heldBy
+held-taken s at x e = ap heldBy e
 
 -- ---- the start records
 
-nothing-regular : (state : State) → Regular (record { state = state; round = 0; notes = replicate 20 [] })
+nothing-regular : (state : State) → Regular (record { state = state; round = 0; notes = replicate 20 nothingSaid })
 unfolding among
 nothing-regular state = record {
-  room = length-replicate {A = List ℕ} 20 [];
-  layouts = λ j. ap (among 0) (nothing-noted 20 j);
-  few = λ j. let e = ap length (nothing-noted 20 j) in omega arith;
+  room = length-replicate {A = Spoken} 20 nothingSaid;
+  layouts = λ j. ap (λ (x : Spoken). among 0 (x .layouts)) (nothing-noted 20 j);
+  small = λ j v h. clash h (ap (λ (x : Spoken). among v (x .layouts)) (nothing-noted 20 j));
+  few = λ j. let e = ap (λ (x : Spoken). length (x .layouts)) (nothing-noted 20 j) in omega arith;
 }
 
 pub start-regular : Regular start
 start-regular = nothing-regular Waiting
 
-pub source-start-regular : (value : ℕ) → Regular (sourceStart value)
-source-start-regular value = nothing-regular (Taken 0 value)
+pub source-start-regular : (notice : ℕ) → Regular (sourceStart notice)
+source-start-regular notice = nothing-regular (Taken 0 notice)
 
-none-noted : (v j : ℕ) → hasNoted (replicate 20 []) v j ≡ false
-unfolding hasNoted among
-none-noted v j = and-no-r _ _ (ap (among v) (nothing-noted 20 j))
+-- nobody has said anything
+none-held : (state : State) (x j : ℕ) → holds (record { state = state; round = 0; notes = replicate 20 nothingSaid }) x j ≡ false
+unfolding holds among
+none-held state x j =
+    and-no-r _ _
+    (ap (λ (s : Spoken). among (layoutOf x) (inEdition (editionOf x) s)) (nothing-noted 20 j)
+    ∙ in-by (λ (l : List ℕ). among (layoutOf x) l ≡ false) (editionOf x) nothingSaid refl refl)
 
-pub start-empty : (v j : ℕ) → holds start v j ≡ false
-unfolding holds
-start-empty v j = none-noted v j
+pub start-empty : (x j : ℕ) → holds start x j ≡ false
+start-empty x j = none-held Waiting x j
 
-pub source-start-empty : (value v j : ℕ) → holds (sourceStart value) v j ≡ false
-unfolding holds
-source-start-empty value v j = none-noted v j
+pub source-start-empty : (notice x j : ℕ) → holds (sourceStart notice) x j ≡ false
+source-start-empty notice x j = none-held (Taken 0 notice) x j
 
--- what is held is a layout
-pub holds-layout : (r : View) (v j : ℕ) → holds r v j ≡ true → v ≡ 0 → ⊥
-unfolding holds
-holds-layout r v j h = has-layout (r .notes) v j h
+-- the edition that is noted of terminal j, 0 at the start
+abbrev pub notedEdition : View → ℕ → ℕ
+notedEdition r j = spokenBy (r .notes) j .edition
 
--- a source that starts with 0, which is no layout, is refused by its first step
-pub source-start-zero : (n source : ℕ) (bound : Bound) (own heard words : ℕ) → inRange n source (bound .kind) ≡ true → others n own heard ≡ true
-    → groupsSound n source bound ≡ true → causeOf n source bound own heard (shown (sourceStart 0)) words ≡ 13
+pub start-edition : (j : ℕ) → notedEdition start j ≡ 0
+start-edition j = ap (λ (x : Spoken). x .edition) (nothing-noted 20 j)
+
+pub source-start-edition : (notice j : ℕ) → notedEdition (sourceStart notice) j ≡ 0
+source-start-edition notice j = ap (λ (x : Spoken). x .edition) (nothing-noted 20 j)
+
+-- a source that starts with silence is refused by its first step
+pub source-start-silent : (n source : ℕ) (bound : Bound) (own heard words notice : ℕ) → silent notice ≡ true → inRange n source (bound .kind) ≡ true → others n own heard ≡ true
+    → groupsSound n source bound ≡ true → causeOf n source bound own heard (shown (sourceStart notice)) words ≡ 13
 unfolding causeOf recordSound stateSound shown shownOver
-source-start-zero n source bound own heard words r h g =
+source-start-silent n source bound own heard words notice s r h g =
     cause-later _ 4 _ (not-yes r) ∙ cause-later _ 5 _ (not-yes h) ∙ cause-later _ 17 _ (not-yes g)
-    ∙ cause-here _ 13 _ (not-i (and-no-r (ltb 0 40) _ (and-no-r (ltb own n) _ (and-no-l _ _ (and-no-r (leb 0 0) (not (eqb 0 0)) refl)))))
+    ∙ cause-here _ 13 _ (not-i (and-no-r (ltb 0 40) _ (and-no-r (ltb own n) _ (and-no-l _ _ (and-no-r (leb 0 0) (not (silent notice)) (not-yes s))))))
 
--- ---- the step: `notes` stands for the notes before it
+-- ---- the step
 
-module _ (n source : ℕ) (bound : Bound) (heard : ℕ) (said : ℕ → ℕ) where
-  -- a taken state stays
-  pub taken-stays : (r : View) (at value : ℕ) → r .state ≡ Taken at value → step n source bound heard said r .state ≡ Taken at value
-  unfolding step stepFrom
-  taken-stays r at value e = ap (λ (s : State). stepFrom s n source bound heard said (r .round) (r .notes) .state) e
-
-  -- one that has taken notes nothing
-  pub taken-notes : (r : View) (at value : ℕ) → r .state ≡ Taken at value → step n source bound heard said r .notes ≡ r .notes
-  unfolding step stepFrom
-  taken-notes r at value e = ap (λ (s : State). stepFrom s n source bound heard said (r .round) (r .notes) .notes) e
-
-  from-round : (s : State) (round : ℕ) (notes : List (List ℕ)) → stepFrom s n source bound heard said round notes .round ≡ round + 1
-  unfolding stepFrom
-  from-round Waiting round notes = refl
-  from-round (Taken at value) round notes = refl
+module _ (n source : ℕ) (bound : Bound) (own heard : ℕ) (said : ℕ → ℕ) where
+  abbrev after : View → View
+  after r = step n source bound own heard said r
 
   -- each step raises the round number by one
-  pub step-round : (r : View) → step n source bound heard said r .round ≡ r .round + 1
+  pub step-round : (r : View) → after r .round ≡ r .round + 1
   unfolding step
-  step-round r = from-round (r .state) (r .round) (r .notes)
+  step-round r = refl
 
-  from-room : (s : State) (round : ℕ) (notes : List (List ℕ)) → length (stepFrom s n source bound heard said round notes .notes) ≡ length notes
-  unfolding stepFrom
-  from-room Waiting round notes = noted-length n (λ j. mem j heard) said notes
-  from-room (Taken at value) round notes = refl
-
-  -- what holds of a neighbour's values before the step, and of them with what it says, holds after it
-  from-by {ℓ} : (Q : List ℕ → Type ℓ) (s : State) (round : ℕ) (notes : List (List ℕ)) (j : ℕ)
-      → Q (valuesOf notes j) → Q (withWord (mem j heard) (valuesOf notes j) (said j)) → Q (valuesOf (stepFrom s n source bound heard said round notes .notes) j)
-  unfolding stepFrom
-  from-by Q Waiting round notes j p q = noted-by Q n (λ j. mem j heard) said notes j p q
-  from-by Q (Taken at value) round notes j p q = p
-
-  pub step-by {ℓ} : (Q : List ℕ → Type ℓ) (r : View) (j : ℕ)
-      → Q (valuesOf (r .notes) j) → Q (withWord (mem j heard) (valuesOf (r .notes) j) (said j)) → Q (valuesOf (step n source bound heard said r .notes) j)
+  step-notes : (r : View) → after r .notes ≡ noted n (λ j. mem j heard) said (r .notes)
   unfolding step
-  step-by Q r j p q = from-by Q (r .state) (r .round) (r .notes) j p q
+  step-notes r = refl
 
-  pub step-regular : (r : View) → Regular r → Regular (step n source bound heard said r)
+  -- what holds of what a neighbour has said before the step, and of that with its word, holds after it
+  pub step-by {ℓ} : (Q : Spoken → Type ℓ) (r : View) (j : ℕ)
+      → Q (spokenBy (r .notes) j) → Q (withWord (mem j heard) (spokenBy (r .notes) j) (said j)) → Q (spokenBy (after r .notes) j)
+  unfolding step
+  step-by Q r j p q = noted-by Q n (λ j. mem j heard) said (r .notes) j p q
+
+  pub step-regular : (r : View) → Regular r → Regular (after r)
   unfolding step
   step-regular r g = record {
-    room = from-room (r .state) (r .round) (r .notes) ∙ g .room;
-    layouts = λ j.
-        step-by (λ (values : List ℕ). among 0 values ≡ false) r j (g .layouts j) (word-clean (mem j heard) (valuesOf (r .notes) j) (said j) (g .layouts j));
+    room = noted-length n (λ j. mem j heard) said (r .notes) ∙ g .room;
+    layouts = λ j. step-by (λ (x : Spoken). among 0 (x .layouts) ≡ false) r j (g .layouts j) (word-clean (mem j heard) (spokenBy (r .notes) j) (said j) (g .layouts j));
+    small = λ j.
+        step-by (λ (x : Spoken). (v : ℕ) → among v (x .layouts) ≡ true → v < 65536) r j (g .small j) (word-small (mem j heard) (spokenBy (r .notes) j) (said j) (g .small j));
     few = λ j.
-        let e : step n source bound heard said r .round ≡ r .round + 1 = step-round r in
-        let old : length (valuesOf (r .notes) j) ≤ r .round = g .few j in
-        subst (λ (m : ℕ). length (valuesOf (step n source bound heard said r .notes) j) ≤ m) (sym e)
-        (step-by (λ (values : List ℕ). length values ≤ r .round + 1) r j (omega arith)
-        (omega (arith, word-length (mem j heard) (valuesOf (r .notes) j) (said j))));
+        let old : length (spokenBy (r .notes) j .layouts) ≤ r .round = g .few j in
+        step-by (λ (x : Spoken). length (x .layouts) ≤ r .round + 1) r j (omega arith)
+        (omega (arith, word-length (mem j heard) (spokenBy (r .notes) j) (said j)));
   }
 
-  -- the values of one who is not heard stay, and no neighbour loses any
-  pub step-unheard : (r : View) (j : ℕ) → mem j heard ≡ false → valuesOf (step n source bound heard said r .notes) j ≡ valuesOf (r .notes) j
+  -- what one who is not heard has said stays, and while an edition stays no layout is lost
+  pub step-unheard : (r : View) (j : ℕ) → mem j heard ≡ false → spokenBy (after r .notes) j ≡ spokenBy (r .notes) j
   step-unheard r j h =
-      step-by (λ (values : List ℕ). values ≡ valuesOf (r .notes) j) r j refl
-      (ap (λ (b : Bool). withWord b (valuesOf (r .notes) j) (said j)) h ∙ unheard-word (valuesOf (r .notes) j) (said j))
+      step-by (λ (x : Spoken). x ≡ spokenBy (r .notes) j) r j refl
+      (ap (λ (b : Bool). withWord b (spokenBy (r .notes) j) (said j)) h ∙ unheard-word (spokenBy (r .notes) j) (said j))
 
-  pub step-longer : (r : View) (j : ℕ) → length (valuesOf (r .notes) j) ≤ length (valuesOf (step n source bound heard said r .notes) j)
+  pub step-longer : (r : View) (j : ℕ) → notedEdition r j ≡ notedEdition (after r) j → length (spokenBy (r .notes) j .layouts) ≤ length (spokenBy (after r .notes) j .layouts)
   step-longer r j =
-      step-by (λ (values : List ℕ). length (valuesOf (r .notes) j) ≤ length values) r j (omega arith) (word-longer (mem j heard) (valuesOf (r .notes) j) (said j))
+      step-by (λ (x : Spoken). notedEdition r j ≡ x .edition → length (spokenBy (r .notes) j .layouts) ≤ length (x .layouts)) r j (λ e. omega arith)
+      (λ e. word-longer (mem j heard) (spokenBy (r .notes) j) (said j) (sym e))
 
-  -- the step of a waiting terminal: its notes, and the state that its choice gives
-  waiting-notes : (r : View) → r .state ≡ Waiting → step n source bound heard said r .notes ≡ noted n (λ j. mem j heard) said (r .notes)
-  unfolding step stepFrom
-  waiting-notes r e = ap (λ (s : State). stepFrom s n source bound heard said (r .round) (r .notes) .notes) e
-
-  waiting-taking : (r : View) → r .state ≡ Waiting
-      → step n source bound heard said r .state ≡ taking (r .round + 1) (choice n source bound heard (noted n (λ j. mem j heard) said (r .notes)))
-  unfolding step stepFrom
-  waiting-taking r e = ap (λ (s : State). stepFrom s n source bound heard said (r .round) (r .notes) .state) e
-
-  waiting-state : (r : View) → r .state ≡ Waiting
-      → step n source bound heard said r .state ≡ taking (r .round + 1) (choice n source bound heard (step n source bound heard said r .notes))
-  waiting-state r e =
-      waiting-taking r e ∙ ap (λ (ns : List (List ℕ)). taking (r .round + 1) (choice n source bound heard ns)) (sym (waiting-notes r e))
-
-  -- what a waiting terminal takes is the source's word or has enough votes, and the take keeps the raised round number
-  pub takes : (r : View) (at value : ℕ) → r .state ≡ Waiting → step n source bound heard said r .state ≡ Taken at value
-      → (at ≡ r .round + 1) × Reason n source bound heard (step n source bound heard said r) value
-  unfolding Reason certified holds
-  takes r at value w t =
-      let p = taking-taken (r .round + 1) (choice n source bound heard (step n source bound heard said r .notes)) at value (sym (waiting-state r w) ∙ t) in
-      (p .0, subst (λ (v : ℕ). Reason n source bound heard (step n source bound heard said r) v) (sym (p .1)) (choice-why n source bound heard (step n source bound heard said r .notes) (p .2)))
-
-  -- one that goes on waiting has nothing from the source, and no value with enough votes
-  pub waits-source : (r : View) → Regular r → r .state ≡ Waiting → step n source bound heard said r .state ≡ Waiting → mem source heard ≡ true
-      → (v : ℕ) → holds (step n source bound heard said r) v source ≡ false
-  unfolding holds
-  waits-source r g w t h v =
-      no-by
-      (λ k.
-      first-some v (valuesOf (step n source bound heard said r .notes) source) (step-regular r g .layouts source)
-      (has-among (step n source bound heard said r .notes) v source k)
-      (choice-none-source n source bound heard (step n source bound heard said r .notes)
-      (taking-waits (r .round + 1) (choice n source bound heard (step n source bound heard said r .notes)) (sym (waiting-state r w) ∙ t)) h))
-
-  pub waits-votes : (r : View) → r .state ≡ Waiting → step n source bound heard said r .state ≡ Waiting
-      → (v : ℕ) → enough n bound (λ j. mem j heard and holds (step n source bound heard said r) v j) ≡ false
-  unfolding certified holds
-  waits-votes r w t v =
-      choice-none-certified n source bound heard (step n source bound heard said r .notes)
-      (taking-waits (r .round + 1) (choice n source bound heard (step n source bound heard said r .notes)) (sym (waiting-state r w) ∙ t)) v
-
-  -- a waiting terminal that takes without a first value of the source takes the smallest that has enough votes
-  pub takes-least : (r : View) (at value : ℕ) → r .state ≡ Waiting → step n source bound heard said r .state ≡ Taken at value
-      → (mem source heard and not (eqb (firstOf (valuesOf (step n source bound heard said r .notes) source)) 0) ≡ false)
-      → (v : ℕ) → enough n bound (λ j. mem j heard and holds (step n source bound heard said r) v j) ≡ true → value ≤ v
-  unfolding certified holds
-  takes-least r at value w t s v h =
-      let p = taking-taken (r .round + 1) (choice n source bound heard (step n source bound heard said r .notes)) at value (sym (waiting-state r w) ∙ t) in
-      subst (λ (x : ℕ). x ≤ v) (sym (p .1)) (choice-least n source bound heard (step n source bound heard said r .notes) s v h)
+  -- ---- the notes
 
   -- what is noted of a neighbour was noted before, or it said it now
-  pub note-said : (r : View) (v j : ℕ) → holds (step n source bound heard said r) v j ≡ true
-      → (holds r v j ≡ true) ⊎ ((mem j heard ≡ true) × (said j ≡ v))
-  unfolding holds
-  note-said r v j h =
-      let z = has-layout (step n source bound heard said r .notes) v j h in
-      ⊎-elim (λ e. inl (has-i (r .notes) v j z e)) inr
-      (step-by (λ (values : List ℕ). among v values ≡ true → (among v (valuesOf (r .notes) j) ≡ true) ⊎ ((mem j heard ≡ true) × (said j ≡ v))) r j
-      inl (word-said (mem j heard) (valuesOf (r .notes) j) (said j) v) (has-among (step n source bound heard said r .notes) v j h))
+  pub note-said : (r : View) (x j : ℕ) → holds (after r) x j ≡ true → (holds r x j ≡ true) ⊎ ((mem j heard ≡ true) × (said j ≡ x))
+  note-said r x j h =
+      ⊎-elim (λ e. inl (holds-i r x j (holds-said (after r) x j h) e)) (λ e. inr (e .0, same-notice (said j) x (e .1) (e .2)))
+      (step-by
+      (λ (s : Spoken).
+      among (layoutOf x) (inEdition (editionOf x) s) ≡ true
+      → (among (layoutOf x) (inEdition (editionOf x) (spokenBy (r .notes) j)) ≡ true) ⊎ ((mem j heard ≡ true) × (editionOf (said j) ≡ editionOf x) × (layoutOf (said j) ≡ layoutOf x))) r j
+      inl (word-said (mem j heard) (spokenBy (r .notes) j) (said j) (editionOf x) (layoutOf x)) (holds-among (after r) x j h))
 
-  -- what is noted stays
-  pub note-stays : (r : View) (v j : ℕ) → holds r v j ≡ true → holds (step n source bound heard said r) v j ≡ true
-  unfolding holds
-  note-stays r v j h =
-      let e = has-among (r .notes) v j h in
-      has-i (step n source bound heard said r .notes) v j (has-layout (r .notes) v j h)
-      (step-by (λ (values : List ℕ). among v values ≡ true) r j e (word-stays (mem j heard) (valuesOf (r .notes) j) (said j) v e))
+  -- what is noted stays, unless the neighbour says a higher edition
+  pub note-stays : (r : View) (x j : ℕ) → (silent (said j) ≡ false → editionOf (said j) ≤ editionOf x) → holds r x j ≡ true → holds (after r) x j ≡ true
+  note-stays r x j low h =
+      let e = holds-among r x j h in
+      holds-i (after r) x j (holds-said r x j h)
+      (step-by (λ (s : Spoken). among (layoutOf x) (inEdition (editionOf x) s) ≡ true) r j e
+      (word-stays (mem j heard) (spokenBy (r .notes) j) (said j) (editionOf x) (layoutOf x) low e))
 
-  -- what a heard neighbour says to a waiting terminal is noted, whatever it said before: from then on it counts for the value
-  pub spoken-noted : (r : View) (j : ℕ) → r .state ≡ Waiting → j < n → j < length (r .notes) → mem j heard ≡ true → (said j ≡ 0 → ⊥)
-      → holds (step n source bound heard said r) (said j) j ≡ true
-  unfolding holds
-  spoken-noted r j w k l h z =
-      has-i (step n source bound heard said r .notes) (said j) j z
-      (ap (λ (ns : List (List ℕ)). among (said j) (valuesOf ns j)) (waiting-notes r w)
-      ∙ ap (among (said j)) (noted-at n (λ j. mem j heard) said (r .notes) j k l)
-      ∙ ap (λ (b : Bool). among (said j) (withWord b (valuesOf (r .notes) j) (said j))) h
-      ∙ word-noted (valuesOf (r .notes) j) (said j) z)
+  -- what a heard neighbour says in its edition or in a higher one is noted: from then on it counts
+  pub spoken-noted : (r : View) (j : ℕ) → j < n → j < length (r .notes) → mem j heard ≡ true → silent (said j) ≡ false → notedEdition r j ≤ editionOf (said j)
+      → holds (after r) (said j) j ≡ true
+  unfolding step
+  spoken-noted r j k l h z above =
+      holds-i (after r) (said j) j z
+      (ap (λ (s : Spoken). among (layoutOf (said j)) (inEdition (editionOf (said j)) s)) (noted-at n (λ j. mem j heard) said (r .notes) j k l)
+      ∙ ap (λ (b : Bool). among (layoutOf (said j)) (inEdition (editionOf (said j)) (withWord b (spokenBy (r .notes) j) (said j)))) h
+      ∙ word-noted (spokenBy (r .notes) j) (said j) z above)
+
+  -- the edition that is noted never falls, and where it changes it is that of what was said
+  pub edition-grows : (r : View) (j : ℕ) → notedEdition r j ≤ notedEdition (after r) j
+  edition-grows r j = step-by (λ (s : Spoken). notedEdition r j ≤ s .edition) r j (omega arith) (word-edition (mem j heard) (spokenBy (r .notes) j) (said j))
+
+  pub edition-why : (r : View) (j : ℕ)
+      → (notedEdition (after r) j ≡ notedEdition r j) ⊎ ((mem j heard ≡ true) × (silent (said j) ≡ false) × (notedEdition (after r) j ≡ editionOf (said j)))
+  edition-why r j =
+      step-by (λ (s : Spoken). (s .edition ≡ notedEdition r j) ⊎ ((mem j heard ≡ true) × (silent (said j) ≡ false) × (s .edition ≡ editionOf (said j)))) r j
+      (inl refl) (word-why (mem j heard) (spokenBy (r .notes) j) (said j))
+
+  -- ---- the state
+
+  small-in : (r : View) → Regular r → (e v j : ℕ) → among v (inEdition e (spokenBy (r .notes) j)) ≡ true → v < 65536
+  unfolding among
+  small-in r g e v j = in-by (λ (l : List ℕ). among v l ≡ true → v < 65536) e (spokenBy (r .notes) j) (g .small j v) (λ h. clash h refl)
+
+  abbrev choose : View → ℕ
+  choose r = chosen n source bound heard (after r .notes) (heldBy (r .state))
+
+  -- the source's state stays
+  pub source-stays : (r : View) → own ≡ source → after r .state ≡ r .state
+  unfolding step
+  source-stays r e = pick-yes _ _ _ (eq-eqb own source e)
+
+  other-state : (r : View) → (own ≡ source → ⊥) → after r .state ≡ taking (r .round + 1) (r .state) (choose r)
+  unfolding step
+  other-state r z = pick-no _ _ _ (ne-eqb own source z)
+
+  -- why a terminal took x: it has it from the source, or from enough neighbours
+  unfoldable pub Why : View → ℕ → Type 0
+  Why r x = ((mem source heard ≡ true) × (holds r x source ≡ true)) ⊎ (enough n bound (λ j. mem j heard and holds r x j) ≡ true)
+
+  -- it has taken a notice: no silence, with the raised round number, above what it held, and for a reason
+  pub record Takes (r : View) (x : ℕ) : Type 0 where
+    pub other : own ≡ source → ⊥
+    pub state-is : after r .state ≡ Taken (r .round + 1) x
+    pub said-something : silent x ≡ false
+    pub above : heldBy (r .state) < editionOf x
+    pub reason : Why (after r) x
+
+  -- a state stays, or the terminal has taken
+  pub step-state : (r : View) → Regular r → (after r .state ≡ r .state) ⊎ ((x : ℕ) × Takes r x)
+  unfolding Why Reason
+  step-state r g =
+      ⊎-elim (λ e. inl (source-stays r e))
+      (λ z.
+      ⊎-elim (λ e. inl (other-state r z ∙ taking-none (r .round + 1) (r .state) (choose r) e))
+      (λ nz.
+      let w = chosen-why n source bound heard (after r) (heldBy (r .state)) (small-in (after r) (step-regular r g)) (choose r) refl nz in
+      inr (
+        choose r,
+        record {
+          other = z;
+          state-is = other-state r z ∙ taking-some (r .round + 1) (r .state) (choose r) nz;
+          said-something = w .0;
+          above = w .1;
+          reason = w .3;
+        },
+      ))
+      (equal-or-not (choose r) 0))
+      (equal-or-not own source)
+
+  -- the edition that a terminal holds never falls
+  pub held-grows : (r : View) → Regular r → heldBy (r .state) ≤ heldBy (after r .state)
+  unfolding heldBy
+  held-grows r g =
+      ⊎-elim (λ e. omega (arith, ap heldBy e)) (λ t. omega (arith, t .1 .above, ap heldBy (t .1 .state-is))) (step-state r g)
+
+  -- where a terminal has a reason for a notice, it then holds its edition or a higher one
+  held-chosen : (r : View) → Regular r → (own ≡ source → ⊥) → (x : ℕ) → (heldBy (r .state) < editionOf x → editionOf x ≤ editionOf (choose r)) → editionOf x ≤ heldBy (after r .state)
+  unfolding heldBy
+  held-chosen r g z x up =
+      ⊎-elim
+      (λ l.
+      let c = up l in
+      ⊎-elim
+      (λ e. absurd (omega (arith, ap editionOf e, edition-zero, c, l)))
+      (λ nz. omega (arith, ap heldBy (other-state r z ∙ taking-some (r .round + 1) (r .state) (choose r) nz), c))
+      (equal-or-not (choose r) 0))
+      (λ l. omega (arith, held-grows r g, l))
+      (below-or-not (heldBy (r .state)) (editionOf x))
+
+  pub holds-source : (r : View) → Regular r → (own ≡ source → ⊥) → source < n → mem source heard ≡ true → (x : ℕ) → holds (after r) x source ≡ true
+      → editionOf x ≤ heldBy (after r .state)
+  holds-source r g z k h x y =
+      held-chosen r g z x
+      (chosen-source n source bound heard (after r) (heldBy (r .state)) (small-in (after r) (step-regular r g)) x k h (step-regular r g .layouts source) y)
+
+  pub holds-votes : (r : View) → Regular r → (own ≡ source → ⊥) → (x : ℕ) → enough n bound (λ j. mem j heard and holds (after r) x j) ≡ true
+      → editionOf x ≤ heldBy (after r .state)
+  holds-votes r g z x h =
+      held-chosen r g z x (chosen-votes n source bound heard (after r) (heldBy (r .state)) (small-in (after r) (step-regular r g)) x h)
+
+-- ---- the office's own terminal takes a notice
+
+pub issue-state : (x : ℕ) (r : View) → issue x r .state ≡ Taken (r .round) x
+unfolding issue
+issue-state x r = refl
+
+pub issue-round : (x : ℕ) (r : View) → issue x r .round ≡ r .round
+unfolding issue
+issue-round x r = refl
+
+pub issue-holds : (x : ℕ) (r : View) (y j : ℕ) → holds (issue x r) y j ≡ holds r y j
+unfolding issue holds
+issue-holds x r y j = refl
+
+pub issue-edition : (x : ℕ) (r : View) (j : ℕ) → notedEdition (issue x r) j ≡ notedEdition r j
+unfolding issue
+issue-edition x r j = refl
+
+pub issue-regular : (x : ℕ) (r : View) → Regular r → Regular (issue x r)
+unfolding issue
+issue-regular x r g = record { room = g .room; layouts = g .layouts; small = g .small; few = g .few }
 
 -- ---- the code's step on a record that is shown
 
-state-sound : (s : State) (isSource : Bool) (round : ℕ) → (s ≡ Waiting → isSource ≡ false) → ((t v : ℕ) → s ≡ Taken t v → (t ≤ round) × (v ≡ 0 → ⊥))
+state-sound : (s : State) (isSource : Bool) (round : ℕ) → (s ≡ Waiting → isSource ≡ false) → ((t v : ℕ) → s ≡ Taken t v → (t ≤ round) × (silent v ≡ false))
     → stateSound s isSource round ≡ true
 unfolding stateSound
 state-sound Waiting isSource round w t = not-i (w refl)
-state-sound (Taken a v) isSource round w t = let h = t a v refl in and-i _ _ (le-leb a round (h .0)) (not-i (ne-eqb v 0 (h .1)))
+state-sound (Taken a v) isSource round w t = let h = t a v refl in and-i _ _ (le-leb a round (h .0)) (not-i (h .1))
 
 module _ (n source : ℕ) (bound : Bound) (own heard : ℕ) (r : View) (regular : Regular r) where
   -- it is not refused before round 40
   pub not-refused : (words : ℕ) → inRange n source (bound .kind) ≡ true → others n own heard ≡ true → groupsSound n source bound ≡ true
-      → r .round < 40 → own < n → (r .state ≡ Waiting → own ≡ source → ⊥) → ((t v : ℕ) → r .state ≡ Taken t v → (t ≤ r .round) × (v ≡ 0 → ⊥))
+      → r .round < 40 → own < n → (r .state ≡ Waiting → own ≡ source → ⊥) → ((t x : ℕ) → r .state ≡ Taken t x → (t ≤ r .round) × (silent x ≡ false))
       → words ≡ n → causeOf n source bound own heard (shown r) words ≡ 0
   unfolding causeOf recordSound countsSound
   not-refused words range hears groups early placed waiting taken fit =
@@ -259,17 +319,40 @@ module _ (n source : ℕ) (bound : Bound) (own heard : ℕ) (r : View) (regular 
 
   -- the record that comes back shows the rule's
   pub shown-step : (said : List ℕ) → r .round < 40 → causeOf n source bound own heard (shown r) (length said) ≡ 0
-      → recordAfter n source bound own heard (shown r) said ≡ shown (step n source bound heard (λ j. getD said j 0) r)
+      → recordAfter n source bound own heard (shown r) said ≡ shown (step n source bound own heard (λ j. getD said j 0) r)
   unfolding recordAfter
   shown-step said early e =
-      let few : (j : ℕ) → length (valuesOf (r .notes) j) ≤ 40 = λ j. let l = regular .few j in omega arith in
+      let few : (j : ℕ) → length (spokenBy (r .notes) j .layouts) ≤ 40 = λ j. let l = regular .few j in omega arith in
       pick-yes _ _ _ (eq-eqb _ _ e)
-      ∙ ap (λ (x : View). shownOver (λ j. mem j heard) (shown r) (step n source bound heard (λ j. getD said j 0) x)) (view-shown r (regular .room) few)
-      ∙ shown-over r (regular .room) few (λ j. mem j heard) (step n source bound heard (λ j. getD said j 0) r)
-      (λ j h. step-unheard n source bound heard (λ j. getD said j 0) r j h)
-      (λ j. step-longer n source bound heard (λ j. getD said j 0) r j)
-      (λ j. let g = step-regular n source bound heard (λ j. getD said j 0) r regular .few j in
-      let q = step-round n source bound heard (λ j. getD said j 0) r in omega arith)
+      ∙ ap (λ (x : View). shownOver (λ j. mem j heard) (shown r) (step n source bound own heard (λ j. getD said j 0) x)) (view-shown r (regular .room) few)
+      ∙ shown-over r (regular .room) few (λ j. mem j heard) (step n source bound own heard (λ j. getD said j 0) r)
+      (λ j h. step-unheard n source bound own heard (λ j. getD said j 0) r j h)
+      (λ j. step-longer n source bound own heard (λ j. getD said j 0) r j)
+      (λ j. let g = step-regular n source bound own heard (λ j. getD said j 0) r regular .few j in
+      let q = step-round n source bound own heard (λ j. getD said j 0) r in omega arith)
+
+-- ---- the office's notice on a record that is shown
+
+module _ (r : View) (x : ℕ) where
+  -- it is not refused up to round 40, where the notice is above the one held
+  pub issue-taken : r .round ≤ 40 → (t y : ℕ) → r .state ≡ Taken t y → t ≤ r .round → silent y ≡ false → silent x ≡ false → editionOf y < editionOf x
+      → issueCause (shown r) x ≡ 0
+  unfolding issueCause heldBy
+  issue-taken early t y e l s z up =
+      cause-later _ 9 _ (ne-eqb (layoutOf x) 0 (said-layout x z))
+      ∙ cause-later _ 16 _ (not-yes (lt-ltb (heldBy (shown r .state)) (editionOf x) (let q = ap heldBy (shown-state r ∙ e) in omega arith)))
+      ∙ cause-last _ 13
+      (not-yes
+      (and-i _ _ (le-leb (shown r .round) 40 (let q = shown-round r in omega arith))
+      (subst (λ (m : ℕ). stateSound (shown r .state) true m ≡ true) (sym (shown-round r))
+      (subst (λ (m : State). stateSound m true (r .round) ≡ true) (sym (shown-state r ∙ e))
+      (state-sound (Taken t y) true (r .round) (λ w. let q : _≡_ {A = ℕ} 0 1 = cc in absurd (omega arith))
+      (λ a v q. let ta : t ≡ a = cc in let yv : y ≡ v = cc in (omega arith, ap silent (sym yv) ∙ s)))))))
+
+  -- the record that comes back shows the rule's
+  pub shown-issue : issueCause (shown r) x ≡ 0 → recordIssued (shown r) x ≡ shown (issue x r)
+  unfolding recordIssued issue shown shownOver
+  shown-issue e = pick-yes _ _ _ (eq-eqb _ _ e)
 
 -- ---- what a terminal says after a round
 

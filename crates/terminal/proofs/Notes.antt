@@ -1,4 +1,4 @@
--- What is noted after a round, and which value is chosen. Assumes nothing.
+-- What is noted after a round, and which layout is chosen in an edition. Assumes nothing.
 use Prim.Native.Nat.{ℕ, zero, suc, _≤_, _<_, min}
 use mathlib.Core.Path.{_≡_, refl, sym, ap, _∙_, subst}
 use mathlib.Core.Logic.{_⊎_, inl, inr, ⊎-elim}
@@ -16,55 +16,57 @@ use Rattle.sets.proofs.Laws.{equal-or-not, all-at, all-not}
 use Rattle.quorum.specs.declared.Bound.{Bound}
 use Rattle.quorum.specs.Quorum.{enough}
 use Rattle.quorum.proofs.Laws.{enough-none}
-use Rattle.terminal.specs.Rule.{among, withWord, noted, valuesOf, hasNoted, certified, firstOf, lesser, least, leastOf, candidate, leastFrom, choice}
+use Rattle.terminal.specs.Rule.{Spoken, nothingSaid, spokenBy, among, withWord, noted, valuesOf, hasNoted, certified, firstOf, lesser, least, leastOf, candidate, leastFrom, choice}
 use Rattle.terminal.proofs.Values.{first-among, unheard-word}
 
--- ---- a neighbour's values
+-- ---- what a neighbour has said
 
-pub noted-length : (n : ℕ) (hears : ℕ → Bool) (said : ℕ → ℕ) (notes : List (List ℕ)) → length (noted n hears said notes) ≡ length notes
+pub noted-length : (n : ℕ) (hears : ℕ → Bool) (said : ℕ → ℕ) (notes : List Spoken) → length (noted n hears said notes) ≡ length notes
 unfolding noted
 noted-length zero hears said notes = refl
 noted-length (suc n) hears said [] = refl
 noted-length (suc n) hears said (x ∷ notes) = ap suc (noted-length n (λ j. hears (suc j)) (λ j. said (suc j)) notes)
 
-pub noted-at : (n : ℕ) (hears : ℕ → Bool) (said : ℕ → ℕ) (notes : List (List ℕ)) (j : ℕ) → j < n → j < length notes
-    → valuesOf (noted n hears said notes) j ≡ withWord (hears j) (valuesOf notes j) (said j)
-unfolding noted valuesOf
+pub noted-at : (n : ℕ) (hears : ℕ → Bool) (said : ℕ → ℕ) (notes : List Spoken) (j : ℕ) → j < n → j < length notes
+    → spokenBy (noted n hears said notes) j ≡ withWord (hears j) (spokenBy notes j) (said j)
+unfolding noted spokenBy
 noted-at zero hears said notes j k l = absurd (not-suc-le-zero k)
 noted-at (suc n) hears said [] j k l = absurd (not-suc-le-zero l)
 noted-at (suc n) hears said (x ∷ notes) zero k l = refl
 noted-at (suc n) hears said (x ∷ notes) (suc j) k l =
     noted-at n (λ j. hears (suc j)) (λ j. said (suc j)) notes j (le-of-suc-le-suc k) (le-of-suc-le-suc l)
 
--- what holds of the values that were there, and of those after the neighbour's word, holds of what is noted
-pub noted-by {ℓ} : (Q : List ℕ → Type ℓ) (n : ℕ) (hears : ℕ → Bool) (said : ℕ → ℕ) (notes : List (List ℕ)) (j : ℕ)
-    → Q (valuesOf notes j) → Q (withWord (hears j) (valuesOf notes j) (said j)) → Q (valuesOf (noted n hears said notes) j)
-unfolding noted valuesOf
+-- what holds of what was noted, and of that after the neighbour's word, holds of what is noted then
+pub noted-by {ℓ} : (Q : Spoken → Type ℓ) (n : ℕ) (hears : ℕ → Bool) (said : ℕ → ℕ) (notes : List Spoken) (j : ℕ)
+    → Q (spokenBy notes j) → Q (withWord (hears j) (spokenBy notes j) (said j)) → Q (spokenBy (noted n hears said notes) j)
+unfolding noted spokenBy
 noted-by Q zero hears said notes j p q = p
 noted-by Q (suc n) hears said [] j p q = p
 noted-by Q (suc n) hears said (x ∷ notes) zero p q = q
 noted-by Q (suc n) hears said (x ∷ notes) (suc j) p q = noted-by Q n (λ j. hears (suc j)) (λ j. said (suc j)) notes j p q
 
-pub noted-above : (n : ℕ) (hears : ℕ → Bool) (said : ℕ → ℕ) (notes : List (List ℕ)) (j : ℕ) → n ≤ j
-    → valuesOf (noted n hears said notes) j ≡ valuesOf notes j
-unfolding noted valuesOf
+pub noted-above : (n : ℕ) (hears : ℕ → Bool) (said : ℕ → ℕ) (notes : List Spoken) (j : ℕ) → n ≤ j
+    → spokenBy (noted n hears said notes) j ≡ spokenBy notes j
+unfolding noted spokenBy
 noted-above zero hears said notes j k = refl
 noted-above (suc n) hears said [] j k = refl
 noted-above (suc n) hears said (x ∷ notes) zero k = absurd (not-suc-le-zero k)
 noted-above (suc n) hears said (x ∷ notes) (suc j) k = noted-above n (λ j. hears (suc j)) (λ j. said (suc j)) notes j (le-of-suc-le-suc k)
 
--- of one who is not heard they stay
-pub noted-unheard : (n : ℕ) (hears : ℕ → Bool) (said : ℕ → ℕ) (notes : List (List ℕ)) (j : ℕ) → hears j ≡ false
-    → valuesOf (noted n hears said notes) j ≡ valuesOf notes j
+-- of one who is not heard it stays
+pub noted-unheard : (n : ℕ) (hears : ℕ → Bool) (said : ℕ → ℕ) (notes : List Spoken) (j : ℕ) → hears j ≡ false
+    → spokenBy (noted n hears said notes) j ≡ spokenBy notes j
 noted-unheard n hears said notes j h =
-    noted-by (λ (values : List ℕ). values ≡ valuesOf notes j) n hears said notes j refl
-    (ap (λ (b : Bool). withWord b (valuesOf notes j) (said j)) h ∙ unheard-word (valuesOf notes j) (said j))
+    noted-by (λ (spoken : Spoken). spoken ≡ spokenBy notes j) n hears said notes j refl
+    (ap (λ (b : Bool). withWord b (spokenBy notes j) (said j)) h ∙ unheard-word (spokenBy notes j) (said j))
 
-pub nothing-noted : (k j : ℕ) → _≡_ {A = List ℕ} (valuesOf (replicate k []) j) []
-unfolding valuesOf
+pub nothing-noted : (k j : ℕ) → spokenBy (replicate k nothingSaid) j ≡ nothingSaid
+unfolding spokenBy
 nothing-noted zero j = refl
 nothing-noted (suc k) zero = refl
 nothing-noted (suc k) (suc j) = nothing-noted k j
+
+-- ---- what has been said in an edition
 
 pub has-i : (notes : List (List ℕ)) (v j : ℕ) → (v ≡ 0 → ⊥) → among v (valuesOf notes j) ≡ true → hasNoted notes v j ≡ true
 unfolding hasNoted

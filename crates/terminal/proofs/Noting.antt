@@ -3,37 +3,54 @@
 use Prim.Native.Nat.{ℕ, _+_, _≤_, _<_}
 use mathlib.Core.Path.{_≡_, refl, sym, ap, _∙_, subst}
 use mathlib.Core.Logic.{_⊎_, ⊎-elim}
-use mathlib.Core.Bool.{Bool, true, false}
+use mathlib.Core.Bool.{Bool, true, false, not}
 use mathlib.Core.List.{List, [], map}
 use native.Mathlib.Nat.{not-suc-le-zero}
 use native.Mathlib.Omega.{arith}
 use borrow.Author.Count.{below-more}
+use lib.Dec.{leb}
+use borrow.Author.Tests.{eq-eqb, ne-eqb, le-leb, lt-leb}
 use lib.ListN.{length, set, length-set, length-map, List·getD-eq-default}
 use lib.Seq.{getD-set-same, getD-set-other, ext-getD}
-use Rattle.sets.specs.Tests.{pick}
+use Rattle.sets.specs.Tests.{_and_, pick}
 use Rattle.sets.specs.Sets.{mem}
-use Rattle.sets.proofs.Bools.{decide, and-no-l, pick-yes, pick-no}
+use Rattle.sets.proofs.Bools.{decide, and-i, and-yes, and-no-l, not-i, pick-yes, pick-no}
 use Rattle.sets.proofs.Laws.{below-or-not}
 use Rattle.quorum.specs.declared.Bound.{Bound}
 use Rattle.terminal.specs.declared.Note.{Note}
 use Rattle.terminal.specs.declared.Record.{Record}
 use Rattle.terminal.specs.declared.State.{State}
-use Rattle.terminal.specs.declared.State.the-variants.{Waiting, Taken}
-use Rattle.terminal.specs.Rule.{isNew, withWord, noted, valuesOf, choice, taking, stepFrom, step}
-use Rattle.terminal.specs.Shown.{noteOf, valuesIn, Whole, viewOf, writtenOver, notesOver, shownOver}
+use Rattle.terminal.specs.Rule.{Spoken, nothingSaid, spokenBy, inEdition, among, isNew, withNew, withWord, noted, chosen, heldBy, taking, step}
+use Rattle.terminal.specs.Shown.{noteOf, valuesIn, spokenIn, Whole, viewOf, writtenOver, notesOver, shownOver}
 use Rattle.terminal.specs.Votes.{HavePlaces, HaveRoom}
-use Rattle.terminal.proofs.Values.{word-change, word-length}
+use Rattle.terminal.proofs.Values.{in-own, in-other, word-change, word-length}
 use Rattle.terminal.proofs.Notes.{noted-length, noted-at, noted-above, noted-by, noted-unheard}
-use Rattle.terminal.proofs.Shown.{values-length, written-says, written-self, written-word, view-values, over-heard, over-unheard, over-length, over-by}
+use Rattle.terminal.proofs.Shown.{values-length, written-says, written-self, view-spoken, over-heard, over-unheard, over-length, over-by}
 
--- a note after a word: a new one is counted and stands at the next place
+-- ---- what a note lacks
+
+module _ (note : Note) (edition layout : ℕ) where
+  abbrev lacking : Bool
+  lacking = leb (note .edition) edition and not (among layout (inEdition edition (spokenIn note)))
+
+  pub lacks-higher : note .edition < edition → lacking ≡ true
+  unfolding spokenIn among
+  lacks-higher l = and-i _ _ (le-leb (note .edition) edition (omega arith)) (not-i (ap (among layout) (in-other edition (spokenIn note) (λ e. omega arith))))
+
+  pub lacks-own : note .edition ≡ edition → lacking ≡ not (among layout (valuesIn note))
+  unfolding spokenIn
+  lacks-own e = and-yes _ _ (le-leb (note .edition) edition (omega arith)) ∙ ap (λ (l : List ℕ). not (among layout l)) (in-own edition (spokenIn note) e)
+
+  pub lacks-lower : edition < note .edition → lacking ≡ false
+  lacks-lower l = and-no-l _ _ (lt-leb (note .edition) edition l)
+
+-- a note after a word: what is said with a new one is written over it
 unfoldable pub noteAfter : Bool → Note → ℕ → Note
-noteAfter hears note said =
-    pick (isNew hears (valuesIn note) said) (record { count = note .count + 1; values = set (note .values) (note .count) said }) note
+noteAfter hears note said = pick (isNew hears (spokenIn note) said) (writtenOver note (withNew (spokenIn note) said)) note
 
--- it is what the rule's values written over it make of it
+-- it is what the rule's notes written over it make of it
 row-after : (hears : Bool) (note : Note) (said : ℕ) → length (note .values) ≡ 40 → (hears ≡ true → note .count < 40)
-    → noteAfter hears note said ≡ pick hears (writtenOver note (withWord hears (valuesIn note) said)) note
+    → noteAfter hears note said ≡ pick hears (writtenOver note (withWord hears (spokenIn note) said)) note
 unfolding noteAfter isNew
 row-after hears note said forty room =
     ⊎-elim
@@ -41,8 +58,8 @@ row-after hears note said forty room =
     let small : note .count < 40 = room h in
     ⊎-elim
     (λ p. pick-no _ _ _ (p .0) ∙ sym (pick-yes _ _ _ h ∙ ap (writtenOver note) (p .1) ∙ written-self note forty (omega arith)))
-    (λ p. pick-yes _ _ _ (p .0) ∙ sym (pick-yes _ _ _ h ∙ ap (writtenOver note) (p .1) ∙ written-word note forty said small))
-    (word-change hears (valuesIn note) said))
+    (λ p. pick-yes _ _ _ (p .0) ∙ sym (pick-yes _ _ _ h ∙ ap (writtenOver note) (p .1)))
+    (word-change hears (spokenIn note) said))
     (λ h. pick-no _ _ _ (and-no-l _ _ h) ∙ sym (pick-no _ _ _ h))
     (decide hears)
 
@@ -60,8 +77,8 @@ module _ (heard : ℕ) (said : ℕ → ℕ) (before : Record) where
 
   module _ (j : ℕ) (r : Record) (below : NotedBelow heard said before j r) (k : j < 20) where
     -- a turn that adds a word
-    pub noting-new : (x : Note) → isNew (mem j heard) (valuesIn (noteOf (r .notes) j)) (said j) ≡ true
-        → x ≡ record { count = noteOf (r .notes) j .count + 1; values = set (noteOf (r .notes) j .values) (noteOf (r .notes) j .count) (said j) }
+    pub noting-new : (x : Note) → isNew (mem j heard) (spokenIn (noteOf (r .notes) j)) (said j) ≡ true
+        → x ≡ writtenOver (noteOf (r .notes) j) (withNew (spokenIn (noteOf (r .notes) j)) (said j))
         → NotedBelow heard said before (j + 1) (record { state = r .state; round = r .round; notes = set (r .notes) j x })
     unfolding noteAfter
     noting-new x t e =
@@ -78,7 +95,7 @@ module _ (heard : ℕ) (said : ℕ → ℕ) (before : Record) where
         }
 
     -- a turn that adds none
-    pub noting-old : isNew (mem j heard) (valuesIn (noteOf (r .notes) j)) (said j) ≡ false → NotedBelow heard said before (j + 1) r
+    pub noting-old : isNew (mem j heard) (spokenIn (noteOf (r .notes) j)) (said j) ≡ false → NotedBelow heard said before (j + 1) r
     unfolding noteAfter
     noting-old t =
         let same : noteOf (r .notes) j ≡ noteOf (before .notes) j = below .rest j (omega arith) in
@@ -92,26 +109,26 @@ module _ (heard : ℕ) (said : ℕ → ℕ) (before : Record) where
         }
 
   module _ (n : ℕ) (r : Record) (below : NotedBelow heard said before n r) (whole : Whole (before .notes)) (room : HaveRoom heard (before .notes)) where
-    abbrev after : List (List ℕ)
-    after = noted n (λ j. mem j heard) said (map valuesIn (before .notes))
+    abbrev after : List Spoken
+    after = noted n (λ j. mem j heard) said (map spokenIn (before .notes))
 
     heard-row : (i : ℕ) → i < 20 → i < n
-        → noteOf (r .notes) i ≡ pick (mem i heard) (writtenOver (noteOf (before .notes) i) (valuesOf after i)) (noteOf (before .notes) i)
+        → noteOf (r .notes) i ≡ pick (mem i heard) (writtenOver (noteOf (before .notes) i) (spokenBy after i)) (noteOf (before .notes) i)
     heard-row i k l =
         below .done i l ∙ row-after (mem i heard) (noteOf (before .notes) i) (said i) (whole .forty i k) (room i)
-        ∙ ap (λ (values : List ℕ). pick (mem i heard) (writtenOver (noteOf (before .notes) i) values) (noteOf (before .notes) i))
-        (ap (λ (values : List ℕ). withWord (mem i heard) values (said i)) (sym (view-values (before .notes) i))
-        ∙ sym (noted-at n (λ j. mem j heard) said (map valuesIn (before .notes)) i l (let e = length-map (before .notes) valuesIn in let t = whole .twenty in omega arith)))
+        ∙ ap (λ (spoken : Spoken). pick (mem i heard) (writtenOver (noteOf (before .notes) i) spoken) (noteOf (before .notes) i))
+        (ap (λ (spoken : Spoken). withWord (mem i heard) spoken (said i)) (sym (view-spoken (before .notes) i))
+        ∙ sym (noted-at n (λ j. mem j heard) said (map spokenIn (before .notes)) i l (let e = length-map (before .notes) spokenIn in let t = whole .twenty in omega arith)))
 
     other-row : (i : ℕ) → i < 20 → n ≤ i
-        → noteOf (r .notes) i ≡ pick (mem i heard) (writtenOver (noteOf (before .notes) i) (valuesOf after i)) (noteOf (before .notes) i)
+        → noteOf (r .notes) i ≡ pick (mem i heard) (writtenOver (noteOf (before .notes) i) (spokenBy after i)) (noteOf (before .notes) i)
     other-row i k l =
         below .rest i l
         ∙ ⊎-elim
         (λ h.
         let small : noteOf (before .notes) i .count < 40 = room i h in
         sym (pick-yes _ _ _ h
-        ∙ ap (writtenOver (noteOf (before .notes) i)) (noted-above n (λ j. mem j heard) said (map valuesIn (before .notes)) i l ∙ view-values (before .notes) i)
+        ∙ ap (writtenOver (noteOf (before .notes) i)) (noted-above n (λ j. mem j heard) said (map spokenIn (before .notes)) i l ∙ view-spoken (before .notes) i)
         ∙ written-self (noteOf (before .notes) i) (whole .forty i k) (omega arith)))
         (λ h. sym (pick-no _ _ _ h))
         (decide (mem i heard))
@@ -124,52 +141,41 @@ module _ (heard : ℕ) (said : ℕ → ℕ) (before : Record) where
 -- ---- what the notes then say
 
 module _ (heard : ℕ) (notes : List Note) (whole : Whole notes) (room : HaveRoom heard notes) where
-  values-few : (j : ℕ) → j < 20 → mem j heard ≡ true → length (valuesIn (noteOf notes j)) < 40
+  values-few : (j : ℕ) → j < 20 → mem j heard ≡ true → length (spokenIn (noteOf notes j) .layouts) < 40
+  unfolding spokenIn
   values-few j k h =
       let l : noteOf notes j .count < 40 = room j h in
       let e = values-length (noteOf notes j) (whole .forty j k) (omega arith) in
       omega arith
 
-  -- notes over which their own values are written stay
-  pub over-self : notes ≡ notesOver (λ j. mem j heard) notes (map valuesIn notes)
-  over-self =
-      over-by (λ j. mem j heard) notes (map valuesIn notes) notes (whole .twenty)
-      (λ j k.
-      ⊎-elim
-      (λ h.
-      let l : noteOf notes j .count < 40 = room j h in
-      sym (pick-yes _ _ _ h ∙ ap (writtenOver (noteOf notes j)) (view-values notes j) ∙ written-self (noteOf notes j) (whole .forty j k) (omega arith)))
-      (λ h. sym (pick-no _ _ _ h))
-      (decide (mem j heard)))
-
   module _ (n : ℕ) (said : ℕ → ℕ) where
-    abbrev next : List (List ℕ)
-    next = noted n (λ j. mem j heard) said (map valuesIn notes)
+    abbrev next : List Spoken
+    next = noted n (λ j. mem j heard) said (map spokenIn notes)
 
-    next-few : (j : ℕ) → j < 20 → mem j heard ≡ true → length (valuesOf next j) ≤ 40
+    next-few : (j : ℕ) → j < 20 → mem j heard ≡ true → length (spokenBy next j .layouts) ≤ 40
     next-few j k h =
-        let l : length (valuesOf (map valuesIn notes) j) < 40 = subst (λ (values : List ℕ). length values < 40) (sym (view-values notes j)) (values-few j k h) in
-        noted-by (λ (values : List ℕ). length values ≤ 40) n (λ j. mem j heard) said (map valuesIn notes) j (omega arith)
-        (omega (arith, word-length (mem j heard) (valuesOf (map valuesIn notes) j) (said j)))
+        let l : length (spokenBy (map spokenIn notes) j .layouts) < 40 = subst (λ (x : Spoken). length (x .layouts) < 40) (sym (view-spoken notes j)) (values-few j k h) in
+        noted-by (λ (x : Spoken). length (x .layouts) ≤ 40) n (λ j. mem j heard) said (map spokenIn notes) j (omega arith)
+        (omega (arith, word-length (mem j heard) (spokenBy (map spokenIn notes) j) (said j)))
 
     -- they say what the rule's notes say
-    pub noted-view : map valuesIn (notesOver (λ j. mem j heard) notes next) ≡ next
-    unfolding valuesOf
+    pub noted-view : map spokenIn (notesOver (λ j. mem j heard) notes next) ≡ next
+    unfolding spokenBy
     noted-view =
-        let twenty : length (map valuesIn (notesOver (λ j. mem j heard) notes next)) ≡ 20 =
-        length-map (notesOver (λ j. mem j heard) notes next) valuesIn ∙ over-length (λ j. mem j heard) notes next in
-        ext-getD [] (map valuesIn (notesOver (λ j. mem j heard) notes next)) next
-        (twenty ∙ sym (noted-length n (λ j. mem j heard) said (map valuesIn notes) ∙ length-map notes valuesIn ∙ whole .twenty))
+        let twenty : length (map spokenIn (notesOver (λ j. mem j heard) notes next)) ≡ 20 =
+        length-map (notesOver (λ j. mem j heard) notes next) spokenIn ∙ over-length (λ j. mem j heard) notes next in
+        ext-getD nothingSaid (map spokenIn (notesOver (λ j. mem j heard) notes next)) next
+        (twenty ∙ sym (noted-length n (λ j. mem j heard) said (map spokenIn notes) ∙ length-map notes spokenIn ∙ whole .twenty))
         (λ j l. same j (subst (λ (m : ℕ). j < m) twenty l))
       where
-        same : (j : ℕ) → j < 20 → valuesOf (map valuesIn (notesOver (λ j. mem j heard) notes next)) j ≡ valuesOf next j
+        same : (j : ℕ) → j < 20 → spokenBy (map spokenIn (notesOver (λ j. mem j heard) notes next)) j ≡ spokenBy next j
         same j k =
-            view-values (notesOver (λ j. mem j heard) notes next) j
+            view-spoken (notesOver (λ j. mem j heard) notes next) j
             ∙ ⊎-elim
-            (λ h. ap valuesIn (over-heard (λ j. mem j heard) notes next j k h) ∙ written-says (noteOf notes j) (whole .forty j k) (valuesOf next j) (next-few j k h))
+            (λ h. ap spokenIn (over-heard (λ j. mem j heard) notes next j k h) ∙ written-says (noteOf notes j) (whole .forty j k) (spokenBy next j) (next-few j k h))
             (λ h.
-            ap valuesIn (over-unheard (λ j. mem j heard) notes next j k h) ∙ sym (view-values notes j)
-            ∙ sym (noted-unheard n (λ j. mem j heard) said (map valuesIn notes) j h))
+            ap spokenIn (over-unheard (λ j. mem j heard) notes next j k h) ∙ sym (view-spoken notes j)
+            ∙ sym (noted-unheard n (λ j. mem j heard) said (map spokenIn notes) j h))
             (decide (mem j heard))
 
     -- and there is a place for each value
@@ -178,44 +184,40 @@ module _ (heard : ℕ) (notes : List Note) (whole : Whole notes) (room : HaveRoo
     noted-fits j h =
         ⊎-elim
         (λ k.
-        let e : noteOf (notesOver (λ j. mem j heard) notes next) j .count ≡ length (valuesOf next j) =
+        let e : noteOf (notesOver (λ j. mem j heard) notes next) j .count ≡ length (spokenBy next j .layouts) =
         ap (λ (m : Note). m .count) (over-heard (λ j. mem j heard) notes next j k h) in
         let l = next-few j k h in omega arith)
         (λ k.
         let e : noteOf (notesOver (λ j. mem j heard) notes next) j .count ≡ 0 =
         ap (λ (m : Note). m .count)
-        (List·getD-eq-default (notesOver (λ j. mem j heard) notes next) (record { count = 0; values = [] }) (let t = over-length (λ j. mem j heard) notes next in omega arith)) in
+        (List·getD-eq-default (notesOver (λ j. mem j heard) notes next) (record { edition = 0; count = 0; values = [] }) (let t = over-length (λ j. mem j heard) notes next in omega arith)) in
         omega arith)
         (below-or-not j 20)
 
--- ---- the round of a record: it is raised, and one that waits notes and decides
+-- ---- the round of a record: it is raised, it notes, and all but the source decide
 
-module _ (n source : ℕ) (bound : Bound) (heard : ℕ) (said : ℕ → ℕ) (before : Record) (whole : Whole (before .notes)) (room : HaveRoom heard (before .notes)) where
-  pub waiting-shown : before .state ≡ Waiting → (r : Record)
+module _ (n source : ℕ) (bound : Bound) (own heard : ℕ) (said : ℕ → ℕ) (before : Record) (whole : Whole (before .notes)) (room : HaveRoom heard (before .notes)) where
+  abbrev notes-after : List Note
+  notes-after = notesOver (λ j. mem j heard) (before .notes) (noted n (λ j. mem j heard) said (map spokenIn (before .notes)))
+
+  pub other-shown : (own ≡ source → ⊥) → (r : Record)
       → r ≡ record {
-        state = taking (before .round + 1) (choice n source bound heard (map valuesIn (notesOver (λ j. mem j heard) (before .notes) (noted n (λ j. mem j heard) said (map valuesIn (before .notes))))));
+        state = taking (before .round + 1) (before .state) (chosen n source bound heard (map spokenIn notes-after) (heldBy (before .state)));
         round = before .round + 1;
-        notes = notesOver (λ j. mem j heard) (before .notes) (noted n (λ j. mem j heard) said (map valuesIn (before .notes)));
+        notes = notes-after;
       }
-      → r ≡ shownOver (λ j. mem j heard) before (step n source bound heard said (viewOf before))
-  unfolding shownOver step stepFrom viewOf
-  waiting-shown w r e =
+      → r ≡ shownOver (λ j. mem j heard) before (step n source bound own heard said (viewOf before))
+  unfolding shownOver step viewOf
+  other-shown z r e =
       e
       ∙ ap
-      (λ (values : List (List ℕ)).
-      record {
-        state = taking (before .round + 1) (choice n source bound heard values);
-        round = before .round + 1;
-        notes = notesOver (λ j. mem j heard) (before .notes) (noted n (λ j. mem j heard) said (map valuesIn (before .notes)));
-      })
+      (λ (values : List Spoken).
+      record { state = taking (before .round + 1) (before .state) (chosen n source bound heard values (heldBy (before .state))); round = before .round + 1; notes = notes-after })
       (noted-view heard (before .notes) whole room n said)
-      ∙ ap (λ (s : State). shownOver (λ j. mem j heard) before (stepFrom s n source bound heard said (before .round) (map valuesIn (before .notes)))) (sym w)
+      ∙ ap (λ (s : State). record { state = s; round = before .round + 1; notes = notes-after }) (sym (pick-no _ _ _ (ne-eqb own source z)))
 
-  pub taken-shown : (at value : ℕ) → before .state ≡ Taken at value → (r : Record)
-      → r ≡ record { state = before .state; round = before .round + 1; notes = before .notes }
-      → r ≡ shownOver (λ j. mem j heard) before (step n source bound heard said (viewOf before))
-  unfolding shownOver step stepFrom viewOf
-  taken-shown at value w r e =
-      e
-      ∙ (λ i. record { state = w i; round = before .round + 1; notes = over-self heard (before .notes) whole room i })
-      ∙ ap (λ (s : State). shownOver (λ j. mem j heard) before (stepFrom s n source bound heard said (before .round) (map valuesIn (before .notes)))) (sym w)
+  pub source-shown : own ≡ source → (r : Record) → r ≡ record { state = before .state; round = before .round + 1; notes = notes-after }
+      → r ≡ shownOver (λ j. mem j heard) before (step n source bound own heard said (viewOf before))
+  unfolding shownOver step viewOf
+  source-shown z r e =
+      e ∙ ap (λ (s : State). record { state = s; round = before .round + 1; notes = notes-after }) (sym (pick-yes _ _ _ (eq-eqb own source z)))

@@ -34,11 +34,11 @@ use Rattle.terminal.proofs.Walks.{lesser-none, least-again, least-next,
 -- ---- voters as a set, of which the code asks among 32, and as the terminals below n, of which the rule asks
 
 -- a set below n is enough among 32 where it is among n
-below-enough : (n : ℕ) (bound : Bound) (s : ℕ) → n ≤ 20 → s < 2 ^ n → enough 32 bound (λ i. mem i s) ≡ enough n bound (λ i. mem i s)
+pub below-enough : (n : ℕ) (bound : Bound) (s : ℕ) → n ≤ 20 → s < 2 ^ n → enough 32 bound (λ i. mem i s) ≡ enough n bound (λ i. mem i s)
 below-enough n bound s h k = enough-width n 32 bound (λ i. mem i s) (omega arith) (λ i l. mem-above n i s k l)
 
 -- whether they are enough is said by who they are
-enough-same : (n : ℕ) (bound : Bound) (P Q : ℕ → Bool) → ((i : ℕ) → i < n → P i ≡ Q i) → enough n bound P ≡ enough n bound Q
+pub enough-same : (n : ℕ) (bound : Bound) (P Q : ℕ → Bool) → ((i : ℕ) → i < n → P i ≡ Q i) → enough n bound P ≡ enough n bound Q
 enough-same n bound P Q e =
     same-test _ _ (enough-mono n bound P Q (λ i k h. sym (e i k) ∙ h)) (enough-mono n bound Q P (λ i k h. e i k ∙ h))
 

@@ -1,4 +1,4 @@
--- The code's record and the rule's: what a note says, what is written over it, and that a record of the rule with at most forty values a neighbour is the
+-- The code's record and the rule's: what a note says, what is written over it, and that a record of the rule with at most forty layouts a neighbour is the
 -- one that is shown. Assumes nothing.
 use Prim.Native.Nat.{ℕ, suc, _+_, _≤_, _<_}
 use mathlib.Core.Path.{_≡_, refl, sym, ap, _∙_, subst}
@@ -8,17 +8,22 @@ use mathlib.Core.List.{List, [], _∷_, _++_, map}
 use native.Mathlib.Nat.{zero-add}
 use native.Mathlib.Numerals.{add-one}
 use native.Mathlib.Omega.{arith}
+use lib.Dec.{eqb}
 use lib.ListN.{length, take, drop, set, replicate, length-append, length-map, length-replicate, getD-replicate, List·getD-map, take-append-drop}
+use borrow.Author.Tests.{eq-eqb, ne-eqb}
 use lib.Seq.{sets, sets-eq, length-sets, length-take-le, take-append-seam, drop-append-add, drop-drop, set-split, ext-getD}
 use Rattle.sets.specs.Tests.{pick}
 use Rattle.sets.specs.Tables.{table}
-use Rattle.sets.proofs.Bools.{decide, pick-yes, pick-no}
+use Rattle.sets.proofs.Bools.{decide, pick-yes, pick-no, pick-case}
+use Rattle.sets.proofs.Laws.{equal-or-not}
 use Rattle.sets.proofs.Tables.{table-length, table-at, table-is}
+use Rattle.quorum.specs.Notice.{editionOf, layoutOf}
 use Rattle.terminal.specs.declared.State.{State}
 use Rattle.terminal.specs.declared.Note.{Note}
 use Rattle.terminal.specs.declared.Record.{Record}
-use Rattle.terminal.specs.Rule.{View, valuesOf}
-use Rattle.terminal.specs.Shown.{noteOf, valuesIn, Whole, viewOf, writtenOver, noNote, notesOver, shownOver, shown}
+use Rattle.terminal.specs.Rule.{Spoken, nothingSaid, View, spokenBy, inEdition, withNew, valuesOf}
+use Rattle.terminal.specs.Shown.{noteOf, valuesIn, spokenIn, Whole, viewOf, writtenOver, noNote, notesOver, shownOver, shown}
+use Rattle.terminal.proofs.Values.{in-own, in-other}
 
 -- ---- values over places
 
@@ -44,83 +49,131 @@ over-over l a b h k =
 
 -- ---- one note
 
+-- the places that something is written over: the note's where the edition is, else zeros
+abbrev under : Note → ℕ → List ℕ
+under note edition = pick (eqb (note .edition) edition) (note .values) (replicate 40 0)
+
+under-same : (note : Note) (edition : ℕ) → note .edition ≡ edition → under note edition ≡ note .values
+under-same note edition e = pick-yes _ _ _ (eq-eqb (note .edition) edition e)
+
+under-other : (note : Note) (edition : ℕ) → (note .edition ≡ edition → ⊥) → under note edition ≡ replicate 40 0
+under-other note edition n = pick-no _ _ _ (ne-eqb (note .edition) edition n)
+
+under-forty : (note : Note) (edition : ℕ) → length (note .values) ≡ 40 → length (under note edition) ≡ 40
+under-forty note edition l =
+    pick-case (λ (v : List ℕ). length v ≡ 40) (eqb (note .edition) edition) (note .values) (replicate 40 0) (λ t. l) (λ t. length-replicate {A = ℕ} 40 0)
+
 module _ (note : Note) (forty : length (note .values) ≡ 40) where
   pub values-length : note .count ≤ 40 → length (valuesIn note) ≡ note .count
   unfolding valuesIn
   values-length h = length-take-le (note .count) (note .values) (omega arith)
 
   -- what is written is what the note then says
-  pub written-says : (values : List ℕ) → length values ≤ 40 → valuesIn (writtenOver note values) ≡ values
-  unfolding valuesIn writtenOver
-  written-says values h =
-      ap (take (length values)) (over-is (note .values) values (omega arith)) ∙ take-append-seam values (drop (length values) (note .values))
+  pub written-says : (spoken : Spoken) → length (spoken .layouts) ≤ 40 → spokenIn (writtenOver note spoken) ≡ spoken
+  unfolding spokenIn valuesIn writtenOver
+  written-says spoken h =
+      let l = under-forty note (spoken .edition) forty in
+      let e : take (length (spoken .layouts)) (sets (under note (spoken .edition)) 0 (spoken .layouts)) ≡ spoken .layouts =
+      ap (take (length (spoken .layouts))) (over-is (under note (spoken .edition)) (spoken .layouts) (omega arith))
+      ∙ take-append-seam (spoken .layouts) (drop (length (spoken .layouts)) (under note (spoken .edition))) in
+      (λ i. record { edition = spoken .edition; layouts = e i })
 
-  -- its own values change nothing
-  pub written-self : note .count ≤ 40 → writtenOver note (valuesIn note) ≡ note
-  unfolding writtenOver valuesIn
-  written-self h =
+  -- its own layouts change nothing
+  own-values : note .count ≤ 40 → sets (note .values) 0 (valuesIn note) ≡ note .values
+  unfolding valuesIn
+  own-values h =
       let l : length (take (note .count) (note .values)) ≡ note .count = length-take-le (note .count) (note .values) (omega arith) in
-      let e : sets (note .values) 0 (take (note .count) (note .values)) ≡ note .values =
       over-is (note .values) (take (note .count) (note .values)) (omega arith)
       ∙ ap (λ (k : ℕ). take (note .count) (note .values) ++ drop k (note .values)) l
-      ∙ take-append-drop (note .count) (note .values) in
-      (λ i. record { count = l i; values = e i })
+      ∙ take-append-drop (note .count) (note .values)
 
-  -- a new value changes the count and one place
-  pub written-word : (w : ℕ) → note .count < 40
-      → writtenOver note (valuesIn note ++ (w ∷ [])) ≡ record { count = note .count + 1; values = set (note .values) (note .count) w }
-  unfolding writtenOver valuesIn
-  written-word w h =
+  pub written-self : note .count ≤ 40 → writtenOver note (spokenIn note) ≡ note
+  unfolding writtenOver spokenIn
+  written-self h =
+      let l : length (valuesIn note) ≡ note .count = values-length h in
+      let e : sets (under note (note .edition)) 0 (valuesIn note) ≡ note .values = ap (λ (v : List ℕ). sets v 0 (valuesIn note)) (under-same note (note .edition) refl) ∙ own-values h in
+      (λ i. record { edition = note .edition; count = l i; values = e i })
+
+  -- a new layout in its edition changes the count and one place
+  word-values : (w : ℕ) → note .count < 40 → sets (note .values) 0 (valuesIn note ++ (w ∷ [])) ≡ set (note .values) (note .count) w
+  unfolding valuesIn
+  word-values w h =
       let l : length (take (note .count) (note .values)) ≡ note .count = length-take-le (note .count) (note .values) (omega arith) in
       let m : length (take (note .count) (note .values) ++ (w ∷ [])) ≡ note .count + 1 = length-append (take (note .count) (note .values)) (w ∷ []) ∙ omega arith in
-      let e : sets (note .values) 0 (take (note .count) (note .values) ++ (w ∷ [])) ≡ set (note .values) (note .count) w =
       over-is (note .values) (take (note .count) (note .values) ++ (w ∷ [])) (omega arith)
       ∙ ap (λ (k : ℕ). (take (note .count) (note .values) ++ (w ∷ [])) ++ drop k (note .values)) (m ∙ add-one (note .count))
       ∙ mathlib.Core.List.append-assoc (take (note .count) (note .values)) (w ∷ []) (drop (suc (note .count)) (note .values))
-      ∙ sym (set-split (note .values) (note .count) w (omega arith)) in
-      (λ i. record { count = m i; values = e i })
+      ∙ sym (set-split (note .values) (note .count) w (omega arith))
 
-pub written-length : (note : Note) (values : List ℕ) → length (writtenOver note values .values) ≡ length (note .values)
+  pub written-word : (said : ℕ) → note .count < 40 → note .edition ≡ editionOf said
+      → writtenOver note (withNew (spokenIn note) said)
+      ≡ record { edition = note .edition; count = note .count + 1; values = set (note .values) (note .count) (layoutOf said) }
+  unfolding writtenOver withNew spokenIn
+  written-word said h e =
+      let own : inEdition (editionOf said) (spokenIn note) ≡ valuesIn note = in-own (editionOf said) (spokenIn note) e in
+      let l : length (valuesIn note) ≡ note .count = values-length (omega arith) in
+      let m : length (inEdition (editionOf said) (spokenIn note) ++ (layoutOf said ∷ [])) ≡ note .count + 1 =
+      length-append (inEdition (editionOf said) (spokenIn note)) (layoutOf said ∷ []) ∙ ap (λ (v : List ℕ). length v + 1) own ∙ omega arith in
+      let v : sets (under note (editionOf said)) 0 (inEdition (editionOf said) (spokenIn note) ++ (layoutOf said ∷ [])) ≡ set (note .values) (note .count) (layoutOf said) =
+      (λ i. sets (under-same note (editionOf said) e i) 0 (own i ++ (layoutOf said ∷ []))) ∙ word-values (layoutOf said) h in
+      (λ i. record { edition = sym e i; count = m i; values = v i })
+
+  -- another edition takes the whole note
+  pub written-wipe : (said : ℕ) → (note .edition ≡ editionOf said → ⊥)
+      → writtenOver note (withNew (spokenIn note) said) ≡ record { edition = editionOf said; count = 1; values = set (replicate 40 0) 0 (layoutOf said) }
+  unfolding writtenOver withNew spokenIn
+  written-wipe said n =
+      let none : inEdition (editionOf said) (spokenIn note) ≡ [] = in-other (editionOf said) (spokenIn note) n in
+      let m : length (inEdition (editionOf said) (spokenIn note) ++ (layoutOf said ∷ [])) ≡ 1 = ap (λ (v : List ℕ). length (v ++ (layoutOf said ∷ []))) none in
+      let v : sets (under note (editionOf said)) 0 (inEdition (editionOf said) (spokenIn note) ++ (layoutOf said ∷ [])) ≡ set (replicate 40 0) 0 (layoutOf said) =
+      (λ i. sets (under-other note (editionOf said) n i) 0 (none i ++ (layoutOf said ∷ []))) in
+      (λ i. record { edition = editionOf said; count = m i; values = v i })
+
+pub written-length : (note : Note) (spoken : Spoken) → length (note .values) ≡ 40 → length (writtenOver note spoken .values) ≡ 40
 unfolding writtenOver
-written-length note values = length-sets (note .values) 0 values
+written-length note spoken l = length-sets (under note (spoken .edition)) 0 (spoken .layouts) ∙ under-forty note (spoken .edition) l
 
 -- ---- the notes
 
 -- what is said by the note of terminal j
 pub view-values : (notes : List Note) (j : ℕ) → valuesOf (map valuesIn notes) j ≡ valuesIn (noteOf notes j)
 unfolding valuesOf valuesIn
-view-values notes j = List·getD-map valuesIn notes j (record { count = 0; values = [] })
+view-values notes j = List·getD-map valuesIn notes j (record { edition = 0; count = 0; values = [] })
 
-pub over-at : (heard : ℕ → Bool) (before : List Note) (notes : List (List ℕ)) (j : ℕ) → j < 20
-    → noteOf (notesOver heard before notes) j ≡ pick (heard j) (writtenOver (noteOf before j) (valuesOf notes j)) (noteOf before j)
+pub view-spoken : (notes : List Note) (j : ℕ) → spokenBy (map spokenIn notes) j ≡ spokenIn (noteOf notes j)
+unfolding spokenBy spokenIn valuesIn
+view-spoken notes j = List·getD-map spokenIn notes j (record { edition = 0; count = 0; values = [] })
+
+pub over-at : (heard : ℕ → Bool) (before : List Note) (notes : List Spoken) (j : ℕ) → j < 20
+    → noteOf (notesOver heard before notes) j ≡ pick (heard j) (writtenOver (noteOf before j) (spokenBy notes j)) (noteOf before j)
 unfolding notesOver
 over-at heard before notes j k = table-at 20 _ _ j k
 
-pub over-heard : (heard : ℕ → Bool) (before : List Note) (notes : List (List ℕ)) (j : ℕ) → j < 20 → heard j ≡ true
-    → noteOf (notesOver heard before notes) j ≡ writtenOver (noteOf before j) (valuesOf notes j)
+pub over-heard : (heard : ℕ → Bool) (before : List Note) (notes : List Spoken) (j : ℕ) → j < 20 → heard j ≡ true
+    → noteOf (notesOver heard before notes) j ≡ writtenOver (noteOf before j) (spokenBy notes j)
 over-heard heard before notes j k h = over-at heard before notes j k ∙ pick-yes _ _ _ h
 
-pub over-unheard : (heard : ℕ → Bool) (before : List Note) (notes : List (List ℕ)) (j : ℕ) → j < 20 → heard j ≡ false
+pub over-unheard : (heard : ℕ → Bool) (before : List Note) (notes : List Spoken) (j : ℕ) → j < 20 → heard j ≡ false
     → noteOf (notesOver heard before notes) j ≡ noteOf before j
 over-unheard heard before notes j k h = over-at heard before notes j k ∙ pick-no _ _ _ h
 
-pub over-length : (heard : ℕ → Bool) (before : List Note) (notes : List (List ℕ)) → length (notesOver heard before notes) ≡ 20
+pub over-length : (heard : ℕ → Bool) (before : List Note) (notes : List Spoken) → length (notesOver heard before notes) ≡ 20
 unfolding notesOver
 over-length heard before notes = table-length 20 _
 
 -- twenty notes that agree with them are the notes over others
-pub over-by : (heard : ℕ → Bool) (before : List Note) (notes : List (List ℕ)) (l : List Note) → length l ≡ 20
-    → ((j : ℕ) → j < 20 → noteOf l j ≡ pick (heard j) (writtenOver (noteOf before j) (valuesOf notes j)) (noteOf before j))
+pub over-by : (heard : ℕ → Bool) (before : List Note) (notes : List Spoken) (l : List Note) → length l ≡ 20
+    → ((j : ℕ) → j < 20 → noteOf l j ≡ pick (heard j) (writtenOver (noteOf before j) (spokenBy notes j)) (noteOf before j))
     → l ≡ notesOver heard before notes
 unfolding notesOver
 over-by heard before notes l e f = table-is 20 _ _ l e f
 
 -- twenty notes are whole again
-pub over-whole : (heard : ℕ → Bool) (before : List Note) (notes : List (List ℕ)) → Whole before → Whole (notesOver heard before notes)
+pub over-whole : (heard : ℕ → Bool) (before : List Note) (notes : List Spoken) → Whole before → Whole (notesOver heard before notes)
 over-whole heard before notes w = record {
   twenty = over-length heard before notes;
   forty = λ j k.
-      ⊎-elim (λ h. ap (λ (x : Note). length (x .values)) (over-heard heard before notes j k h) ∙ written-length (noteOf before j) (valuesOf notes j) ∙ w .forty j k)
+      ⊎-elim (λ h. ap (λ (x : Note). length (x .values)) (over-heard heard before notes j k h) ∙ written-length (noteOf before j) (spokenBy notes j) (w .forty j k))
       (λ h. ap (λ (x : Note). length (x .values)) (over-unheard heard before notes j k h) ∙ w .forty j k)
       (decide (heard j));
 }
@@ -139,8 +192,9 @@ none-at : (j : ℕ) → j < 20 → noteOf (replicate 20 noNote) j ≡ noNote
 none-at j k = getD-replicate 20 j noNote _ k
 
 -- nothing heard is shown as nothing noted
-pub shown-nothing : (state : State) → _≡_ {A = Record} (record { state = state; round = 0; notes = replicate 20 noNote }) (shown (record { state = state; round = 0; notes = replicate 20 [] }))
-unfolding shown shownOver notesOver table pick writtenOver valuesOf
+pub shown-nothing : (state : State)
+    → _≡_ {A = Record} (record { state = state; round = 0; notes = replicate 20 noNote }) (shown (record { state = state; round = 0; notes = replicate 20 nothingSaid }))
+unfolding shown shownOver notesOver table pick writtenOver spokenBy
 shown-nothing state = refl
 
 pub shown-state : (x : View) → shown x .state ≡ x .state
@@ -151,10 +205,10 @@ pub shown-round : (x : View) → shown x .round ≡ x .round
 unfolding shown shownOver
 shown-round x = refl
 
-pub shown-note : (x : View) (j : ℕ) → j < 20 → noteOf (shown x .notes) j ≡ writtenOver noNote (valuesOf (x .notes) j)
+pub shown-note : (x : View) (j : ℕ) → j < 20 → noteOf (shown x .notes) j ≡ writtenOver noNote (spokenBy (x .notes) j)
 unfolding shown shownOver
 shown-note x j k =
-    over-heard (λ j. true) (replicate 20 noNote) (x .notes) j k refl ∙ ap (λ (m : Note). writtenOver m (valuesOf (x .notes) j)) (none-at j k)
+    over-heard (λ j. true) (replicate 20 noNote) (x .notes) j k refl ∙ ap (λ (m : Note). writtenOver m (spokenBy (x .notes) j)) (none-at j k)
 
 forty-zeros : length (noNote .values) ≡ 40
 forty-zeros = length-replicate {A = ℕ} 40 0
@@ -165,42 +219,60 @@ shown-whole x =
     over-whole (λ j. true) (replicate 20 noNote) (x .notes)
     (record { twenty = length-replicate 20 noNote; forty = λ j k. ap (λ (m : Note). length (m .values)) (none-at j k) ∙ forty-zeros })
 
-pub shown-count : (x : View) (j : ℕ) → j < 20 → noteOf (shown x .notes) j .count ≡ length (valuesOf (x .notes) j)
+pub shown-count : (x : View) (j : ℕ) → j < 20 → noteOf (shown x .notes) j .count ≡ length (spokenBy (x .notes) j .layouts)
 unfolding writtenOver
 shown-count x j k = ap (λ (m : Note). m .count) (shown-note x j k)
 
--- written over values that are no more
-again : (a b : List ℕ) → length a ≤ length b → length b ≤ 40 → writtenOver (writtenOver noNote a) b ≡ writtenOver noNote b
+-- from nothing, whatever the edition is
+from-none : (spoken : Spoken) → writtenOver noNote spoken .values ≡ sets (replicate 40 0) 0 (spoken .layouts)
 unfolding writtenOver
-again a b h k = (λ i. record { count = length b; values = over-over (noNote .values) a b h (let e = forty-zeros in omega arith) i })
+from-none spoken =
+    pick-case (λ (v : List ℕ). sets v 0 (spoken .layouts) ≡ sets (replicate 40 0) 0 (spoken .layouts)) (eqb 0 (spoken .edition)) (replicate 40 0) (replicate 40 0)
+    (λ t. refl) (λ t. refl)
 
-module _ (x : View) (room : length (x .notes) ≡ 20) (few : (j : ℕ) → length (valuesOf (x .notes) j) ≤ 40) where
+-- written over another edition, or over layouts that are no more
+again : (a b : Spoken) → (a .edition ≡ b .edition → length (a .layouts) ≤ length (b .layouts)) → length (b .layouts) ≤ 40
+    → writtenOver (writtenOver noNote a) b ≡ writtenOver noNote b
+unfolding writtenOver
+again a b h k = (λ i. record { edition = b .edition; count = length (b .layouts); values = both i })
+  where
+    both : writtenOver (writtenOver noNote a) b .values ≡ writtenOver noNote b .values
+    both =
+        ⊎-elim
+        (λ e.
+        ap (λ (v : List ℕ). sets v 0 (b .layouts)) (under-same (writtenOver noNote a) (b .edition) e ∙ from-none a)
+        ∙ over-over (replicate 40 0) (a .layouts) (b .layouts) (h e) (let l = forty-zeros in omega arith) ∙ sym (from-none b))
+        (λ n. ap (λ (v : List ℕ). sets v 0 (b .layouts)) (under-other (writtenOver noNote a) (b .edition) n) ∙ sym (from-none b))
+        (equal-or-not (a .edition) (b .edition))
+
+module _ (x : View) (room : length (x .notes) ≡ 20) (few : (j : ℕ) → length (spokenBy (x .notes) j .layouts) ≤ 40) where
   -- what is shown says what the rule's record says
   pub view-shown : viewOf (shown x) ≡ x
-  unfolding viewOf valuesOf
+  unfolding viewOf spokenBy
   view-shown = (λ i. record { state = shown-state x i; round = shown-round x i; notes = same i })
     where
-      same : map valuesIn (shown x .notes) ≡ x .notes
+      same : map spokenIn (shown x .notes) ≡ x .notes
       same =
-          ext-getD [] (map valuesIn (shown x .notes)) (x .notes) (length-map (shown x .notes) valuesIn ∙ shown-whole x .twenty ∙ sym room)
+          ext-getD nothingSaid (map spokenIn (shown x .notes)) (x .notes) (length-map (shown x .notes) spokenIn ∙ shown-whole x .twenty ∙ sym room)
           (λ j k.
-          let l : j < 20 = subst (λ (m : ℕ). j < m) (length-map (shown x .notes) valuesIn ∙ shown-whole x .twenty) k in
-          view-values (shown x .notes) j ∙ ap valuesIn (shown-note x j l) ∙ written-says noNote forty-zeros (valuesOf (x .notes) j) (few j))
+          let l : j < 20 = subst (λ (m : ℕ). j < m) (length-map (shown x .notes) spokenIn ∙ shown-whole x .twenty) k in
+          view-spoken (shown x .notes) j ∙ ap spokenIn (shown-note x j l) ∙ written-says noNote forty-zeros (spokenBy (x .notes) j) (few j))
 
   -- what is shown in the place of what is shown
-  pub shown-over : (heard : ℕ → Bool) (y : View) → ((j : ℕ) → heard j ≡ false → valuesOf (y .notes) j ≡ valuesOf (x .notes) j)
-      → ((j : ℕ) → length (valuesOf (x .notes) j) ≤ length (valuesOf (y .notes) j)) → ((j : ℕ) → length (valuesOf (y .notes) j) ≤ 40)
+  pub shown-over : (heard : ℕ → Bool) (y : View) → ((j : ℕ) → heard j ≡ false → spokenBy (y .notes) j ≡ spokenBy (x .notes) j)
+      → ((j : ℕ) → spokenBy (x .notes) j .edition ≡ spokenBy (y .notes) j .edition → length (spokenBy (x .notes) j .layouts) ≤ length (spokenBy (y .notes) j .layouts))
+      → ((j : ℕ) → length (spokenBy (y .notes) j .layouts) ≤ 40)
       → shownOver heard (shown x) y ≡ shown y
   unfolding shownOver shown
   shown-over heard y unheard longer fits = (λ i. record { state = y .state; round = y .round; notes = same i })
     where
-      row : (j : ℕ) → j < 20 → noteOf (shown y .notes) j ≡ pick (heard j) (writtenOver (noteOf (shown x .notes) j) (valuesOf (y .notes) j)) (noteOf (shown x .notes) j)
+      row : (j : ℕ) → j < 20 → noteOf (shown y .notes) j ≡ pick (heard j) (writtenOver (noteOf (shown x .notes) j) (spokenBy (y .notes) j)) (noteOf (shown x .notes) j)
       row j k =
           shown-note y j k
           ∙ ⊎-elim
           (λ h.
-          sym (again (valuesOf (x .notes) j) (valuesOf (y .notes) j) (longer j) (fits j))
-          ∙ ap (λ (m : Note). writtenOver m (valuesOf (y .notes) j)) (sym (shown-note x j k))
+          sym (again (spokenBy (x .notes) j) (spokenBy (y .notes) j) (longer j) (fits j))
+          ∙ ap (λ (m : Note). writtenOver m (spokenBy (y .notes) j)) (sym (shown-note x j k))
           ∙ sym (pick-yes _ _ _ h))
           (λ h. ap (writtenOver noNote) (unheard j h) ∙ sym (shown-note x j k) ∙ sym (pick-no _ _ _ h))
           (decide (heard j))

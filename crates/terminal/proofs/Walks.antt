@@ -13,31 +13,26 @@ use lib.Seq.{take-suc}
 use borrow.Author.Tests.{ltb-true, leb-true, eqb-true, eq-eqb}
 use Rattle.sets.specs.Tests.{_or_, _implies_}
 use Rattle.sets.specs.Sets.{mem, within}
-use Rattle.sets.proofs.Bools.{and-l, and-r, implies-e, not-no, pick-yes, pick-no}
+use Rattle.sets.proofs.Bools.{and-l, and-r, implies-e, not-no, or-code, pick-yes, pick-no}
 use Rattle.sets.proofs.Laws.{all-at, mem-below}
 use Rattle.sets.proofs.Causes.{cause-none}
 use Rattle.quorum.specs.declared.Bound.{Bound}
 use Rattle.quorum.specs.Quorum.{inRange, others}
 use Rattle.terminal.specs.declared.State.the-variants.{Taken}
 use Rattle.terminal.specs.declared.Record.{Record}
-use Rattle.terminal.specs.Rule.{among, lesser, least, leastOf, taking, step}
+use Rattle.terminal.specs.Rule.{among, lesser, least, leastOf, step}
 use Rattle.terminal.specs.Shown.{noteOf, viewOf, shownOver}
-use Rattle.terminal.specs.Answer.{countsSound, recordSound, causeOf, recordAfter}
+use Rattle.terminal.specs.Answer.{countsSound, recordSound, causeOf, recordAfter, issueCause, recordIssued}
 use Rattle.terminal.proofs.Values.{among-last}
 
 -- ---- a value among the first i
 
 pub among-turn : (v i : ℕ) (found : Bool) (values : List ℕ) → i < length values → found ≡ among v (take i values)
     → (found || eqb (getD values i 0) v) ≡ among v (take (i + 1) values)
-unfolding _or_
 among-turn v i found values k e =
-    ap (λ (b : Bool). b || eqb (getD values i 0) v) e ∙ joined (among v (take i values)) (eqb (getD values i 0) v)
+    ap (λ (b : Bool). b || eqb (getD values i 0) v) e ∙ or-code (among v (take i values)) (eqb (getD values i 0) v)
     ∙ sym (among-last v (getD values i 0) (take i values))
     ∙ ap (among v) (sym (take-suc values i 0 k) ∙ ap (λ (m : ℕ). take m values) (sym (add-one i)))
-  where
-    joined : (a b : Bool) → (a || b) ≡ (a or b)
-    joined true b = refl
-    joined false b = refl
 
 -- ---- the lesser of two values, where 0 is none
 
@@ -116,13 +111,6 @@ least-of-turn i best next value values k p q =
     (λ m. lesser (p m) (q m)) ∙ sym (least-of-last value (take i values) (getD values i 0))
     ∙ ap (leastOf value) (sym (take-suc values i 0 k) ∙ ap (λ (m : ℕ). take m values) (sym (add-one i)))
 
--- ---- a value that was chosen is taken
-
-pub taking-some : (round v : ℕ) → (v ≡ 0 → ⊥) → taking round v ≡ Taken round v
-unfolding taking
-taking-some round zero h = absurd (h refl)
-taking-some round (suc v) h = refl
-
 -- ---- where no cause of refusal applies, whoever is heard is of the site, and the round can be played
 
 pub accepted-hears : (n source : ℕ) (bound : Bound) (own heard : ℕ) (r : Record) (words : ℕ) → causeOf n source bound own heard r words ≡ 0 → (j : ℕ) → mem j heard ≡ true → j < n
@@ -163,10 +151,21 @@ accepted-plays n source bound own heard r words h =
 
 module _ (n source : ℕ) (bound : Bound) (own heard : ℕ) (r : Record) (said : List ℕ) where
   pub after-accepted : 0 ≡ causeOf n source bound own heard r (length said)
-      → shownOver (λ j. mem j heard) r (step n source bound heard (λ j. getD said j 0) (viewOf r)) ≡ recordAfter n source bound own heard r said
+      → shownOver (λ j. mem j heard) r (step n source bound own heard (λ j. getD said j 0) (viewOf r)) ≡ recordAfter n source bound own heard r said
   unfolding recordAfter
   after-accepted h = sym (pick-yes _ _ _ (eq-eqb _ _ (sym h)))
 
   pub after-refused : (k : ℕ) → k ≡ causeOf n source bound own heard r (length said) → eqb k 0 ≡ false → r ≡ recordAfter n source bound own heard r said
   unfolding recordAfter
   after-refused k h t = sym (pick-no _ _ _ (ap (λ (x : ℕ). eqb x 0) (sym h) ∙ t))
+
+-- ---- the office's notice likewise
+
+module _ (r : Record) (x : ℕ) where
+  pub issue-accepted : 0 ≡ issueCause r x → record { state = Taken (r .round) x; round = r .round; notes = r .notes } ≡ recordIssued r x
+  unfolding recordIssued
+  issue-accepted h = sym (pick-yes _ _ _ (eq-eqb _ _ (sym h)))
+
+  pub issue-refused : (k : ℕ) → k ≡ issueCause r x → eqb k 0 ≡ false → r ≡ recordIssued r x
+  unfolding recordIssued
+  issue-refused k h t = sym (pick-no _ _ _ (ap (λ (m : ℕ). eqb m 0) (sym h) ∙ t))

@@ -18,10 +18,11 @@ pub record SameHeard (heard : ℕ) (a b : List ℕ) : Type 0 where
   pub long : length a ≡ length b
   pub entries : (j : ℕ) → mem j heard ≡ true → getD a j 0 ≡ getD b j 0
 
--- two records of one state and round whose notes of the heard terminals have the same count and the same values
+-- two records of one state and round whose notes of the heard terminals have the same edition, the same count and the same layouts
 pub record SameRecord (heard : ℕ) (a b : Record) : Type 0 where
   pub state : a .state ≡ b .state
   pub round : a .round ≡ b .round
+  pub editions : (j : ℕ) → j < mostTerminals → mem j heard ≡ true → noteOf (a .notes) j .edition ≡ noteOf (b .notes) j .edition
   pub counts : (j : ℕ) → j < mostTerminals → mem j heard ≡ true → noteOf (a .notes) j .count ≡ noteOf (b .notes) j .count
   pub values : (j : ℕ) → j < mostTerminals → mem j heard ≡ true → valuesIn (noteOf (a .notes) j) ≡ valuesIn (noteOf (b .notes) j)
 
@@ -33,6 +34,11 @@ pub record UnheardIgnored (n source : ℕ) (bound : Bound) (own heard : ℕ) : T
   -- the note of a terminal that is not heard stays, whatever its count
   pub unchanged : (a : Record) (said : List ℕ) (j : ℕ) → j < mostTerminals → mem j heard ≡ false
       → noteOf (recordAfter n source bound own heard a said .notes) j ≡ noteOf (a .notes) j
-  -- of a note only the count and the place after the values that it had change
-  pub places : (a : Record) → Whole (a .notes) → (said : List ℕ) (j i : ℕ) → j < mostTerminals → (i ≡ noteOf (a .notes) j .count → ⊥)
+  -- of a note whose edition stays only the count and the place after the layouts that it had change
+  pub places : (a : Record) → Whole (a .notes) → (said : List ℕ) (j i : ℕ) → j < mostTerminals
+      → noteOf (recordAfter n source bound own heard a said .notes) j .edition ≡ noteOf (a .notes) j .edition → (i ≡ noteOf (a .notes) j .count → ⊥)
       → getD (noteOf (recordAfter n source bound own heard a said .notes) j .values) i 0 ≡ getD (noteOf (a .notes) j .values) i 0
+  -- of one whose edition rises every place after the first is 0
+  pub wiped : (a : Record) → Whole (a .notes) → (said : List ℕ) (j i : ℕ) → j < mostTerminals
+      → (noteOf (recordAfter n source bound own heard a said .notes) j .edition ≡ noteOf (a .notes) j .edition → ⊥) → (i ≡ 0 → ⊥)
+      → getD (noteOf (recordAfter n source bound own heard a said .notes) j .values) i 0 ≡ 0

@@ -11,9 +11,10 @@ use Rattle.sets.specs.Tests.{_and_, pick}
 use Rattle.sets.specs.Sets.{Terminal, Set, mem, mask}
 use Rattle.quorum.specs.declared.Bound.{Bound}
 use Rattle.quorum.specs.Quorum.{enough}
+use Rattle.quorum.specs.Notice.{Edition, Layout}
 use Rattle.quorum.specs.Words.{mostRounds}
 use Rattle.terminal.specs.declared.Note.{Note}
-use Rattle.terminal.specs.Rule.{Layout, among}
+use Rattle.terminal.specs.Rule.{among}
 use Rattle.terminal.specs.Shown.{noteOf, valuesIn}
 
 -- the notes of a set of neighbours have no more values than there are places
@@ -53,3 +54,10 @@ fromFirst n bound notes firsts single fickle j =
     pick (mem j single)
     (ifEnough bound (bitOr (sameIn n firsts single (getD firsts j 0)) (votersIn n notes fickle (getD firsts j 0))) (getD firsts j 0))
     0
+
+-- those of a set whose note has this edition, and those whose note has a higher one
+unfoldable pub speakersIn : (n : ℕ) (notes : List Note) (heard : Set) (edition : Edition) → Set
+speakersIn n notes heard edition = mask n (λ j. eqb (noteOf notes j .edition) edition and mem j heard)
+
+unfoldable pub aboveIn : (n : ℕ) (notes : List Note) (heard : Set) (held : Edition) → Set
+aboveIn n notes heard held = mask n (λ j. ltb held (noteOf notes j .edition) and mem j heard)

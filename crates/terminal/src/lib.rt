@@ -1,31 +1,35 @@
-// One terminal: its record, and the step that plays one round of it. All that the firmware ships.
+// One terminal: its record, the step that plays one round of it, and what its office issues. All that the
+// firmware ships.
 mod choice;
+mod choosing;
 
 ghost use mathlib.Core.Path.{_≡_};
-ghost use mathlib.Core.Bool.{true};
+ghost use mathlib.Core.Bool.{true, not};
 ghost use mathlib.Core.List.{map};
 ghost use Prim.Native.Nat.{_+_, _<_, _≤_};
 ghost use lib.Dec.{leb};
-ghost use lib.ListN.{length, getD, set};
-ghost use Rattle.sets.specs.Tests.{_implies_};
+ghost use lib.ListN.{length, getD, set, replicate};
+ghost use Rattle.sets.specs.Tests.{_and_, _implies_};
 ghost use Rattle.sets.specs.Sets.{mem};
-ghost use Rattle.terminal.specs.Rule.{start, sourceStart, among, isNew, noted, choice, taking, step};
-ghost use Rattle.terminal.specs.Shown.{valuesIn, Whole, viewOf, noNote, notesOver, shownOver, shown, says};
+ghost use Rattle.terminal.specs.Rule.{start, sourceStart, among, inEdition, isNew, withNew, noted, heldBy, chosen, taking, step};
+ghost use Rattle.terminal.specs.Shown.{valuesIn, spokenIn, Whole, viewOf, writtenOver, noNote, notesOver, shownOver, shown, says};
 ghost use Rattle.terminal.specs.Votes.{HavePlaces, HaveRoom};
-ghost use Rattle.terminal.specs.Answer.{numberOf, stateSound, countsSound, recordSound, causeOf, recordAfter};
+ghost use Rattle.terminal.specs.Answer.{numberOf, stateSound, countsSound, recordSound, causeOf, recordAfter, issueCause, recordIssued};
 use quorum::Bound;
 
-// A terminal waits, or it has taken a layout in a round and keeps both.
+// A terminal waits, or it has taken a notice in a round and keeps both. A notice is one number, its
+// edition times 65,536 and its layout.
 pub enum State {
     Waiting,
-    Taken(u8, u16),
+    Taken(u8, u32),
 }
 
-// What a neighbour has said: the first `count` places are its different values, in the order in
-// which they were first said. The places after them are not looked at. Laid out as C has it, for
-// boards.
+// What a neighbour has said: the highest edition, and in the first `count` places its different
+// layouts in that edition, in the order in which they were first said. The places after them are not
+// looked at. Laid out as C has it, for boards.
 #[repr(C)]
 pub struct Note {
+    pub edition: u16,
     pub count: u8,
     pub values: [u16; 40],
 }
@@ -42,11 +46,13 @@ pub enum Outcome {
     WrongRange,
     WrongLink,
     WrongGroups,
+    WrongLayout,
+    WrongEdition,
     WrongLength,
     WrongRecord,
 }
 
-// Document 01's number of the outcome, 0 where nothing is refused.
+// The documents' number of the outcome, 0 where nothing is refused.
 pub fn number(o: Outcome) -> u8
     ensures { λ r. ⌜ r ≡ numberOf o ⌝ }
 {
@@ -55,6 +61,8 @@ pub fn number(o: Outcome) -> u8
         Outcome::WrongRange => 4,
         Outcome::WrongLink => 5,
         Outcome::WrongGroups => 17,
+        Outcome::WrongLayout => 9,
+        Outcome::WrongEdition => 16,
         Outcome::WrongLength => 12,
         Outcome::WrongRecord => 13,
     }
@@ -70,6 +78,7 @@ fn no_note() -> Note
     ensures { λ r. ⌜ r ≡ noNote ⌝ }
 {
     Note {
+        edition: 0,
         count: 0,
         values: [0u16; 40],
     }
@@ -86,20 +95,20 @@ pub fn start() -> Record
     }
 }
 
-pub fn source_start(value: u16) -> Record
-    ensures { λ r. ⌜ r ≡ shown (sourceStart value) ⌝ }
+pub fn source_start(notice: u32) -> Record
+    ensures { λ r. ⌜ r ≡ shown (sourceStart notice) ⌝ }
 {
     let nothing = no_note();
     Record {
-        state: State::Taken(0, value),
+        state: State::Taken(0, notice),
         round: 0,
         notes: [nothing; 20],
     }
 }
 
 impl Note {
-    // The neighbour has said the value. The loop has no early end, so that the compiler can compare
-    // several places at once.
+    // The neighbour has said the layout in its edition. The loop has no early end, so that the compiler
+    // can compare several places at once.
     pub(crate) fn has(self, value: u16) -> bool
         requires { ⌜ self .count ≤ 40 ⌝ }
         ensures { λ r. ⌜ r ≡ among value (valuesIn self) ⌝ }
@@ -115,43 +124,85 @@ impl Note {
         found
     }
 
-    // The value comes after those that are there.
-    fn with(mut self, value: u16) -> Note
+    // A word of a higher edition is new, one of a lower edition is not, and one of its own if the
+    // layout is.
+    fn lacks(self, edition: u16, layout: u16) -> bool
+        requires { ⌜ self .count ≤ 40 ⌝ }
+        ensures { λ r. ⌜ r ≡ leb (self .edition) edition and not (among layout (inEdition edition (spokenIn self))) ⌝ }
+    {
+        if self.edition < edition {
+            return true;
+        }
+        if self.edition == edition {
+            return !self.has(layout);
+        }
+        false
+    }
+
+    // The layout comes after those that are there.
+    fn with(mut self, layout: u16) -> Note
         requires { ⌜ self .count < 40 ⌝ }
-        ensures { λ r. ⌜ r ≡ record { count = self .count + 1; values = set (self .values) (self .count) value } ⌝ }
+        ensures { λ r. ⌜ r ≡ record { edition = self .edition; count = self .count + 1; values = set (self .values) (self .count) layout } ⌝ }
     {
         let at = self.count as usize;
-        self.values[at] = value;
+        self.values[at] = layout;
         self.count = self.count + 1;
         self
     }
 }
 
-// A word that is new of a neighbour: it is heard, it has said a value, and not this one before.
-fn is_new(hears: bool, note: Note, said: u16) -> bool
+// The note of a neighbour that has said one layout in an edition.
+fn first_note(edition: u16, layout: u16) -> Note
+    ensures { λ r. ⌜ r ≡ record { edition = edition; count = 1; values = set (replicate 40 0) 0 layout } ⌝ }
+{
+    let mut values = [0u16; 40];
+    values[0] = layout;
+    Note {
+        edition: edition,
+        count: 1,
+        values: values,
+    }
+}
+
+// The note after a word that is new: a higher edition wipes the lower one.
+fn noted(note: Note, said: u32) -> Note
+    requires { ⌜ (note .count < 40) × (length (note .values) ≡ 40) ⌝ }
+    ensures { λ r. ⌜ r ≡ writtenOver note (withNew (spokenIn note) said) ⌝ }
+{
+    let edition = quorum::edition_of(said);
+    let layout = quorum::layout_of(said);
+    if note.edition == edition {
+        return note.with(layout);
+    }
+    first_note(edition, layout)
+}
+
+// A word that is new of a neighbour: it is heard, the word is no silence, and its note lacks it.
+fn is_new(hears: bool, note: Note, said: u32) -> bool
     requires { ⌜ («hears» ≡ true → note .count ≤ 40) ⌝ }
-    ensures { λ r. ⌜ r ≡ isNew «hears» (valuesIn note) said ⌝ }
+    ensures { λ r. ⌜ r ≡ isNew «hears» (spokenIn note) said ⌝ }
 {
     if hears {
-        if said != 0 {
-            return !note.has(said);
+        if quorum::silent(said) {
+            return false;
         }
+        return note.lacks(quorum::edition_of(said), quorum::layout_of(said));
     }
     false
 }
 
 impl Record {
     // What is new of each neighbour it hears. Each arm ends the turn, so that none joins another.
-    fn note(mut self, n: usize, heard: u32, said: &[u16]) -> Record
+    fn note(mut self, n: usize, heard: u32, said: &[u32]) -> Record
         requires { ⌜ (n ≤ 20) × (n ≤ length (now said)) × Whole (self .notes) × HaveRoom heard (self .notes) ⌝ }
-        ensures { λ r. ⌜ r ≡ record { state = self .state; round = self .round; notes = notesOver (λ j. mem j heard) (self .notes) (noted n (λ j. mem j heard) (λ j. getD (now (said .entry)) j 0) (map valuesIn (self .notes))) } ⌝ }
+        ensures { λ r. ⌜ r ≡ record { state = self .state; round = self .round; notes = notesOver (λ j. mem j heard) (self .notes) (noted n (λ j. mem j heard) (λ j. getD (now (said .entry)) j 0) (map spokenIn (self .notes))) } ⌝ }
     {
         let mut j: usize = 0;
         while j < n {
             let word = said[j];
             let note = self.notes[j];
             if is_new(sets::member(heard, j), note, word) {
-                self.notes[j] = note.with(word);
+                self.notes[j] = noted(note, word);
                 j += 1;
             } else {
                 j += 1;
@@ -160,23 +211,24 @@ impl Record {
         self
     }
 
-    // It takes what it chose, in the round that its record shows.
+    // It takes what it chose, in the round that its record shows; where it chose nothing its state stays.
     fn decide(mut self, n: usize, source: usize, bound: Bound, heard: u32) -> Record
         requires { ⌜ (n ≤ 20) × (source < n) × Whole (self .notes) × HavePlaces heard (self .notes) ⌝ }
-        ensures { λ r. ⌜ r ≡ record { state = taking (self .round) (choice n source bound heard (map valuesIn (self .notes))); round = self .round; notes = self .notes } ⌝ }
+        ensures { λ r. ⌜ r ≡ record { state = taking (self .round) (self .state) (chosen n source bound heard (map spokenIn (self .notes)) (heldBy (self .state))); round = self .round; notes = self .notes } ⌝ }
     {
         let notes = self.notes;
         let round = self.round;
-        let value = choice::choice(notes, n, source, bound, heard);
-        if value == 0 {
+        let state = self.state;
+        let notice = choosing::chosen(notes, n, source, bound, heard, held(state));
+        if notice == 0 {
             return Record {
-                state: State::Waiting,
+                state: state,
                 round: round,
                 notes: notes,
             };
         }
         Record {
-            state: State::Taken(round, value),
+            state: State::Taken(round, notice),
             round: round,
             notes: notes,
         }
@@ -191,16 +243,26 @@ impl Record {
     }
 }
 
+// The edition that a terminal holds, 0 while it waits.
+fn held(state: State) -> u16
+    ensures { λ r. ⌜ r ≡ heldBy state ⌝ }
+{
+    match state {
+        State::Waiting => 0,
+        State::Taken(_, notice) => quorum::edition_of(notice),
+    }
+}
+
 fn state_sound(state: State, is_source: bool, round: u8) -> bool
     ensures { λ r. ⌜ r ≡ stateSound state «is_source» round ⌝ }
 {
     match state {
         State::Waiting => !is_source,
-        State::Taken(at, value) => {
+        State::Taken(at, notice) => {
             if round < at {
                 return false;
             }
-            value != 0
+            !quorum::silent(notice)
         }
     }
 }
@@ -280,17 +342,25 @@ fn first_cause(
     Outcome::WrongRange
 }
 
-// The round of a record that can be stepped. It is raised first: a take keeps the raised number.
-fn play(n: usize, source: usize, bound: Bound, heard: u32, before: Record, said: &[u16]) -> Record
+// The round of a record that can be stepped. It is raised first: a take keeps the raised number. The
+// source takes only what its office issues.
+fn play(
+    n: usize,
+    source: usize,
+    bound: Bound,
+    own: usize,
+    heard: u32,
+    before: Record,
+    said: &[u32],
+) -> Record
     requires { ⌜ (n ≤ 20) × (source < n) × (n ≤ length (now said)) × (before .round < 40) × Whole (before .notes) × HaveRoom heard (before .notes) ⌝ }
-    ensures { λ r. ⌜ r ≡ shownOver (λ j. mem j heard) before (step n source bound heard (λ j. getD (now (said .entry)) j 0) (viewOf before)) ⌝ }
+    ensures { λ r. ⌜ r ≡ shownOver (λ j. mem j heard) before (step n source bound own heard (λ j. getD (now (said .entry)) j 0) (viewOf before)) ⌝ }
 {
-    let state = before.state;
-    let raised = before.advance();
-    match state {
-        State::Waiting => raised.note(n, heard, said).decide(n, source, bound, heard),
-        State::Taken(_, _) => raised,
+    let heard_all = before.advance().note(n, heard, said);
+    if own == source {
+        return heard_all;
     }
+    heard_all.decide(n, source, bound, heard)
 }
 
 // One round of terminal `own`, which hears the set `heard`; said[j] is what terminal j said, 0 for
@@ -302,7 +372,7 @@ pub fn step(
     own: usize,
     heard: u32,
     before: Record,
-    said: &[u16],
+    said: &[u32],
 ) -> Stepped
     ensures { λ r. ⌜ (numberOf (r .outcome) ≡ causeOf n source bound own heard before (length (now (said .entry)))) × (r .after ≡ recordAfter n source bound own heard before (now (said .entry))) ⌝ }
 {
@@ -310,7 +380,7 @@ pub fn step(
     if let Outcome::Accepted = outcome {
         return Stepped {
             outcome: Outcome::Accepted,
-            after: play(n, source, bound, heard, before, said),
+            after: play(n, source, bound, own, heard, before, said),
         };
     }
     Stepped {
@@ -319,18 +389,71 @@ pub fn step(
     }
 }
 
-// What the terminal says in the round after the one that its record shows: its value if it took in
+// The record is that of an office's terminal, at most at round 40.
+fn office_sound(before: Record) -> bool
+    ensures { λ r. ⌜ r ≡ leb (before .round) 40 and stateSound (before .state) true (before .round) ⌝ }
+{
+    let round = before.round;
+    let state = before.state;
+    if round <= 40 {
+        return state_sound(state, true, round);
+    }
+    false
+}
+
+// The first cause that refuses a later notice.
+fn issue_cause(before: Record, notice: u32) -> Outcome
+    ensures { λ r. ⌜ numberOf r ≡ issueCause before notice ⌝ }
+{
+    let state = before.state;
+    if quorum::layout_of(notice) == 0 {
+        return Outcome::WrongLayout;
+    }
+    if held(state) < quorum::edition_of(notice) {
+        if office_sound(before) {
+            return Outcome::Accepted;
+        }
+        return Outcome::WrongRecord;
+    }
+    Outcome::WrongEdition
+}
+
+// The source takes a later notice of its office, in the round that its record shows. A refused one
+// leaves the record as it went in.
+pub fn issue(before: Record, notice: u32) -> Stepped
+    ensures { λ r. ⌜ (numberOf (r .outcome) ≡ issueCause before notice) × (r .after ≡ recordIssued before notice) ⌝ }
+{
+    let outcome = issue_cause(before, notice);
+    let round = before.round;
+    let notes = before.notes;
+    if let Outcome::Accepted = outcome {
+        return Stepped {
+            outcome: Outcome::Accepted,
+            after: Record {
+                state: State::Taken(round, notice),
+                round: round,
+                notes: notes,
+            },
+        };
+    }
+    Stepped {
+        outcome: outcome,
+        after: before,
+    }
+}
+
+// What the terminal says in the round after the one that its record shows: its notice if it took in
 // that round, else 0. Any record has an answer.
-pub fn says(record: Record) -> u16
+pub fn says(record: Record) -> u32
     ensures { λ r. ⌜ r ≡ says «record» ⌝ }
 {
     let state = record.state;
     let round = record.round;
     match state {
         State::Waiting => 0,
-        State::Taken(at, value) => {
+        State::Taken(at, notice) => {
             if at == round {
-                return value;
+                return notice;
             }
             0
         }

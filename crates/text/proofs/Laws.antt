@@ -43,7 +43,7 @@ take-more (suc m) (x ∷ xs) ys = ap (λ (l : List ℕ). x ∷ l) (take-more m x
 pub then : (xs part rest : List ℕ) {mid last : List ℕ} → mid ≡ joined xs part → last ≡ joined mid rest → last ≡ joined xs (part ++ rest)
 unfolding joined
 then xs part rest a b =
-    b ∙ ap (λ (l : List ℕ). joined l rest) a ∙ take-more 272 (xs ++ part) rest ∙ ap (take 272) (append-assoc xs part rest)
+    b ∙ ap (λ (l : List ℕ). joined l rest) a ∙ take-more 344 (xs ++ part) rest ∙ ap (take 344) (append-assoc xs part rest)
 
 pub byte-joined : (xs : List ℕ) (b x y : ℕ) {mid last : List ℕ} → x ≡ characterOf (b / 16) → y ≡ characterOf (b % 16) → mid ≡ joined xs (x ∷ [])
     → last ≡ joined mid (y ∷ []) → last ≡ joined xs (hexByte b)
@@ -51,28 +51,28 @@ unfolding hexByte
 byte-joined xs b x y e f a c = then xs (x ∷ []) (y ∷ []) a c ∙ ap₂ (λ (i j : ℕ). joined xs (i ∷ j ∷ [])) e f
 
 -- a text that has room for all that it is given has it all
-pub room-for : (xs part : List ℕ) → length xs + length part ≤ 272 → joined xs part ≡ xs ++ part
+pub room-for : (xs part : List ℕ) → length xs + length part ≤ 344 → joined xs part ≡ xs ++ part
 unfolding joined
-room-for xs part h = take-all 272 (xs ++ part) (omega (arith, length-append xs part))
+room-for xs part h = take-all 344 (xs ++ part) (omega (arith, length-append xs part))
 
-pub whole : {xs line last : List ℕ} → xs ≡ [] → last ≡ joined xs line → length line ≤ 272 → last ≡ line
+pub whole : {xs line last : List ℕ} → xs ≡ [] → last ≡ joined xs line → length line ≤ 344 → last ≡ line
 whole {xs} {line} {last} e a h = a ∙ ap (λ (l : List ℕ). joined l line) e ∙ room-for [] line (omega arith)
 
-module _ (bytes : List ℕ) (len b : ℕ) (room : length bytes ≡ 272) where
-  pub grown : len < 272 → take (len + 1) (set bytes len b) ≡ joined (take len bytes) (b ∷ [])
+module _ (bytes : List ℕ) (len b : ℕ) (room : length bytes ≡ 344) where
+  pub grown : len < 344 → take (len + 1) (set bytes len b) ≡ joined (take len bytes) (b ∷ [])
   grown h =
       let k : len < length bytes = omega arith in
-      let l : length (take len bytes) + 1 ≤ 272 = omega (arith, length-take len bytes) in
+      let l : length (take len bytes) + 1 ≤ 344 = omega (arith, length-take len bytes) in
       ap (λ (n : ℕ). take n (set bytes len b)) (add-one len) ∙ take-suc-set bytes len b k ∙ sym (room-for (take len bytes) (b ∷ []) l)
 
-  pub full : 272 ≤ len → take len bytes ≡ joined (take len bytes) (b ∷ [])
+  pub full : 344 ≤ len → take len bytes ≡ joined (take len bytes) (b ∷ [])
   unfolding joined
   full h =
       let all : take len bytes ≡ bytes = take-all len bytes (omega arith) in
-      let k : 272 ≤ length bytes = omega arith in
+      let k : 344 ≤ length bytes = omega arith in
       all
-      ∙ sym (take-all 272 bytes (omega arith))
-      ∙ sym (take-append-le 272 bytes (b ∷ []) k)
+      ∙ sym (take-all 344 bytes (omega arith))
+      ∙ sym (take-append-le 344 bytes (b ∷ []) k)
       ∙ ap (λ (l : List ℕ). joined l (b ∷ [])) (sym all)
 
 -- ---- one byte of a copy

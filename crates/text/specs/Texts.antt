@@ -11,9 +11,9 @@ use Rattle.text.specs.declared.Written.{Written}
 
 -- ---- a text put together
 
--- it has room for so many bytes; a line of 13 for each of 20 terminals is 260
+-- it has room for so many bytes; a line of 17 for each of 20 terminals is 340
 abbrev pub textRoom : ℕ
-textRoom = 272
+textRoom = 344
 
 -- the bytes that it holds
 unfoldable pub held : Text → List ℕ

@@ -10,7 +10,7 @@ ghost use Rattle.text.specs.Digits.{hexByte, hexPair, hexTriple};
 ghost use Rattle.text.specs.Texts.{held, joined, writtenOf, putInto};
 
 // The bytes that a text has room for.
-const ROOM: usize = 272;
+const ROOM: usize = 344;
 
 pub struct Text {
     pub bytes: [u8; ROOM],

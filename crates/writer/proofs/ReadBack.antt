@@ -32,7 +32,7 @@ use Rattle.frames.specs.declared.Stage.{Stage}
 use Rattle.frames.specs.declared.Stage.the-variants.{Links, Grouped}
 use Rattle.frames.specs.declared.Progress.{Progress}
 use Rattle.frames.specs.Lines.{lastLine, linesFrom}
-use Rattle.frames.specs.Reading.{mostBytes, planKinds, archiveReader, isAt, inPlan, nothingRead, noWords, kindRead, listsNone, headCause, linkCause, groupCause, causeIn, endsLinks, linksCause, endCause, linked, grouped, after, wordsAfter, Reading, told, reading, planReading, archiveReading}
+use Rattle.frames.specs.Reading.{mostBytes, planKinds, archiveReader, isAt, inPlan, planned, nothingRead, Lists, nothingSaid, kindRead, listsNone, headCause, linkCause, groupCause, causeIn, endsLinks, linksCause, endCause, linked, grouped, after, saidAfter, Reading, told, reading, planReading, archiveReading}
 use Rattle.frames.proofs.Archive.{kept-line, kept-end, beside}
 use Rattle.writer.specs.Written.{boundByte, headLine, linkLine, linkLines, groupLine, groupLines, planText}
 use Rattle.writer.proofs.Digits.{headDigits, linkDigits, groupDigits, head-frame, link-frame, group-frame}
@@ -126,13 +126,7 @@ abbrev noneYet : Plan → Bound
 noneYet p = record { kind = kindRead (boundByte (p .bound .kind)); groups = noGroups }
 
 abbrev progressWith : Plan → List ℕ → Progress
-progressWith p rows = record {
-  stage = Links;
-  plan = record { n = p .n; source = p .source; bound = noneYet p; rows = rows };
-  faulty = 0;
-  value = 0;
-  rounds = 0;
-}
+progressWith p rows = planned Links (record { n = p .n; source = p .source; bound = noneYet p; rows = rows }) 0
 
 -- the head's last byte, and what is read of it
 pub byte-low : (kind : BoundKind) (n : ℕ) → n ≤ 20 → ((f : ℕ) → kind ≡ Most f → f < n) → boundByte kind < 256
@@ -179,40 +173,40 @@ module _ (p : Plan) (s : Sound p) where
       go a b k (inr h) = let z = mem-above 20 a (getD (p .rows) b 0) (row-lt b k) h in and-no-l _ _ z ∙ sym z
 
   -- a link at place k is not told yet, so it is accepted
-  link-accepted : (k : ℕ) (rows words : List ℕ) → Passed p k rows → (from to : ℕ) → 20 * from + to ≡ k → from < 20 → to < 20 → hears p to from ≡ true
-      → causeIn (progressWith p rows) words (Link from to) ≡ 0
+  link-accepted : (k : ℕ) (rows : List ℕ) (said : Lists) → Passed p k rows → (from to : ℕ) → 20 * from + to ≡ k → from < 20 → to < 20 → hears p to from ≡ true
+      → causeIn (progressWith p rows) said (Link from to) ≡ 0
   unfolding causeIn linkCause isAt hears heardBy
-  link-accepted k rows words passed from to here a b e =
+  link-accepted k rows said passed from to here a b e =
       let t : to < p .n = link-to from to b e in
       cause-later _ _ _ (not-yes refl)
       ∙ cause-later _ _ _
       (or-no _ _ (lt-leb (p .n) from (s .heard-below to from t e)) (or-no _ _ (lt-leb (p .n) to t) (ne-eqb from to (link-other from to b e))))
       ∙ cause-last _ _ (passed .bits from to (omega arith) b ∙ and-no-r _ _ (le-ltb (20 * from + to) k (omega arith)))
 
-  module _ (t : length (p .rows) ≡ 20) (words : List ℕ) where
+  module _ (t : length (p .rows) ≡ 20) (said : Lists) where
     link-told : (k j : ℕ) (rows rest : List ℕ) → Passed p k rows → (from to : ℕ) → 20 * from + to ≡ k → from < 20 → to < 20 → hears p to from ≡ true
-        → told archiveReader (progressWith p rows) words j (linesFrom [] (linkLine from to ++ rest))
-        ≡ told archiveReader (progressWith p (set rows to (with 32 (getD rows to 0) from))) words (j + 1) (linesFrom [] rest)
-    unfolding after linked wordsAfter heardBy endCause endsLinks pick
+        → told archiveReader (progressWith p rows) said j (linesFrom [] (linkLine from to ++ rest))
+        ≡ told archiveReader (progressWith p (set rows to (with 32 (getD rows to 0) from))) said (j + 1) (linesFrom [] rest)
+    unfolding after linked saidAfter heardBy endCause endsLinks pick
     link-told k j rows rest passed from to here a b e =
-        ap (told archiveReader (progressWith p rows) words j) (link-lines from to rest)
-        ∙ kept-line planKinds (progressWith p rows) words j (linkDigits from to) (linesFrom [] rest) (Link from to) (link-frame from to (omega arith) (omega arith)) refl
-        (link-accepted k rows words passed from to here a b e)
+        ap (told archiveReader (progressWith p rows) said j) (link-lines from to rest)
+        ∙ kept-line planKinds (progressWith p rows) said j (linkDigits from to) (linesFrom [] rest) (Link from to) (link-frame from to (omega arith) (omega arith)) refl
+        (link-accepted k rows said passed from to here a b e)
 
     -- from some line on, the file is what follows the links
     Then : List ℕ → Reading → Type 0
-    Then rest r = (i : ℕ) × (r ≡ told archiveReader (progressWith p (p .rows)) words i (linesFrom [] rest))
+    Then rest r = (i : ℕ) × (r ≡ told archiveReader (progressWith p (p .rows)) said i (linesFrom [] rest))
 
     links-told : (rest : List ℕ) (m k j : ℕ) (rows : List ℕ) → k + m ≡ 400 → Passed p k rows
-        → Then rest (told archiveReader (progressWith p rows) words j (linesFrom [] (linkLines p m k ++ rest)))
+        → Then rest (told archiveReader (progressWith p rows) said j (linesFrom [] (linkLines p m k ++ rest)))
     unfolding linkLines Then
     links-told rest zero k j rows e passed = (
       j,
-      ap (λ (r : List ℕ). told archiveReader (progressWith p r) words j (linesFrom [] rest))
+      ap (λ (r : List ℕ). told archiveReader (progressWith p r) said j (linesFrom [] rest))
           (all-passed rows t (subst (λ (i : ℕ). Passed p i rows) (omega arith) passed)),
     )
     links-told rest (suc m) k j rows e passed =
-        pick-case (λ (l : List ℕ). Then rest (told archiveReader (progressWith p rows) words j (linesFrom [] ((l ++ linkLines p m (suc k)) ++ rest))))
+        pick-case (λ (l : List ℕ). Then rest (told archiveReader (progressWith p rows) said j (linesFrom [] ((l ++ linkLines p m (suc k)) ++ rest))))
         (hears p (k % 20) (k / 20)) (linkLine (k / 20) (k % 20)) []
         (λ h.
         let here : 20 * (k / 20) + k % 20 ≡ k = omega arith in
@@ -222,27 +216,27 @@ module _ (p : Plan) (s : Sound p) where
         links-told rest m (suc k) (j + 1) (set rows (k % 20) (with 32 (getD rows (k % 20) 0) (k / 20))) (omega arith)
         (place-linked p k rows passed (k / 20) (k % 20) here b h) in (
           then .0,
-          ap (λ (l : List ℕ). told archiveReader (progressWith p rows) words j (linesFrom [] l)) (append-assoc (linkLine (k / 20) (k % 20)) (linkLines p m (suc k)) rest)
+          ap (λ (l : List ℕ). told archiveReader (progressWith p rows) said j (linesFrom [] l)) (append-assoc (linkLine (k / 20) (k % 20)) (linkLines p m (suc k)) rest)
               ∙ link-told k j rows (linkLines p m (suc k) ++ rest) passed (k / 20) (k % 20) here a b h
               ∙ then .1,
         ))
         (λ h. links-told rest m (suc k) j rows (omega arith) (place-skipped p k rows passed h))
 
-    head-told-cause : inRange (p .n) (p .source) (p .bound .kind) ≡ true → causeIn nothingRead words (Head (p .n) (p .source) (boundByte (p .bound .kind))) ≡ 0
+    head-told-cause : inRange (p .n) (p .source) (p .bound .kind) ≡ true → causeIn nothingRead said (Head (p .n) (p .source) (boundByte (p .bound .kind))) ≡ 0
     unfolding causeIn headCause isAt
     head-told-cause r =
         cause-later _ _ _ (not-yes refl)
         ∙ cause-last _ _ (not-yes (range-again (p .n) (p .source) (p .bound .kind) (λ f m. let l = s .f-below f m in let t = s .twenty in omega arith) r))
 
     head-told : (rest : List ℕ) → inRange (p .n) (p .source) (p .bound .kind) ≡ true
-        → told archiveReader nothingRead words 1 (linesFrom [] (headLine p ++ rest)) ≡ told archiveReader (progressWith p (replicate 20 0)) words 2 (linesFrom [] rest)
-    unfolding isAt after wordsAfter endCause endsLinks linksCause inPlan firstCause pick _and_ _or_
+        → told archiveReader nothingRead said 1 (linesFrom [] (headLine p ++ rest)) ≡ told archiveReader (progressWith p (replicate 20 0)) said 2 (linesFrom [] rest)
+    unfolding isAt after saidAfter endCause endsLinks linksCause inPlan firstCause pick _and_ _or_
     head-told rest r =
         let n : p .n < 256 = omega (arith, s .twenty) in
         let source : p .source < 256 = omega (arith, s .source-below) in
         let f : boundByte (p .bound .kind) < 256 = byte-low (p .bound .kind) (p .n) (s .twenty) (s .f-below) in
-        ap (told archiveReader nothingRead words 1) (head-lines p rest)
-        ∙ kept-line planKinds nothingRead words 1 (headDigits (p .n) (p .source) (boundByte (p .bound .kind))) (linesFrom [] rest)
+        ap (told archiveReader nothingRead said 1) (head-lines p rest)
+        ∙ kept-line planKinds nothingRead said 1 (headDigits (p .n) (p .source) (boundByte (p .bound .kind))) (linesFrom [] rest)
         (Head (p .n) (p .source) (boundByte (p .bound .kind))) (head-frame (p .n) (p .source) (boundByte (p .bound .kind)) n source f) refl
         (head-told-cause r)
 
@@ -296,46 +290,34 @@ module _ (p : Plan) (e : causeOf p ≡ 0) (u : length (p .bound .groups) ≡ 16)
       (λ b. pick-no _ _ _ b ∙ sym (eqb-true (groupAt (p .bound) j) 0 (sym (pick-no _ _ _ b) ∙ place)))
       (decide (ltb j (listed (p .bound .kind)))))
 
-  module _ (words : List ℕ) where
+  module _ (said : Lists) where
     -- i groups are known; the stage tells whether there is one
     abbrev progressAfter : Stage → ℕ → Progress
-    progressAfter stage i = record {
-      stage = stage;
-      plan = record { n = p .n; source = p .source; bound = record { kind = Groups i; groups = firstGroups p i }; rows = p .rows };
-      faulty = 0;
-      value = 0;
-      rounds = 0;
-    }
+    progressAfter stage i = planned stage (record { n = p .n; source = p .source; bound = record { kind = Groups i; groups = firstGroups p i }; rows = p .rows }) 0
 
     group-told : (stage : Stage) → inPlan (progressAfter stage 0) ≡ true → (i j : ℕ) (rest : List ℕ) → i < 16
-        → told archiveReader (progressAfter stage i) words j (linesFrom [] (groupLine (groupAt (p .bound) i) ++ rest))
-        ≡ told archiveReader (progressAfter Grouped (suc i)) words (j + 1) (linesFrom [] rest)
-    unfolding after grouped wordsAfter endCause endsLinks pick firstGroups causeIn groupCause inPlan isAt
+        → told archiveReader (progressAfter stage i) said j (linesFrom [] (groupLine (groupAt (p .bound) i) ++ rest))
+        ≡ told archiveReader (progressAfter Grouped (suc i)) said (j + 1) (linesFrom [] rest)
+    unfolding after grouped saidAfter endCause endsLinks pick firstGroups causeIn groupCause inPlan isAt
     group-told stage h i j rest k =
-        ap (told archiveReader (progressAfter stage i) words j) (group-lines (groupAt (p .bound) i) rest)
-        ∙ kept-line planKinds (progressAfter stage i) words j (groupDigits (groupAt (p .bound) i)) (linesFrom [] rest) (Group (groupAt (p .bound) i))
+        ap (told archiveReader (progressAfter stage i) said j) (group-lines (groupAt (p .bound) i) rest)
+        ∙ kept-line planKinds (progressAfter stage i) said j (groupDigits (groupAt (p .bound) i)) (linesFrom [] rest) (Group (groupAt (p .bound) i))
         (group-frame (groupAt (p .bound) i) (group-low p e i k)) refl
         (cause-later _ _ _ (not-yes (and-i _ _ h refl))
         ∙ cause-last _ _ (not-yes (and-i _ _ (lt-ltb i 16 k) (sound p e .group-others i k))))
-        ∙ ap (λ (c : ℕ). told archiveReader (record {
-          stage = Grouped;
-          plan = record { n = p .n; source = p .source; bound = record { kind = Groups c; groups = firstGroups p (suc i) }; rows = p .rows };
-          faulty = 0;
-          value = 0;
-          rounds = 0;
-        }) words (j + 1) (linesFrom [] rest)) (add-one i)
+        ∙ ap (λ (c : ℕ). told archiveReader (planned Grouped (record { n = p .n; source = p .source; bound = record { kind = Groups c; groups = firstGroups p (suc i) }; rows = p .rows }) 0) said (j + 1) (linesFrom [] rest)) (add-one i)
 
     groups-told : (m i j : ℕ) → suc i + m ≤ 16
-        → told archiveReader (progressAfter Grouped (suc i)) words j (linesFrom [] (groupLines (p .bound .groups) m (suc i)))
-        ≡ record { number = 0; line = 0; progress = progressAfter Grouped (suc i + m); words = words }
+        → told archiveReader (progressAfter Grouped (suc i)) said j (linesFrom [] (groupLines (p .bound .groups) m (suc i)))
+        ≡ record { number = 0; line = 0; progress = progressAfter Grouped (suc i + m); said = said }
     unfolding groupLines groupAt linesFrom lastLine inPlan isAt _or_
     groups-told zero i j h =
-        kept-end planKinds (progressAfter Grouped (suc i)) words j (ne-eqb (suc i) 0 (λ z. omega arith))
-        ∙ ap (λ (c : ℕ). record { number = 0; line = 0; progress = progressAfter Grouped c; words = words }) (sym (add-zero (suc i)))
+        kept-end planKinds (progressAfter Grouped (suc i)) said j (ne-eqb (suc i) 0 (λ z. omega arith))
+        ∙ ap (λ (c : ℕ). record { number = 0; line = 0; progress = progressAfter Grouped c; said = said }) (sym (add-zero (suc i)))
     groups-told (suc m) i j h =
         group-told Grouped refl (suc i) j (groupLines (p .bound .groups) m (suc (suc i))) (omega arith)
         ∙ groups-told m (suc i) (j + 1) (omega arith)
-        ∙ ap (λ (c : ℕ). record { number = 0; line = 0; progress = progressAfter Grouped c; words = words }) (let q : suc (suc i) + m ≡ suc i + suc m = omega arith in q)
+        ∙ ap (λ (c : ℕ). record { number = 0; line = 0; progress = progressAfter Grouped c; said = said }) (let q : suc (suc i) + m ≡ suc i + suc m = omega arith in q)
 
 -- ---- the text
 
@@ -349,34 +331,22 @@ abbrev pub asRead : Plan → Reading
 asRead p = record {
   number = 0;
   line = 0;
-  progress = record { stage = lastStage (p .bound .kind); plan = p; faulty = 0; value = 0; rounds = 0 };
-  words = noWords;
+  progress = planned (lastStage (p .bound .kind)) p 0;
+  said = nothingSaid;
 }
 
-module _ (p : Plan) (e : causeOf p ≡ 0) (t : length (p .rows) ≡ 20) (u : length (p .bound .groups) ≡ 16) (words : List ℕ) where
+module _ (p : Plan) (e : causeOf p ≡ 0) (t : length (p .rows) ≡ 20) (u : length (p .bound .groups) ≡ 16) (said : Lists) where
   -- what is read of the plan, with this kind of bound
   abbrev Whole : BoundKind → Reading
   Whole kind = record {
     number = 0;
     line = 0;
-    progress = record {
-      stage = lastStage kind;
-      plan = record { n = p .n; source = p .source; bound = record { kind = kind; groups = p .bound .groups }; rows = p .rows };
-      faulty = 0;
-      value = 0;
-      rounds = 0;
-    };
-    words = words;
+    progress = planned (lastStage kind) (record { n = p .n; source = p .source; bound = record { kind = kind; groups = p .bound .groups }; rows = p .rows }) 0;
+    said = said;
   }
 
   abbrev linked-by : BoundKind → Progress
-  linked-by kind = record {
-    stage = Links;
-    plan = record { n = p .n; source = p .source; bound = record { kind = kindRead (boundByte kind); groups = noGroups }; rows = p .rows };
-    faulty = 0;
-    value = 0;
-    rounds = 0;
-  }
+  linked-by kind = planned Links (record { n = p .n; source = p .source; bound = record { kind = kindRead (boundByte kind); groups = noGroups }; rows = p .rows }) 0
 
   -- a plan has a group, if it lists them
   some-listed : (count : ℕ) → p .bound .kind ≡ Groups count → 1 ≤ count
@@ -388,49 +358,37 @@ module _ (p : Plan) (e : causeOf p ≡ 0) (t : length (p .rows) ≡ 20) (u : len
   groups-are count l = sym (ap (firstGroups p) l) ∙ all-groups p e u
 
   ends : (kind : BoundKind) → p .bound .kind ≡ kind → (j : ℕ)
-      → told archiveReader (linked-by kind) words j (linesFrom [] (groupLines (p .bound .groups) (listed kind) 0)) ≡ Whole kind
+      → told archiveReader (linked-by kind) said j (linesFrom [] (groupLines (p .bound .groups) (listed kind) 0)) ≡ Whole kind
   unfolding groupLines groupAt linesFrom lastLine firstGroups kindRead pick inPlan isAt _or_
   ends (Most f) m j =
       let s = sound p e in
       let l = s .f-below f m in
       let same : kindRead f ≡ Most f = kind-again f (let n = s .twenty in omega arith) in
-      kept-end planKinds (linked-by (Most f)) words j (ap listsNone same)
+      kept-end planKinds (linked-by (Most f)) said j (ap listsNone same)
       ∙ ap₂ (λ (k : BoundKind) (g : List ℕ). record {
         number = 0;
         line = 0;
-        progress = record {
-          stage = Links;
-          plan = record { n = p .n; source = p .source; bound = record { kind = k; groups = g }; rows = p .rows };
-          faulty = 0;
-          value = 0;
-          rounds = 0;
-        };
-        words = words;
+        progress = planned Links (record { n = p .n; source = p .source; bound = record { kind = k; groups = g }; rows = p .rows }) 0;
+        said = said;
       }) same (groups-are 0 (ap listed m))
   ends (Groups zero) m j = absurd (let l = some-listed zero m in omega arith)
   ends (Groups (suc count)) m j =
       let most : suc count ≤ 16 = subst (λ (k : BoundKind). listed k ≤ 16) m (sound-listed p e) in
-      group-told p e u words Links refl 0 j (groupLines (p .bound .groups) count 1) (omega arith)
-      ∙ groups-told p e u words count 0 (j + 1) (omega arith)
+      group-told p e u said Links refl 0 j (groupLines (p .bound .groups) count 1) (omega arith)
+      ∙ groups-told p e u said count 0 (j + 1) (omega arith)
       ∙ ap₂ (λ (c : ℕ) (g : List ℕ). record {
         number = 0;
         line = 0;
-        progress = record {
-          stage = Grouped;
-          plan = record { n = p .n; source = p .source; bound = record { kind = Groups c; groups = g }; rows = p .rows };
-          faulty = 0;
-          value = 0;
-          rounds = 0;
-        };
-        words = words;
+        progress = planned Grouped (record { n = p .n; source = p .source; bound = record { kind = Groups c; groups = g }; rows = p .rows }) 0;
+        said = said;
       }) (let q : suc zero + count ≡ suc count = omega arith in q) (ap (firstGroups p) (let q : suc zero + count ≡ suc count = omega arith in q) ∙ groups-are (suc count) (ap listed m))
 
-  text-told : told archiveReader nothingRead words 1 (linesFrom [] (planText p)) ≡ Whole (p .bound .kind)
+  text-told : told archiveReader nothingRead said 1 (linesFrom [] (planText p)) ≡ Whole (p .bound .kind)
   unfolding planText Then
   text-told =
       let groups = groupLines (p .bound .groups) (listed (p .bound .kind)) 0 in
-      let then = links-told p (sound p e) t words groups 400 0 2 (replicate 20 0) refl (none-passed p) in
-      head-told p (sound p e) t words (linkLines p 400 0 ++ groups) (tests p e .range)
+      let then = links-told p (sound p e) t said groups 400 0 2 (replicate 20 0) refl (none-passed p) in
+      head-told p (sound p e) t said (linkLines p 400 0 ++ groups) (tests p e .range)
       ∙ then .1
       ∙ ends (p .bound .kind) refl (then .0)
 
@@ -442,7 +400,7 @@ module _ (p : Plan) (e : causeOf p ≡ 0) (t : length (p .rows) ≡ 20) (u : len
       let short = text-short p e in
       let long = text-length p in
       pick-yes _ _ _ (and-i _ _ (le-leb 1 (length (planText p)) (omega arith)) (le-leb (length (planText p)) mostBytes (omega arith)))
-      ∙ text-told p e t u noWords
+      ∙ text-told p e t u nothingSaid
 
   -- and where nobody is deaf, by the reader of new plans too
   pub read-new : deafSet p ≡ 0 → planReading (planText p) ≡ asRead p

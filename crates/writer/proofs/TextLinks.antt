@@ -21,15 +21,15 @@ use Rattle.quorum.specs.Quorum.{noGroups, atMost}
 use Rattle.plan.specs.declared.Plan.{Plan}
 use Rattle.plan.specs.Plan.{heardBy, hears}
 use Rattle.lines.specs.declared.Frame.{Frame}
-use Rattle.lines.specs.declared.Frame.the-variants.{Foreign, Unknown, Head, Link, Group, FaultSet, Start, Message}
+use Rattle.lines.specs.declared.Frame.the-variants.{Foreign, Unknown, Head, Link, Group, FaultSet, Start, Later, Message}
 use Rattle.lines.specs.Frames.{frameOf}
 use Rattle.frames.specs.declared.Progress.{Progress}
 use Rattle.frames.specs.declared.Reader.{Reader}
 use Rattle.frames.specs.Lines.{Line, ended, cut, linesFrom}
-use Rattle.frames.specs.Reading.{stageOf, nothingRead, noWords, kindRead, causeIn, linked, grouped, after, wordsAfter, Reading, told, reading}
+use Rattle.frames.specs.Reading.{stageOf, nothingRead, Lists, nothingSaid, kindRead, causeIn, linked, grouped, after, saidAfter, Reading, told, reading}
 use Rattle.frames.specs.Tells.{Tells}
 use Rattle.frames.proofs.Built.{Built, built-twenty, built-row}
-use Rattle.frames.proofs.Accepted.{head-accepted, link-accepted, frame-stage, frame-built, line-read, end-read, text-read}
+use Rattle.frames.proofs.Keeps.{head-accepted, link-accepted, frame-stage, frame-built, line-read, end-read, text-read}
 
 -- no links
 no-row : (b : ℕ) → getD {A = ℕ} (replicate 20 0) b 0 ≡ 0
@@ -83,30 +83,33 @@ record Ready (p : Progress) : Type 0 where
   begun : (stageOf (p .stage) ≡ 0 → ⊥) → Built (p .plan)
   empty : stageOf (p .stage) ≡ 0 → (a b : ℕ) → hears (p .plan) b a ≡ false
 
-module _ (p : Progress) (words : List ℕ) (r : Ready p) where
-  frame-ready : (frame : Frame) → causeIn p words frame ≡ 0 → Ready (after p frame)
-  frame-ready frame h = record { begun = λ n. frame-built p words frame (r .begun) h; empty = λ z. absurd (frame-stage p words frame h z) }
+module _ (p : Progress) (said : Lists) (r : Ready p) where
+  frame-ready : (frame : Frame) → causeIn p said frame ≡ 0 → Ready (after p frame)
+  frame-ready frame h = record { begun = λ n. frame-built p said frame (r .begun) h; empty = λ z. absurd (frame-stage p said frame h z) }
 
   -- a frame that is no link and keeps the plan
   same-plan : (frame : Frame) (a b : ℕ) → (frame ≡ Link a b → ⊥) → (hears (p .plan) b a ≡ true) ↔ ((hears (p .plan) b a ≡ true) ⊎ (frame ≡ Link a b))
   same-plan frame a b n = (λ h. inl h, ⊎-elim (λ h. h) (λ e. absurd (n e)))
 
-  frame-links : (frame : Frame) → causeIn p words frame ≡ 0 → (a b : ℕ)
+  frame-links : (frame : Frame) → causeIn p said frame ≡ 0 → (a b : ℕ)
       → (hears (after p frame .plan) b a ≡ true) ↔ ((hears (p .plan) b a ≡ true) ⊎ (frame ≡ Link a b))
   unfolding after grouped hears heardBy
   frame-links Foreign h a b = same-plan Foreign a b (λ e. let z : _≡_ {A = ℕ} 0 1 = cc in omega arith)
   frame-links Unknown h a b = same-plan Unknown a b (λ e. let z : _≡_ {A = ℕ} 0 1 = cc in omega arith)
   frame-links (Head n source f) h a b = (
     λ x. clash x (no-link n source (record { kind = kindRead f; groups = noGroups }) a b),
-    ⊎-elim (λ x. clash x (r .empty (head-accepted p words n source f h .0) a b)) (λ e. absurd (let z : _≡_ {A = ℕ} 0 1 = cc in omega arith)),
+    ⊎-elim (λ x. clash x (r .empty (head-accepted p said n source f h .0) a b)) (λ e. absurd (let z : _≡_ {A = ℕ} 0 1 = cc in omega arith)),
   )
   frame-links (Link from to) h a b =
-      let c = link-accepted p words from to h in
+      let c = link-accepted p said from to h in
       link-more (p .plan) (r .begun (λ z. omega (arith, c .0))) from to (c .1) (c .2) a b (equal-or-not b to)
   frame-links (Group s) h a b = same-plan (Group s) a b (λ e. let z : _≡_ {A = ℕ} 0 1 = cc in omega arith)
   frame-links (FaultSet s) h a b = same-plan (FaultSet s) a b (λ e. let z : _≡_ {A = ℕ} 0 1 = cc in omega arith)
-  frame-links (Start value rounds) h a b = same-plan (Start value rounds) a b (λ e. let z : _≡_ {A = ℕ} 0 1 = cc in omega arith)
-  frame-links (Message round from to value) h a b = same-plan (Message round from to value) a b (λ e. let z : _≡_ {A = ℕ} 0 1 = cc in omega arith)
+  frame-links (Start form edition layout rounds) h a b =
+      same-plan (Start form edition layout rounds) a b (λ e. let z : _≡_ {A = ℕ} 0 1 = cc in omega arith)
+  frame-links (Later round edition layout) h a b = same-plan (Later round edition layout) a b (λ e. let z : _≡_ {A = ℕ} 0 1 = cc in omega arith)
+  frame-links (Message form round from to edition layout) h a b =
+      same-plan (Message form round from to edition layout) a b (λ e. let z : _≡_ {A = ℕ} 0 1 = cc in omega arith)
 
 -- ---- the lines
 
@@ -120,18 +123,18 @@ joined e g = (
   ⊎-elim (λ a. g .1 (inl (e .1 (inl a)))) (⊎-elim (λ f. g .1 (inl (e .1 (inr f)))) (λ t. g .1 (inr t))),
 )
 
-told-links : (reader : Reader) (p : Progress) (words : List ℕ) (k : ℕ) (lines : List Line) → Ready p
-    → told reader p words k lines .number ≡ 0 → Says p (λ a b. Tells (reader .kinds) (Link a b) lines) (told reader p words k lines .progress)
+told-links : (reader : Reader) (p : Progress) (said : Lists) (k : ℕ) (lines : List Line) → Ready p
+    → told reader p said k lines .number ≡ 0 → Says p (λ a b. Tells (reader .kinds) (Link a b) lines) (told reader p said k lines .progress)
 unfolding told Says
-told-links reader p words k [] r =
-    end-read reader p words k (λ (x : Reading). Says p (λ a b. Tells (reader .kinds) (Link a b) []) (x .progress))
+told-links reader p said k [] r =
+    end-read reader p said k (λ (x : Reading). Says p (λ a b. Tells (reader .kinds) (Link a b) []) (x .progress))
     (λ c a b. (λ h. inl h, ⊎-elim (λ h. h) (λ e. absurd e)))
-told-links reader p words k (cut line ∷ rest) r = λ z. absurd (omega arith)
-told-links reader p words k (ended line ∷ rest) r =
-    line-read reader p words k line rest (λ (x : Reading). Says p (λ a b. Tells (reader .kinds) (Link a b) (ended line ∷ rest)) (x .progress))
+told-links reader p said k (cut line ∷ rest) r = λ z. absurd (omega arith)
+told-links reader p said k (ended line ∷ rest) r =
+    line-read reader p said k line rest (λ (x : Reading). Says p (λ a b. Tells (reader .kinds) (Link a b) (ended line ∷ rest)) (x .progress))
     (λ c z a b.
-    joined (frame-links p words r (frameOf (reader .kinds) line) c a b)
-    (told-links reader (after p (frameOf (reader .kinds) line)) (wordsAfter p words (frameOf (reader .kinds) line)) (k + 1) rest (frame-ready p words r (frameOf (reader .kinds) line) c) z
+    joined (frame-links p said r (frameOf (reader .kinds) line) c a b)
+    (told-links reader (after p (frameOf (reader .kinds) line)) (saidAfter p said (frameOf (reader .kinds) line)) (k + 1) rest (frame-ready p said r (frameOf (reader .kinds) line) c) z
     a b))
 
 nothing-ready : Ready nothingRead
@@ -144,5 +147,5 @@ unfolding Says
 reading-links reader text =
     text-read reader text (λ (r : Reading). (a b : ℕ) → (hears (r .progress .plan) b a ≡ true) ↔ Tells (reader .kinds) (Link a b) (linesFrom [] text))
     (λ one z a b.
-    let g = told-links reader nothingRead noWords 1 (linesFrom [] text) nothing-ready z a b in
+    let g = told-links reader nothingRead nothingSaid 1 (linesFrom [] text) nothing-ready z a b in
     (λ h. ⊎-elim (λ x. clash x (no-link 0 0 (atMost 0) a b)) (λ x. x) (g .0 h), λ x. g .1 (inr x)))

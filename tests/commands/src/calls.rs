@@ -66,7 +66,7 @@ fn help_on(checks: &mut Checks, word: &str) {
     checks.ends(&format!("help {word}"), &by_help, 0, &own.out, "");
 }
 
-/// Document 01's table of kinds and its limits, and document 02's groups and further causes.
+/// Document 01's table of kinds and its limits, and document 02's groups, editions and further causes.
 fn frames_page(checks: &mut Checks) {
     let page = checks.call(&["help", "frames"]).out;
     for words in [
@@ -78,7 +78,11 @@ fn frames_page(checks: &mut Checks) {
         "24,576",
         "high byte",
         "07    set (3) ",
+        "04    edition (2), layout (2), ",
+        "08    round, edition (2), ",
+        "05    round, from, to, ",
         " 15 a terminal",
+        " 16 edition 0 in 04 or 08",
         " 17 a seventeenth group",
     ] {
         checks.holds(&format!("help frames has {words:?}"), page.contains(words));

@@ -24,11 +24,11 @@ const GROUPED: [&str; 7] = [
 ];
 
 /// The program that refuses, its answer, why, and the frames.
-struct Row(
-    &'static str,
-    &'static str,
-    &'static str,
-    &'static [&'static str],
+pub struct Row(
+    pub &'static str,
+    pub &'static str,
+    pub &'static str,
+    pub &'static [&'static str],
 );
 
 /// The lines after those of the groups. Within a line the lowest number decides, 17 as it stands
@@ -167,7 +167,7 @@ const WHOLE: [Row; 6] = [
 ];
 
 /// The program's answer, the words of `explain`, and the same words where nothing else is printed.
-fn refused(checks: &mut Checks, Row(program, answer, why, _): &Row, frames: &[&str]) {
+pub fn refused(checks: &mut Checks, Row(program, answer, why, _): &Row, frames: &[&str]) {
     let file = checks.file("group.hex", lines(frames).as_bytes());
     let number = |from: usize, to: usize| usize::from_str_radix(&answer[from..to], 16);
     let (cause, line) = (
@@ -237,7 +237,7 @@ fn with_a_bound(checks: &mut Checks) {
     );
 }
 
-fn answered(checks: &mut Checks, table: &[(&str, Vec<&str>, &str)]) {
+pub fn answered(checks: &mut Checks, table: &[(&str, Vec<&str>, &str)]) {
     for (word, frames, wanted) in table {
         let done = checks.call_with(&[word], lines(frames).as_bytes());
         let status = i32::from(wanted.starts_with("ff"));

@@ -151,7 +151,7 @@ fn refused_texts(checks: &mut Checks) {
     );
 }
 
-fn refused(checks: &mut Checks, words: &[&str], text: &str, why: &str) {
+pub fn refused(checks: &mut Checks, words: &[&str], text: &str, why: &str) {
     let told = format!("refused, {why}");
     for word in words {
         let done = checks.call_with(&[word], text.as_bytes());

@@ -5,6 +5,10 @@ mod builds;
 mod calls;
 mod checks;
 mod deaf;
+mod edition_frames;
+mod edition_pictures;
+mod edition_texts;
+mod editions;
 mod group_frames;
 mod group_mends;
 mod group_pictures;
@@ -25,7 +29,7 @@ use std::process::ExitCode;
 
 type Topic = (&'static str, fn(&mut Checks));
 
-const TOPICS: [Topic; 12] = [
+const TOPICS: [Topic; 13] = [
     ("answers", answers::check),
     ("calls", calls::check),
     ("plans", plans::check),
@@ -34,6 +38,7 @@ const TOPICS: [Topic; 12] = [
     ("runs", runs::check),
     ("deaf", deaf::check),
     ("groups", groups::check),
+    ("editions", editions::check),
     ("mends", mends::check),
     ("pictures", pictures::check),
     ("readme", readme::check),

@@ -135,7 +135,7 @@ pub fn drawn(checks: &Checks, words: &[&str], input: &str) -> Shown {
     read_picture(&done.out)
 }
 
-fn with_role(shown: &Shown, role: &str) -> String {
+pub fn with_role(shown: &Shown, role: &str) -> String {
     let those = shown.roles.iter().filter(|(_, one)| *one == role);
     let numbers: Vec<String> = those.map(|(terminal, _)| terminal.to_string()).collect();
     numbers.join(" ")

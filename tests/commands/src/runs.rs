@@ -186,7 +186,7 @@ fn with_bad(checks: &mut Checks) {
 }
 
 /// A run's text and its frames are the same run.
-fn same_in_frames(checks: &mut Checks, name: &str) {
+pub fn same_in_frames(checks: &mut Checks, name: &str) {
     let text = format!("{name}.txt");
     let frames = checks.call(&["plan", &text]).out;
     checks.holds(&format!("{name} has frames"), frames.starts_with("01"));

@@ -37,7 +37,7 @@ pub fn file(kind: Kind, index: u64) -> Vec<u8> {
         (Kind::Verdict, Place::Low) => (b"000", b"\n"),
         (Kind::Run, Place::High) => (b"", b"00701\n"),
         (Kind::Run, Place::Low) => (b"0", b"0701\n"),
-        (_, Place::Past) => (b"000701000000", b"0\n"),
+        (_, Place::Past) => (b"00070100000000", b"0\n"),
     };
     let rest = if kind == Kind::Verdict && byte.is_ascii_hexdigit() {
         others_hear()

@@ -1,11 +1,13 @@
 //! Damage to valid files: single bytes, lines, sizes, and each cause of refusal by design.
 
 use crate::draft::{
-    bad_set_line, group_line, head_line, join, link_line, long_run, start_line, word_line, Draft,
+    bad_set_line, group_line, head_line, join, link_line, long_run, notice_line, start_in,
+    start_line, word_in, word_line, Draft,
 };
 use crate::faults::Fault;
 use crate::generate::Kind;
 use crate::groups::{Bound, MOST_GROUPS};
+use crate::notice::{notice, Form, Notice};
 use crate::output::{digits, GROUPS_LISTED};
 use crate::plan::{bound_holds, number_of, Plan, Set};
 use crate::plans::source_first;
@@ -124,8 +126,18 @@ pub fn noise(rng: &mut Rng) -> Vec<u8> {
             let bound = rng.pick(&[1, 1, GROUPS_LISTED]);
             let mut lines = vec![digits(&[1, rng.between(2, 6) as u8, 0, bound])];
             for _ in 0..rng.below(12) {
-                let (kind, length) =
-                    rng.pick(&[(1, 4), (2, 3), (3, 4), (4, 4), (5, 6), (7, 4), (7, 4)]);
+                let (kind, length) = rng.pick(&[
+                    (1, 4),
+                    (2, 3),
+                    (3, 4),
+                    (4, 4),
+                    (4, 6),
+                    (5, 6),
+                    (5, 8),
+                    (7, 4),
+                    (7, 4),
+                    (8, 6),
+                ]);
                 let mut frame = vec![kind];
                 frame.extend((1..length).map(|_| rng.pick(&[0, 0, 1, 2, 3, 4, 41])));
                 lines.push(digits(&frame));
@@ -139,7 +151,7 @@ pub fn noise(rng: &mut Rng) -> Vec<u8> {
 pub fn causes(kind: Kind) -> &'static [u32] {
     match kind {
         Kind::Verdict => &[1, 2, 3, 4, 5, 6, 17],
-        Kind::Run => &[1, 2, 3, 4, 5, 6, 17, 7, 8, 9, 10, 11],
+        Kind::Run => &[1, 2, 3, 4, 5, 6, 17, 7, 8, 9, 16, 10, 11],
     }
 }
 
@@ -154,7 +166,8 @@ pub fn plant(rng: &mut Rng, kind: Kind, draft: &Draft, lines: &mut Lines, cause:
         6 => plant_link_twice(rng, lines),
         7 => plant_bad_member(rng, draft, lines),
         8 => plant_bad_bound(rng, draft, lines),
-        9 => plant_start(rng, lines),
+        9 => plant_start(rng, draft, lines),
+        16 => plant_edition(rng, draft, lines),
         10 => plant_word(rng, draft, lines),
         17 => plant_group(rng, draft, lines),
         _ => plant_word_twice(rng, draft, lines),
@@ -189,8 +202,10 @@ fn plant_kind(rng: &mut Rng, kind: Kind, lines: &mut Lines) -> usize {
                 start_line(7, Some(3)),
                 bad_set_line(2),
                 word_line(1, 1, 0, 9),
+                notice_line(1, notice(2, 9)),
+                start_in(Form::New, notice(1, 7), None),
             ];
-            *line = lacking[rng.below(3)].clone();
+            *line = lacking[rng.below(5)].clone();
         }
         2 if rng.chance(50) => line.truncate(2),
         2 => *line = digits(&[7, 0, 0, 1, 0, 0][..rng.pick(&[1, 2, 3, 5, 6])]),
@@ -206,7 +221,7 @@ fn plant_order(rng: &mut Rng, kind: Kind, lines: &mut Lines) -> usize {
     let head = lines[0].clone();
     let kinds: &[u8] = match kind {
         Kind::Verdict => &[2, 7],
-        Kind::Run => &[2, 3, 4, 5, 7],
+        Kind::Run => &[2, 3, 4, 5, 7, 8],
     };
     match rng.below(10) {
         0 => drop(lines.remove(0)),
@@ -434,15 +449,49 @@ fn replace(lines: &mut Lines, kind: u8, line: Vec<u8>) -> usize {
     at
 }
 
-fn plant_start(rng: &mut Rng, lines: &mut Lines) -> usize {
-    let line = match rng.below(5) {
-        0 => start_line(0, None),
-        1 => start_line(0, Some(rng.between(0, 40))),
-        2 => start_line(7, Some(41)),
-        3 => start_line(0, Some(41)),
-        _ => start_line(7, Some(rng.pick(&[42, 64, 128, 255]))),
+fn plant_start(rng: &mut Rng, draft: &Draft, lines: &mut Lines) -> usize {
+    let form = draft.office.form;
+    let edition = rng.pick(&[1, 1, 0]);
+    let (layout, rounds) = match rng.below(5) {
+        0 => (0, None),
+        1 => (0, Some(rng.between(0, 40))),
+        2 => (7, Some(41)),
+        3 => (0, Some(41)),
+        _ => (7, Some(rng.pick(&[42, 64, 128, 255]))),
     };
-    replace(lines, 4, line)
+    let after = place_of(lines, 4).map_or(lines.len(), |at| at + 1);
+    if form == Form::New && rng.chance(30) {
+        // A later notice without a layout.
+        let round = rng.between(1, draft.rounds.max(1));
+        lines.insert(
+            after,
+            notice_line(round, notice(rng.pick(&[0, 9, 65_535]), 0)),
+        );
+        return after;
+    }
+    replace(lines, 4, start_in(form, notice(edition, layout), rounds))
+}
+
+/// A start with edition 0, or a later notice that is not above the last.
+fn plant_edition(rng: &mut Rng, draft: &Draft, lines: &mut Lines) -> usize {
+    let office = &draft.office;
+    let (round, last) = office.last();
+    if office.form == Form::Old || round >= draft.rounds || rng.chance(30) {
+        let rounds = rng.chance(50).then_some(draft.rounds);
+        return replace(lines, 4, start_in(Form::New, notice(0, 7), rounds));
+    }
+    let after = places(lines, 8).last().copied();
+    let at = after
+        .or(place_of(lines, 4))
+        .map_or(lines.len(), |at| at + 1);
+    let edition = match rng.below(4) {
+        0 => 0,
+        1 => last.edition,
+        2 => office.start.edition,
+        _ => last.edition - 1,
+    };
+    lines.insert(at, notice_line(round + 1, notice(edition, 9)));
+    at
 }
 
 fn plant_word(rng: &mut Rng, draft: &Draft, lines: &mut Lines) -> usize {
@@ -461,21 +510,31 @@ fn plant_word(rng: &mut Rng, draft: &Draft, lines: &mut Lines) -> usize {
     let (from, to) = rng.pick(&pool);
     let round = rng.between(1, draft.rounds.max(1));
     let anyone = rng.between(0, plan.n - 1);
-    let line = match rng.below(8) {
-        0 => word_line(0, from, to, 9),
-        1 => word_line(draft.rounds + 1, from, to, 9),
-        2 => word_line(255, from, to, 9),
-        3 => word_line(round, from, to, 0),
-        4 => word_line(round, from, rng.pick(&[plan.n, 20, 255]), 9),
-        5 => word_line(round, rng.pick(&[plan.n, from, 255]), from, 9),
-        6 => word_line(round, anyone, to, 9),
-        _ => word_line(round, plan.source, to, 9),
+    let at = match rng.below(9) {
+        0 => (0, from, to),
+        1 => (draft.rounds + 1, from, to),
+        2 => (255, from, to),
+        3 | 4 => {
+            let line = word_in(draft.office.form, (round, from, to), no_word(rng));
+            return insert_word(rng, lines, line);
+        }
+        5 => (round, from, rng.pick(&[plan.n, 20, 255])),
+        6 => (round, rng.pick(&[plan.n, from, 255]), from),
+        7 => (round, anyone, to),
+        _ => (round, plan.source, to),
     };
+    let line = word_in(draft.office.form, at, notice(1, 9));
     insert_word(rng, lines, line)
 }
 
+/// A zero in either half, or in both; an old word shows the layout alone.
+fn no_word(rng: &mut Rng) -> Notice {
+    rng.pick(&[notice(1, 0), notice(0, 9), notice(0, 0)])
+}
+
 fn insert_word(rng: &mut Rng, lines: &mut Lines, line: Vec<u8>) -> usize {
-    let first = place_of(lines, 4).map_or(lines.len(), |at| at + 1);
+    let before = places(lines, 8).last().copied().or(place_of(lines, 4));
+    let first = before.map_or(lines.len(), |at| at + 1);
     let at = first + rng.below(lines.len() - first + 1);
     lines.insert(at, line);
     at

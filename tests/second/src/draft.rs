@@ -1,6 +1,8 @@
 //! Valid files as lists of lines, ready to be joined or damaged.
 
 use crate::groups::{Bound, MOST_GROUPS};
+use crate::notice::{notice, Form, Notice};
+use crate::office::{said, some_office, Manner, Office, Saying};
 use crate::output::{digits, head_frame};
 use crate::plan::{number_of, Plan, Set};
 use crate::plans::random_bad_set;
@@ -12,28 +14,9 @@ use crate::rng::Rng;
 pub struct Draft {
     pub plan: Plan,
     pub bad: Set,
+    pub office: Office,
     pub rounds: u32,
     pub lines: Vec<Vec<u8>>,
-}
-
-/// How the liars talk.
-#[derive(Clone, Copy, Debug, PartialEq, Eq)]
-pub enum Manner {
-    Silent,
-    /// Other words to each neighbour in every round.
-    Wild,
-    /// The same word to one neighbour, round after round.
-    Steady,
-    /// A lie at first, later the truth.
-    Turncoat,
-    /// The truth at first, later a lie.
-    Faithless,
-    /// All the same lies, but each liar one round after the one before it.
-    Staggered,
-    /// A lie that is new in each round; the truth in the last.
-    Flood,
-    /// The truth, in this round alone.
-    Once(u32),
 }
 
 pub fn join(lines: &[Vec<u8>]) -> Vec<u8> {
@@ -61,16 +44,41 @@ pub fn group_line(number: u32) -> Vec<u8> {
     digits(&[7, high, middle, low])
 }
 
-pub fn start_line(value: u16, rounds: Option<u32>) -> Vec<u8> {
-    let [high, low] = value.to_be_bytes();
-    let mut frame = vec![4, high, low];
+/// A start in the old form.
+pub fn start_line(layout: u16, rounds: Option<u32>) -> Vec<u8> {
+    start_in(Form::Old, notice(1, layout), rounds)
+}
+
+pub fn start_in(form: Form, start: Notice, rounds: Option<u32>) -> Vec<u8> {
+    let mut frame = vec![4];
+    frame.extend(notice_bytes(form, start));
     frame.extend(rounds.map(|rounds| rounds as u8));
     digits(&frame)
 }
 
-pub fn word_line(round: u32, from: u32, to: u32, value: u16) -> Vec<u8> {
-    let [high, low] = value.to_be_bytes();
-    digits(&[5, round as u8, from as u8, to as u8, high, low])
+/// A later notice.
+pub fn notice_line(round: u32, later: Notice) -> Vec<u8> {
+    let frame = [&[8, round as u8], &later.frame_bytes()[..]].concat();
+    digits(&frame)
+}
+
+/// A word in the old form.
+pub fn word_line(round: u32, from: u32, to: u32, layout: u16) -> Vec<u8> {
+    word_in(Form::Old, (round, from, to), notice(1, layout))
+}
+
+pub fn word_in(form: Form, at: (u32, u32, u32), said: Notice) -> Vec<u8> {
+    let mut frame = vec![5, at.0 as u8, at.1 as u8, at.2 as u8];
+    frame.extend(notice_bytes(form, said));
+    digits(&frame)
+}
+
+/// Edition and layout, or the layout alone.
+fn notice_bytes(form: Form, said: Notice) -> Vec<u8> {
+    match form {
+        Form::Old => said.layout.to_be_bytes().to_vec(),
+        Form::New => said.frame_bytes().to_vec(),
+    }
 }
 
 pub fn plan_draft(plan: Plan) -> Draft {
@@ -81,89 +89,94 @@ pub fn plan_draft(plan: Plan) -> Draft {
     Draft {
         plan,
         bad: Set::new(),
+        office: Office::old(7),
         rounds: 0,
         lines,
     }
 }
 
-/// A run of the plan with a random bad set and random words.
+/// A run of the plan with a random bad set, an office in either form and random words.
 pub fn run_draft(rng: &mut Rng, plan: Plan, rounds: Option<u32>, manner: Manner) -> Draft {
+    let office = some_office(rng, rounds.unwrap_or(plan.n - 1));
+    office_draft(rng, plan, rounds, manner, office)
+}
+
+/// The same with this office.
+pub fn office_draft(
+    rng: &mut Rng,
+    plan: Plan,
+    rounds: Option<u32>,
+    manner: Manner,
+    office: Office,
+) -> Draft {
     let share = rng.pick(&[15, 40, 70, 100]);
     let bad = random_bad_set(rng, &plan, share);
-    let value = rng.pick(&[1, 7, 255, 256, 4660, 65_535]);
+    bad_draft(rng, plan, bad, rounds, manner, office)
+}
+
+/// The same with this bad set too.
+pub fn bad_draft(
+    rng: &mut Rng,
+    plan: Plan,
+    bad: Set,
+    rounds: Option<u32>,
+    manner: Manner,
+    office: Office,
+) -> Draft {
     let mut draft = plan_draft(plan);
     draft.bad = bad;
     draft.rounds = rounds.unwrap_or(draft.plan.n - 1);
     draft.lines.push(bad_set_line(number_of(&draft.bad)));
-    draft.lines.push(start_line(value, rounds));
-    let words = words(rng, &draft, value, manner);
+    draft
+        .lines
+        .push(start_in(office.form, office.start, rounds));
+    let later = office.later.iter();
+    let later = later.map(|(&round, &later)| notice_line(round, later));
+    draft.lines.extend(later);
+    draft.office = office;
+    let words = words(rng, &draft, manner);
     draft.lines.extend(words);
     draft
 }
 
 /// Lines of words, as many as the longest file has room for.
-fn words(rng: &mut Rng, draft: &Draft, value: u16, manner: Manner) -> Vec<Vec<u8>> {
-    if manner == Manner::Silent {
-        return Vec::new();
-    }
+fn words(rng: &mut Rng, draft: &Draft, manner: Manner) -> Vec<Vec<u8>> {
     let share = match manner {
         Manner::Staggered | Manner::Flood => 100,
         _ => rng.pick(&[20, 60, 100]),
     };
     let turn = rng.between(1, 4);
-    let mut lines = Vec::new();
     let rounds = match manner {
         Manner::Once(round) => round..=round,
         _ => 1..=draft.rounds.min(41),
     };
-    for round in rounds {
-        for &(from, to) in draft
-            .plan
-            .links
-            .iter()
-            .filter(|link| draft.bad.contains(&link.0))
-        {
-            let said = match manner {
-                Manner::Turncoat | Manner::Faithless => turned(manner, value, round > turn),
-                Manner::Staggered => staggered(&draft.bad, value, round, from),
-                Manner::Flood if round < draft.rounds => 10_000 + 100 * from as u16 + round as u16,
-                Manner::Flood | Manner::Once(_) => value,
-                Manner::Steady => lies(value)[to as usize % 2],
-                _ if rng.chance(30) => value,
-                _ => rng.pick(&lies(value)),
-            };
-            if said != 0 && rng.chance(share) {
-                lines.push(word_line(round, from, to, said));
-            }
-        }
+    let links = draft.plan.links.iter().copied();
+    let lying: Vec<(u32, u32)> = links.filter(|link| draft.bad.contains(&link.0)).collect();
+    let mut lines = Vec::new();
+    let all = rounds.flat_map(|round| lying.iter().map(move |&link| (round, link)));
+    for (round, (from, to)) in all {
+        let at = Saying {
+            bad: &draft.bad,
+            rounds: draft.rounds,
+            turn,
+            round,
+            from,
+            to,
+        };
+        let word = said(rng, &draft.office, manner, &at).filter(|_| rng.chance(share));
+        lines.extend(word.map(|word| word_in(draft.office.form, (round, from, to), word)));
     }
-    let room = LONGEST_FILE.saturating_sub(join(&draft.lines).len()) / 13;
+    let line = word_length(draft.office.form);
+    let room = LONGEST_FILE.saturating_sub(join(&draft.lines).len()) / line;
     lines.truncate(room);
     lines
 }
 
-/// Few values, so that liars agree by chance; one on each side of the true one, where there is one.
-fn lies(value: u16) -> [u16; 3] {
-    let below = if value > 1 { value - 1 } else { 3 };
-    let above = value.checked_add(1).unwrap_or(8);
-    [below, above, 9]
-}
-
-/// The truth of a turncoat after its turn, and of a faithless one before.
-fn turned(manner: Manner, value: u16, after: bool) -> u16 {
-    if after == (manner == Manner::Turncoat) {
-        value
-    } else {
-        lies(value)[0]
-    }
-}
-
-/// The lies one after the other; the second liar begins in round 2, the third in round 3.
-fn staggered(bad: &Set, value: u16, round: u32, from: u32) -> u16 {
-    let before = bad.iter().filter(|&&member| member < from).count();
-    match (round as usize).checked_sub(before + 1) {
-        Some(turn) => lies(value)[turn % 3],
-        None => 0,
+/// The bytes of a word's line, with its end.
+fn word_length(form: Form) -> usize {
+    match form {
+        Form::Old => 13,
+        Form::New => 17,
     }
 }
 
@@ -175,13 +188,22 @@ pub fn long_run(rng: &mut Rng, size: usize) -> Vec<u8> {
     if groups > 0 {
         plan.bound = Bound::groups(&vec![bad.clone(); groups as usize]);
     }
+    let mut office = rng.pick(&[Office::old as fn(u16) -> Office, |layout| {
+        Office::new(notice(1, layout))
+    }])(7);
+    if office.form == Form::New {
+        let count = rng.pick(&[0, 1, 40]);
+        office.later = (1..=count).map(|r| (r, notice(r as u16 + 1, 7))).collect();
+    }
     let mut pairs: Vec<(u32, u32)> = (0..400).map(|place| (place / 20, place % 20)).collect();
     pairs.retain(|(from, to)| from != to);
     rng.shuffle(&mut pairs);
-    // Head, bad set and start take 27 bytes, a link 7, a group 9 and a word 13.
-    let room = |links: &usize| size - 27 - 7 * links - 9 * groups as usize;
+    // Head, bad set and start take 27 or 31 bytes, a link 7, a group 9 and a later notice 13.
+    let word = word_length(office.form);
+    let others = 27 + 4 * usize::from(office.form == Form::New) + 13 * office.later.len();
+    let room = |links: &usize| size - others - 7 * links - 9 * groups as usize;
     let links = (300..380)
-        .find(|links| room(links) % 13 == 0)
+        .find(|links| room(links) % word == 0)
         .unwrap_or(300);
     plan.links = pairs[..links].iter().copied().collect();
     let mut places: Vec<(u32, u32, u32)> = (1..=40)
@@ -189,11 +211,11 @@ pub fn long_run(rng: &mut Rng, size: usize) -> Vec<u8> {
         .filter(|(_, from, _)| bad.contains(from))
         .collect();
     rng.shuffle(&mut places);
-    let mut lines = plan_draft(plan).lines;
-    lines.push(bad_set_line(number_of(&bad)));
-    lines.push(start_line(7, Some(40)));
-    for &(round, from, to) in places.iter().take(room(&links) / 13) {
-        lines.push(word_line(round, from, to, rng.pick(&[7, 8, 9])));
+    let form = office.form;
+    let mut lines = bad_draft(rng, plan, bad, Some(40), Manner::Silent, office).lines;
+    for &at in places.iter().take(room(&links) / word) {
+        let said = notice(1, rng.pick(&[7, 8, 9]));
+        lines.push(word_in(form, at, said));
     }
     join(&lines)
 }

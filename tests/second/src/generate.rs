@@ -3,13 +3,16 @@
 use crate::damage::{
     causes, change_byte, change_lines, change_text, noise, plant, sized, spoil_line,
 };
-use crate::draft::{join, plan_draft, run_draft, Draft, Manner};
+use crate::draft::{bad_draft, join, plan_draft, run_draft, Draft};
 use crate::drawings::DRAWINGS;
 use crate::faults::Fault;
+use crate::forms::{mixed, WAYS};
 use crate::grouping::{group_thinly, group_up, maybe_grouped, GROUPED};
 use crate::groups::Bound;
+use crate::notice::notice;
+use crate::office::{Manner, Office};
 use crate::place::{placed, THERE};
-use crate::plan::Plan;
+use crate::plan::{Plan, Set};
 use crate::plans::{
     any_plan, border_plan, deaf_plan, deafen, deep_plan, hear_at_source, joined_plan, mend,
     random_plan, strong_plan, thin_plan, weak_plan,
@@ -18,6 +21,19 @@ use crate::rng::Rng;
 use std::fs;
 use std::io;
 use std::path::Path;
+
+/// The links of a plan that passes, and in which a notice may be overtaken.
+pub const OVERTAKEN: [(u32, u32); 9] = [
+    (0, 1),
+    (0, 2),
+    (0, 3),
+    (1, 4),
+    (2, 4),
+    (3, 4),
+    (1, 5),
+    (2, 5),
+    (4, 5),
+];
 
 #[derive(Clone, Copy, Debug, PartialEq, Eq)]
 pub enum Kind {
@@ -35,7 +51,7 @@ impl Kind {
 }
 
 /// Sorts of cases; they take turns by index. The first ones are of valid files.
-pub const SORTS: u64 = 19;
+pub const SORTS: u64 = 21;
 pub const VALID_SORTS: u64 = 8;
 
 /// Of a hundred valid files so many have a deaf terminal, and of those that get damaged.
@@ -154,22 +170,7 @@ fn run_case(rng: &mut Rng, sort: u64, turn: u64) -> Draft {
         }
         2 => named_run(rng, weak_plan, n, rounds, Manner::Wild),
         3 => named_run(rng, weak_plan, n, rounds, Manner::Steady),
-        4 => {
-            let manner = rng.pick(&[
-                Manner::Silent,
-                Manner::Wild,
-                Manner::Turncoat,
-                Manner::Staggered,
-            ]);
-            let plan = if turn.is_multiple_of(2) {
-                drawing(turn / 2)
-            } else {
-                let mut plan = joined_plan(rng);
-                maybe_grouped(rng, &mut plan);
-                plan
-            };
-            run_draft(rng, plan, rounds, manner)
-        }
+        4 => drawn_run(rng, turn, rounds),
         5 if turn.is_multiple_of(2) => edge_run(rng, n),
         5 => {
             let rounds = rng.pick(&[None, Some(0), Some(1), Some(39), Some(40), Some(41)]);
@@ -179,6 +180,27 @@ fn run_case(rng: &mut Rng, sort: u64, turn: u64) -> Draft {
         6 => turning_run(rng, n, rounds),
         _ => shuffled_run(rng, n, rounds),
     }
+}
+
+/// A drawing, several of them joined, or notices that overtake each other.
+fn drawn_run(rng: &mut Rng, turn: u64, rounds: Option<u32>) -> Draft {
+    let manner = rng.pick(&[
+        Manner::Silent,
+        Manner::Wild,
+        Manner::Turncoat,
+        Manner::Staggered,
+        Manner::Backward,
+    ]);
+    let plan = match turn % 4 {
+        0 | 2 => drawing(turn / 2),
+        1 => {
+            let mut plan = joined_plan(rng);
+            maybe_grouped(rng, &mut plan);
+            plan
+        }
+        _ => return overtaken_run(rng, manner),
+    };
+    run_draft(rng, plan, rounds, manner)
 }
 
 fn named_run(
@@ -220,8 +242,28 @@ pub fn turning_run(rng: &mut Rng, n: u32, rounds: Option<u32>) -> Draft {
         Manner::Faithless,
         Manner::Staggered,
         Manner::Flood,
+        Manner::Forward,
+        Manner::Backward,
     ]);
     named_run(rng, make, n, rounds, manner)
+}
+
+/// Terminals 4 and 5 of this site need two that say one notice. A notice that is overtaken round
+/// after round reaches them by one neighbour only while another already says the next.
+pub fn overtaken_run(rng: &mut Rng, manner: Manner) -> Draft {
+    let mut plan = Plan::new(6, 0, 1);
+    plan.links = OVERTAKEN.into_iter().collect();
+    let mut office = Office::new(notice(rng.pick(&[1, 9]), 7));
+    let often = rng.pick(&[2, 3, 3, 3, 4]);
+    for round in 1..=often {
+        let edition = office.last().1.edition + 1;
+        office
+            .later
+            .insert(round, notice(edition, rng.pick(&[7, 8])));
+    }
+    let bad = Set::from([rng.pick(&[2, 2, 1, 3])]);
+    let rounds = rng.pick(&[None, Some(5), Some(5), Some(9)]);
+    bad_draft(rng, plan, bad, rounds, manner, office)
 }
 
 /// A start in either form, and the liars' words in round n-1, n or 40 alone. They are the truth, so
@@ -250,13 +292,14 @@ fn some_word(draft: &Draft) -> bool {
     draft.lines.iter().any(|line| line.starts_with(b"05"))
 }
 
-/// Links and words each in random order.
+/// Links and words each in random order; later notices have theirs.
 fn shuffled_run(rng: &mut Rng, n: u32, rounds: Option<u32>) -> Draft {
     let mut draft = named_run(rng, deep_plan, n, rounds, Manner::Wild);
     let links = draft.plan.links.len();
     let groups = draft.plan.bound.listed().len();
+    let notices = draft.office.later.len();
     rng.shuffle(&mut draft.lines[1..=links]);
-    rng.shuffle(&mut draft.lines[links + groups + 3..]);
+    rng.shuffle(&mut draft.lines[links + groups + notices + 3..]);
     draft
 }
 
@@ -299,14 +342,23 @@ fn groups_for(rng: &mut Rng, cause: u32) -> bool {
     })
 }
 
+/// All that can stand where a plan ends, of a deaf one and of another, with groups and not; and where
+/// groups are promised and none is there.
+fn placed_case(rng: &mut Rng, kind: Kind, sort: u64, turn: u64) -> Vec<u8> {
+    let there = THERE[(turn % THERE.len() as u64) as usize];
+    let deaf = sort == 16 || (sort == 18 && rng.chance(50));
+    let listing = there.listing(rng, sort == 18);
+    placed(rng, kind, there, deaf, listing)
+}
+
 fn damaged(rng: &mut Rng, kind: Kind, sort: u64, turn: u64) -> Vec<u8> {
-    if sort >= 16 {
-        // All that can stand where a plan ends, of a deaf one and of another, with groups and not;
-        // and where groups are promised and none is there.
-        let there = THERE[(turn % THERE.len() as u64) as usize];
-        let deaf = sort == 16 || (sort == 18 && rng.chance(50));
-        let listing = there.listing(rng, sort == 18);
-        return placed(rng, kind, there, deaf, listing);
+    if sort >= 19 && kind == Kind::Run {
+        // Each way of mixing the forms, and of a wrong later notice.
+        let (way, _) = WAYS[((2 * turn + sort - 19) % WAYS.len() as u64) as usize];
+        return mixed(rng, way);
+    }
+    if (16..19).contains(&sort) {
+        return placed_case(rng, kind, sort, turn);
     }
     let causes = causes(kind);
     let cause = causes[(turn % causes.len() as u64) as usize];

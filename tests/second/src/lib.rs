@@ -5,7 +5,8 @@
 //! lines, bad sets are listed by size, the closure is a work list, a row of a record is a map
 //! of the places that hold something. The programs `verdict` and `run` read new plans; `archive`
 //! and `rewrite` open those on file too, in which a terminal may be deaf. A plan bounds the bad by
-//! a number f, or by named groups that fail together.
+//! a number f, or by named groups that fail together. A notice is an edition and a layout; run files
+//! in the old frames have the layout alone and count as edition 1.
 
 pub mod characters;
 pub mod compare;
@@ -14,18 +15,28 @@ pub mod draft;
 pub mod drawings;
 pub mod exhaust;
 pub mod faults;
+pub mod forms;
+pub mod frames;
 pub mod generate;
 pub mod grouping;
 pub mod groups;
+pub mod issues;
+pub mod kept;
+pub mod lent;
+pub mod notice;
+pub mod office;
 pub mod output;
 pub mod place;
 pub mod plan;
 pub mod plans;
+pub mod planted;
+pub mod planted_notices;
 pub mod reader;
 pub mod record;
 pub mod records;
 pub mod rng;
 pub mod run;
+pub mod sites;
 pub mod step;
 pub mod steps;
 pub mod verdict;

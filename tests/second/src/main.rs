@@ -3,7 +3,7 @@
 use second::faults::Fault;
 use second::generate::Kind;
 use second::reader::LONGEST_FILE;
-use second::{compare, exhaust, faults, generate, record};
+use second::{compare, exhaust, faults, generate, kept, record};
 use std::io::{self, Read, Write};
 use std::path::Path;
 use std::process::ExitCode;
@@ -17,7 +17,10 @@ const USAGE: &str = "usage:
   second faults [SEED COUNT]
   second exhaust
   second record CALLS LINES
-  second boards SEED COUNT CALLS LINES";
+  second boards SEED COUNT CALLS LINES
+  second issues SEED COUNT CALLS LINES
+  second keep PROGRAM_VERDICT PROGRAM_RUN FILE
+  second kept PROGRAM_VERDICT PROGRAM_RUN FILE";
 
 fn main() -> ExitCode {
     let words: Vec<String> = std::env::args().skip(1).collect();
@@ -57,7 +60,7 @@ fn dispatch(words: &[&str]) -> Option<bool> {
             number(seed)?,
             number(count)?,
         )),
-        ["faults"] => Some(faults::faults(1, 4000)),
+        ["faults"] => Some(faults::faults(1, 2400)),
         ["faults", seed, count] => Some(faults::faults(number(seed)?, number(count)?)),
         ["exhaust"] => Some(exhaust_all()),
         ["boards", seed, count, calls, lines] => Some(told(record::write_boards(
@@ -66,6 +69,17 @@ fn dispatch(words: &[&str]) -> Option<bool> {
             Path::new(calls),
             Path::new(lines),
         ))),
+        ["issues", seed, count, calls, lines] => Some(told(record::write_issues(
+            number(seed)?,
+            number(count)?,
+            Path::new(calls),
+            Path::new(lines),
+        ))),
+        ["keep", verdict, run, file] => Some(told(kept::keep(&[verdict, run], Path::new(file)))),
+        ["kept", verdict, run, file] => {
+            let same = kept::compare(&[verdict, run], Path::new(file));
+            Some(same.as_ref().is_ok_and(|&same| same) && told(same.map(drop)))
+        }
         ["record", calls, lines] => Some(told(record::write(Path::new(calls), Path::new(lines)))),
         _ => None,
     }

@@ -1,6 +1,7 @@
 //! Frames as lines of hexadecimal digits, and the text that each program prints.
 
 use crate::faults::Fault;
+use crate::notice::{Form, Notice};
 use crate::plan::{number_of, Plan, Set};
 use crate::reader::{read_archive, read_plan, read_run, Refusal};
 use crate::run::run_file;
@@ -73,14 +74,18 @@ pub fn verdict_line(answer: &Verdict, fault: Fault) -> Vec<u8> {
     line(&frame)
 }
 
-pub fn terminal_line(number: u32, bad: bool, record: &Record) -> Vec<u8> {
-    let (state, round, value) = match record.state {
-        _ if bad => (2, 0, 0),
-        State::Waiting => (0, 0, 0),
-        State::Taken(round, value) => (1, round as u8, value),
+pub fn terminal_line(number: u32, bad: bool, record: &Record, form: Form) -> Vec<u8> {
+    let (state, round, held) = match record.state {
+        _ if bad => (2, 0, Notice::default()),
+        State::Waiting => (0, 0, Notice::default()),
+        State::Taken(round, held) => (1, round as u8, held),
     };
-    let [high, low] = value.to_be_bytes();
-    line(&[0x82, number as u8, state, round, high, low])
+    let mut frame = vec![0x82, number as u8, state, round];
+    if form == Form::New {
+        frame.extend(held.edition.to_be_bytes());
+    }
+    frame.extend(held.layout.to_be_bytes());
+    line(&frame)
 }
 
 pub fn refusal_line(refusal: Refusal) -> Vec<u8> {
@@ -126,9 +131,15 @@ pub fn rewritten_text(text: &[u8], fault: Fault) -> Vec<u8> {
 pub fn run_answer(text: &[u8], fault: Fault) -> Result<Vec<u8>, Refusal> {
     let file = read_run(text, fault)?;
     let records = run_file(&file, fault).map_err(|cause| Refusal { cause, line: 0 })?;
-    let lines = (0..)
-        .zip(&records)
-        .flat_map(|(number, record)| terminal_line(number, file.bad.contains(&number), record));
+    let form = match fault {
+        Fault::OldPrintedNew => Form::New,
+        Fault::NewPrintedOld => Form::Old,
+        _ => file.form,
+    };
+    let lines = (0..).zip(&records).flat_map(|(number, record)| {
+        let bad = file.bad.contains(&number);
+        terminal_line(number, bad, record, form)
+    });
     Ok(lines.collect())
 }
 

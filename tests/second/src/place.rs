@@ -3,12 +3,15 @@
 
 use crate::damage::{plant, FOREIGN};
 use crate::draft::{
-    bad_set_line, group_line, head_line, join, link_line, run_draft, start_line, word_line, Manner,
+    bad_set_line, group_line, head_line, join, link_line, notice_line, run_draft, start_in,
+    start_line, word_in,
 };
 use crate::faults::Fault;
 use crate::generate::Kind;
 use crate::grouping::group_up;
 use crate::groups::{Bound, MOST_GROUPS};
+use crate::notice::{notice, Form};
+use crate::office::Manner;
 use crate::output::digits;
 use crate::plan::{Plan, Set};
 use crate::plans::{deafen, deep_plan, hear_at_source, strong_plan, thin_plan, weak_plan};
@@ -24,6 +27,9 @@ pub enum There {
     BadSetBound,
     Start,
     Word,
+    /// A later notice before the start, and before the bad set or after it.
+    Notice,
+    NoticeAfterBadSet,
     SameHead,
     WrongHead,
     UnknownKind,
@@ -56,12 +62,14 @@ pub enum There {
     GroupCut,
 }
 
-pub const THERE: [There; 34] = [
+pub const THERE: [There; 36] = [
     There::RightBadSet,
     There::BadSetMember,
     There::BadSetBound,
     There::Start,
     There::Word,
+    There::Notice,
+    There::NoticeAfterBadSet,
     There::SameHead,
     There::WrongHead,
     There::UnknownKind,
@@ -265,8 +273,12 @@ fn change_rest(rng: &mut Rng, plan: &Plan, rest: &mut Lines, there: There) {
         There::Start => drop(rest.remove(0)),
         There::Word => {
             let zero = rng.pick(&[0, 1]);
-            rest.insert(0, word_line(zero, 0, 1, 9 * zero as u16));
+            let form = rng.pick(&[Form::Old, Form::New]);
+            let said = notice(1, 9 * zero as u16);
+            rest.insert(0, word_in(form, (zero, 0, 1), said));
         }
+        There::Notice => rest.insert(0, any_notice(rng)),
+        There::NoticeAfterBadSet => rest.insert(1, any_notice(rng)),
         There::SameHead => rest.insert(0, head_line(plan)),
         There::WrongHead => {
             let wrong = rng.pick(&[b"01000000", b"01ffffff", b"01150000"]);
@@ -284,8 +296,9 @@ fn change_rest(rng: &mut Rng, plan: &Plan, rest: &mut Lines, there: There) {
         There::OddDigits => drop(rest[0].pop()),
         There::Empty => rest.insert(0, Vec::new()),
         There::Cut => {
-            let last = [rest[0].clone(), head_line(plan), start_line(7, None)];
-            *rest = vec![last[rng.below(3)].clone()];
+            let start = start_in(Form::New, notice(1, 7), None);
+            let last = [rest[0].clone(), head_line(plan), start, any_notice(rng)];
+            *rest = vec![last[rng.below(4)].clone()];
         }
         There::End | There::LinkCut | There::GroupCut => rest.clear(),
         There::EndAfterBadSet => rest.truncate(1),
@@ -313,12 +326,21 @@ fn change_rest(rng: &mut Rng, plan: &Plan, rest: &mut Lines, there: There) {
     }
 }
 
+/// A later notice, right in itself or not.
+fn any_notice(rng: &mut Rng) -> Vec<u8> {
+    let later = rng.pick(&[notice(2, 7), notice(0, 7), notice(2, 0)]);
+    notice_line(rng.pick(&[0, 1, 1, 41]), later)
+}
+
 /// The line gets too long or too short, under its own kind or another.
 fn wrong_length(rng: &mut Rng, line: &mut Vec<u8>) {
     match rng.below(3) {
         0 => line.truncate(rng.pick(&[2, 6])),
         1 => line.extend(b"00"),
-        _ => *line = digits(&[rng.pick(&[1, 3, 4, 5]), 2, 0, 0, 0][..rng.pick(&[1, 2, 5])]),
+        _ => {
+            let kind = rng.pick(&[1, 3, 4, 5, 8]);
+            *line = digits(&[kind, 2, 0, 0, 0, 0, 0][..rng.pick(&[1, 2, 7])]);
+        }
     }
 }
 

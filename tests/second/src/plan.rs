@@ -26,6 +26,7 @@ pub enum Cause {
     BadSetMember,
     BadSetBound,
     Start,
+    Edition,
     Word,
     WordTwice,
     Length,
@@ -50,6 +51,7 @@ impl Cause {
             Cause::Length => 12,
             Cause::Record => 13,
             Cause::Deaf => 15,
+            Cause::Edition => 16,
             Cause::Group => 17,
         }
     }

@@ -1,12 +1,14 @@
 //! Plan files and run files: from lines of hexadecimal digits to a plan or a run.
 
 use crate::faults::Fault;
+use crate::frames::{frame_bytes, length_fits};
 use crate::groups::{group_allowed, Bound, MOST_GROUPS};
+use crate::notice::{notice, Form, Notice, OLD_EDITION};
 use crate::output::GROUPS_LISTED;
 use crate::plan::{
     bound_holds, head_in_range, link_in_range, members_allowed, set_of, Cause, Plan, Set,
 };
-use crate::run::last_round;
+use crate::run::{last_round, rises};
 use std::collections::BTreeMap;
 
 pub const LONGEST_FILE: usize = 24_576;
@@ -18,14 +20,16 @@ pub struct Refusal {
     pub line: u16,
 }
 
-/// All that a run file says; words by (round, sender, hearer).
+/// All that a run file says; later notices by round, words by (round, sender, hearer).
 #[derive(Clone, Debug, PartialEq, Eq)]
 pub struct RunFile {
     pub plan: Plan,
     pub bad: Set,
-    pub value: u16,
+    pub form: Form,
+    pub start: Notice,
     pub rounds: u32,
-    pub words: BTreeMap<(u32, u32, u32), u16>,
+    pub later: BTreeMap<u32, Notice>,
+    pub words: BTreeMap<(u32, u32, u32), Notice>,
 }
 
 /// A plan already on file, with the terminals in it that hear nobody.
@@ -66,7 +70,9 @@ impl Reader {
         match kind {
             1 | 2 => true,
             7 => fault != Fault::GroupKindUnknown,
-            3..=5 => self == Reader::Run,
+            8 if fault == Fault::NoticeUnknown => false,
+            8 if fault == Fault::NoticeKnownInPlans => true,
+            3..=5 | 8 => self == Reader::Run,
             _ => false,
         }
     }
@@ -95,12 +101,15 @@ enum Stage {
     Links,
     Groups,
     Start,
+    Notices,
     Words,
 }
 
 struct Reading {
     reader: Reader,
     stage: Stage,
+    /// Known by the start.
+    form: Option<Form>,
     file: RunFile,
 }
 
@@ -127,13 +136,16 @@ fn read(text: &[u8], reader: Reader, fault: Fault) -> Result<Reading, Refusal> {
     let file = RunFile {
         plan,
         bad: Set::new(),
-        value: 0,
+        form: Form::Old,
+        start: Notice::default(),
         rounds: 0,
+        later: BTreeMap::new(),
         words: BTreeMap::new(),
     };
     let mut reading = Reading {
         reader,
         stage: Stage::Head,
+        form: None,
         file,
     };
     let first = if fault == Fault::LinesFromZero { 0 } else { 1 };
@@ -177,7 +189,8 @@ impl Reading {
             return Err(Cause::Text.into());
         };
         let kind = frame[0];
-        if !self.reader.knows(kind, fault) || !length_fits(kind, frame.len(), fault) {
+        let length = frame.len();
+        if !self.reader.knows(kind, fault) || !length_fits(kind, length, self.form, fault) {
             if self.is_place(kind, fault) {
                 self.ends_early(Some(kind), Cause::Kind, fault)?;
             }
@@ -212,6 +225,7 @@ impl Reading {
             2 => self.stage != Stage::Groups || fault != Fault::LateLinkEndsPlan,
             7 if self.file.plan.bound.has_groups() => true,
             7 => fault == Fault::GroupBesideNumberNoPlace,
+            8 => fault == Fault::NoticeNoPlace,
             _ => false,
         };
         matches!(self.stage, Stage::Links | Stage::Groups) && !in_plan
@@ -275,7 +289,8 @@ impl Reading {
 
     /// The end of the file: it may be where the plan ends, and a frame may be missing.
     fn take_end(&self, fault: Fault) -> Result<(), Found> {
-        let missing = self.reader == Reader::Run && self.stage != Stage::Words;
+        let started = matches!(self.stage, Stage::Notices | Stage::Words);
+        let missing = self.reader == Reader::Run && !started;
         let ended = self.plan_ends(None, fault);
         let after_missing = match fault {
             Fault::MissingBeforeDeaf => Some(Cause::Deaf),
@@ -303,7 +318,11 @@ impl Reading {
             }
             (Stage::Links | Stage::Groups, 3) => self.take_bad_set(rest, fault),
             (Stage::Start, 4) => self.take_start(rest, fault),
-            (Stage::Words, 5) => self.take_word(rest),
+            (Stage::Notices, 8) => self.take_notice(rest, fault),
+            (Stage::Words, 8) if fault == Fault::NoticeAfterWordAccepted => {
+                self.take_notice(rest, fault)
+            }
+            (Stage::Notices | Stage::Words, 5) => self.take_word(rest, fault),
             _ => Err(Cause::Order),
         }
     }
@@ -383,35 +402,109 @@ impl Reading {
     }
 
     fn take_start(&mut self, rest: &[u32], fault: Fault) -> Result<(), Cause> {
-        let value = (rest[0] * 256 + rest[1]) as u16;
-        let rounds = rounds_of(rest.get(2).copied(), self.file.plan.n, fault);
-        lowest(&[
-            (value == 0, Cause::Start),
-            (rounds > last_round(fault), Cause::Start),
-        ])?;
-        self.file.value = value;
+        let (form, start, named) = match rest {
+            [_, _] | [_, _, _] => (Form::Old, old_notice(rest, fault), rest.get(2)),
+            _ => (Form::New, new_notice(rest), rest.get(4)),
+        };
+        let rounds = rounds_of(named.copied(), self.file.plan.n, fault);
+        let no_edition = start.edition == 0 && fault != Fault::EditionZeroStartAccepted;
+        let wrong = start.layout == 0 || rounds > last_round(fault);
+        first_of_start(wrong, no_edition, fault)?;
+        self.form = Some(form);
+        self.file.form = form;
+        self.file.start = start;
         self.file.rounds = rounds;
-        self.stage = Stage::Words;
+        self.stage = Stage::Notices;
         Ok(())
     }
 
-    fn take_word(&mut self, rest: &[u32]) -> Result<(), Cause> {
-        let (round, from, to) = (rest[0], rest[1], rest[2]);
-        let value = (rest[3] * 256 + rest[4]) as u16;
+    /// The office's later notice: its round, then the notice. What is out of order comes first.
+    fn take_notice(&mut self, rest: &[u32], fault: Fault) -> Result<(), Cause> {
+        let (round, later) = (rest[0], new_notice(&rest[1..]));
         let file = &mut self.file;
+        let before = file.later.last_key_value();
+        let last_round = before.map_or(0, |(round, _)| *round);
+        let last = match fault {
+            Fault::LaterBesideStartOnly => file.start.edition,
+            _ => before.map_or(file.start.edition, |(_, notice)| notice.edition),
+        };
+        let past = round > file.rounds && fault != Fault::NoticePastLastAccepted;
+        let rising = match fault {
+            Fault::NoticeRoundZeroAccepted if round == 0 => true,
+            Fault::NoticeRoundTwiceAccepted if round > 0 => round >= last_round,
+            Fault::NoticeRoundsFallAccepted => round > 0 && round != last_round,
+            _ => round > last_round,
+        };
+        let stays = !rises(last, later.edition, fault);
+        match fault {
+            Fault::LayoutBeforeOrder if later.layout == 0 => return Err(Cause::Start),
+            Fault::EditionBeforeOrder if stays => return Err(Cause::Edition),
+            _ => {}
+        }
+        let old = self.form == Some(Form::Old) && fault == Fault::NoticeInOldRunOrder;
+        lowest(&[(past || !rising || old, Cause::Order)])?;
+        first_of_start(later.layout == 0, stays, fault)?;
+        file.later.insert(round, later);
+        Ok(())
+    }
+
+    fn take_word(&mut self, rest: &[u32], fault: Fault) -> Result<(), Cause> {
+        let (round, from, to) = (rest[0], rest[1], rest[2]);
+        let said = match rest.len() {
+            5 => old_notice(&rest[3..], fault),
+            _ => new_notice(&rest[3..]),
+        };
+        let file = &mut self.file;
+        let nothing = match fault {
+            Fault::EditionZeroWordAccepted => said.layout == 0,
+            Fault::LayoutZeroWordAccepted => {
+                said.edition == 0 || file.form == Form::Old && said.layout == 0
+            }
+            Fault::EditionZeroWordAsNotice if said.edition == 0 => return Err(Cause::Edition),
+            _ => said.is_silence(),
+        };
+        let twice = file.words.get(&(round, from, to));
+        let twice = match fault {
+            Fault::OtherEditionNotTwice => twice.is_some_and(|word| word.edition == said.edition),
+            _ => twice.is_some(),
+        };
         lowest(&[
-            (
-                file.words.contains_key(&(round, from, to)),
-                Cause::WordTwice,
-            ),
+            (twice, Cause::WordTwice),
             (round == 0 || round > file.rounds, Cause::Word),
             (!file.plan.links.contains(&(from, to)), Cause::Word),
             (!file.bad.contains(&from), Cause::Word),
-            (value == 0, Cause::Word),
+            (nothing, Cause::Word),
         ])?;
-        file.words.insert((round, from, to), value);
+        file.words.insert((round, from, to), said);
+        self.stage = Stage::Words;
         Ok(())
     }
+}
+
+/// Cause 9, then 16.
+fn first_of_start(wrong: bool, edition: bool, fault: Fault) -> Result<(), Cause> {
+    if edition && fault == Fault::EditionBeforeLayout {
+        return Err(Cause::Edition);
+    }
+    lowest(&[(edition, Cause::Edition), (wrong, Cause::Start)])
+}
+
+/// A layout alone.
+fn old_notice(bytes: &[u32], fault: Fault) -> Notice {
+    let edition = match fault {
+        Fault::OldCountsAsTwo => 2,
+        _ => OLD_EDITION,
+    };
+    notice(edition, two_bytes(bytes))
+}
+
+/// An edition, then a layout.
+fn new_notice(bytes: &[u32]) -> Notice {
+    notice(two_bytes(bytes), two_bytes(&bytes[2..]))
+}
+
+fn two_bytes(bytes: &[u32]) -> u16 {
+    (bytes[0] * 256 + bytes[1]) as u16
 }
 
 /// The rounds that a start means: those it names, or one less than there are terminals.
@@ -428,47 +521,4 @@ fn rounds_of(named: Option<u32>, terminals: u32, fault: Fault) -> u32 {
 /// The set that three bytes stand for, the high byte first.
 fn named_set(bytes: &[u32]) -> Set {
     set_of((bytes[0] * 256 + bytes[1]) * 256 + bytes[2])
-}
-
-fn length_fits(kind: u8, length: usize, fault: Fault) -> bool {
-    match kind {
-        1 | 3 => length == 4,
-        2 => length == 3,
-        4 => length == 3 || length == 4,
-        5 => length == 6,
-        7 if fault == Fault::GroupLengthNotChecked => length >= 4,
-        7 => length == 4,
-        _ => false,
-    }
-}
-
-/// The bytes of a line, or nothing where the line is no text of the right form.
-fn frame_bytes(piece: &[u8], fault: Fault) -> Option<Vec<u8>> {
-    let digits = match piece.strip_suffix(b"\n") {
-        Some(digits) => digits,
-        None if fault == Fault::UnendedLineAccepted => piece,
-        None => return None,
-    };
-    if digits.is_empty() || digits.len() % 2 == 1 {
-        return None;
-    }
-    digits
-        .chunks(2)
-        .map(|pair| Some(digit(pair[0], fault)? * 16 + digit(pair[1], fault)?))
-        .collect()
-}
-
-/// A digit's value is its place among the sixteen; no other character is one.
-fn digit(character: u8, fault: Fault) -> Option<u8> {
-    let sixteen: &[u8] = match fault {
-        Fault::CharactersExchanged => b"0123456789acbdef",
-        Fault::CharacterMissing => b"0123456789abcde",
-        _ => b"0123456789abcdef",
-    };
-    let character = match fault {
-        Fault::CapitalsAccepted => character.to_ascii_lowercase(),
-        _ => character,
-    };
-    let place = sixteen.iter().position(|&known| known == character)?;
-    Some(place as u8)
 }

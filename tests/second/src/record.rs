@@ -3,58 +3,66 @@
 //! A call is its kind, the length of the list that it lends, the length of its body (both two
 //! bytes, high byte first) and the body. Each call has one line of digits.
 //!
-//! A record is its state (0 waiting, 1 taken), the round of taking, the value (2), the round, and
-//! 20 rows. A row is its count, how many places follow, and these (2 each): all up to the last
-//! that is not 0.
+//! A notice is edition times 65,536 plus layout (4). A record is its state (0 waiting, 1 taken), the
+//! round of taking, the notice (0 if waiting), the round, and 20 rows. A row is its edition (2), its
+//! count, how many places follow, and these (2 each, layouts): all up to the last that is not 0.
 //!
 //! A bound is its kind (0 for f, 1 for groups), its number (f, or the count of groups), how many
 //! places follow, and these (4 each): all up to the last that is not 0. A plan is n, source, a bound
 //! and 20 rows (4 each). In a call the numbers have one byte, in an answer two.
+//!
+//! The kinds with notices: `s` has what was said (4 each). `n` has a plan, a fault set (4), the start,
+//! the rounds, how many later notices follow (2), these, and the words; `l` has the five records
+//! before the words. `i` has a record and a notice. `f` has the room of the list of later notices
+//! (1) and the file; its answer is number, line (2), the plan, the fault set (4), the form (0 old, 1
+//! new), the start, the rounds, how many places of the words hold the mark (4), those words that are
+//! neither 0 nor the mark (place 2, word 4), and the same of the later notices.
 
 use crate::characters;
 use crate::damage::plant;
-use crate::draft::{join, plan_draft, run_draft, Draft, Manner};
+use crate::draft::{join, plan_draft, run_draft, Draft};
 use crate::faults::Fault;
-use crate::generate::{case, edge_run, turning_run, Kind, SORTS, VALID_SORTS};
+use crate::forms::{mixed, WAYS as MIXED};
+use crate::generate::{case, edge_run, overtaken_run, turning_run, Kind, SORTS, VALID_SORTS};
 use crate::grouping::{group_thinly, group_up, maybe_grouped};
 use crate::groups::{Bound, Sort};
+use crate::issues::{issue_case, IssueCase};
+use crate::lent::{
+    read_answer, read_case, ReadCase, LATER_PLACES, MARK as MARK_NOTICE, WORD_PLACES,
+};
+use crate::notice::{notice, Form, Notice};
+use crate::office::Manner;
 use crate::output::{archive_answer, digits, refusal_line, run_answer, verdict_answer};
 use crate::place::{placed, THERE};
 use crate::plan::{number_of, set_of, write_plan, Cause, Plan, Set};
-use crate::plans::{deaf_plan, deafen, deep_plan, mend, strong_plan, thin_plan, weak_plan};
+use crate::plans::{deaf_plan, deep_plan, mend, strong_plan, thin_plan, weak_plan};
 use crate::reader::{read_archive, read_run, Refusal, RunFile};
-use crate::records::{
-    break_groups, break_plan, some_bad_set, some_plan, some_set, some_sets, WAYS,
-};
+use crate::records::{break_groups, some_bad_set, some_plan, some_sets, WAYS};
 use crate::rng::Rng;
-use crate::run::{run, Order};
+use crate::run::{issue, run};
+use crate::sites::{noisy_site, wrong_lists, Site};
 use crate::step::{step, Record, Row, State, PLACES, ROWS};
 use crate::steps::{step_case, StepCase};
 use crate::verdict::{fault_cause, witness_check};
 use std::fs;
 use std::io;
-use std::ops::RangeInclusive;
 use std::path::Path;
 
 pub const SEED: u64 = 20;
 
 /// What a lent list of bytes holds at each place before a call.
 const MARK: u8 = 0x5a;
-/// The same of a lent list of words.
-const MARK_WORD: u16 = 0x5a5a;
-/// Places in the list of words that the reader of run files is lent.
-const WORD_PLACES: usize = 16_000;
 /// The longest list that `replay` lends for a plan's text.
 const LONGEST_TEXT: usize = 3_000;
 
 /// The longest body that `replay` reads, and the most digits that it prints in a line, with some
 /// to spare.
-pub const LONGEST_BODY: usize = 32_768;
+pub const LONGEST_BODY: usize = 60_000;
 pub const LONGEST_LINE: usize = 65_000;
 
 /// So many calls of a kind may have more bytes than this in body and line together.
 const MAY_BE_LONG: u64 = 120;
-const LONG: usize = 1_500;
+const LONG: usize = 1_900;
 
 /// One call, and the line that answers it.
 pub struct Call {
@@ -82,14 +90,14 @@ pub fn write(calls_file: &Path, lines_file: &Path) -> io::Result<()> {
 type Maker = fn(u64, u64) -> Call;
 
 /// Every kind of call, and how many of it.
-const KINDS: [(Maker, u64); 25] = [
+const KINDS: [(Maker, u64); 30] = [
     (verdict_call, 600),
     (run_call, 600),
     (edge_call, 150),
     (turning_call, 200),
     (read_call, 300),
     (write_call, 200),
-    (step_call, 1500),
+    (step_call, 1800),
     (witness_call, 500),
     (fault_set_call, 400),
     (site_call, 300),
@@ -101,13 +109,18 @@ const KINDS: [(Maker, u64); 25] = [
     (run_character_call, characters::FILES),
     (archive_call, 300),
     (open_call, 300),
-    (placed_plan_call, 165),
-    (placed_run_call, 165),
+    (placed_plan_call, 5 * THERE.len() as u64),
+    (placed_run_call, 5 * THERE.len() as u64),
     (grouped_call, 150),
     (longest_text_call, 3),
     (wrong_groups_call, 84),
-    (seldom_call, 54),
-    (seldom_read_call, 36),
+    (seldom_call, 80),
+    (seldom_read_call, 50),
+    (mixed_call, 4 * MIXED.len() as u64),
+    (mixed_read_call, 2 * MIXED.len() as u64),
+    (overtaken_call, 40),
+    (wrong_lists_call, 120),
+    (issue_call, 400),
 ];
 
 /// The calls of each kind. Of the long ones a few are enough.
@@ -318,7 +331,7 @@ fn late_file(rng: &mut Rng, cause: u32) -> Vec<u8> {
 }
 
 /// Causes that the damaged files seldom reach, in turn.
-const SELDOM: [u32; 9] = [11, 17, 11, 8, 7, 11, 6, 9, 4];
+const SELDOM: [u32; 10] = [11, 17, 11, 8, 7, 11, 6, 9, 4, 16];
 
 fn seldom_file(seed: u64, letter: u8, index: u64) -> Vec<u8> {
     let cause = SELDOM[(index % SELDOM.len() as u64) as usize];
@@ -330,7 +343,41 @@ fn seldom_call(seed: u64, index: u64) -> Call {
 }
 
 fn seldom_read_call(seed: u64, index: u64) -> Call {
-    read_of(seldom_file(seed, b'4', index), WORD_PLACES)
+    read_of(ReadCase {
+        text: seldom_file(seed, b'4', index),
+        words: WORD_PLACES,
+        later: LATER_PLACES,
+    })
+}
+
+/// Each way of mixing the forms, and of a wrong later notice, in turn.
+fn mixed_file(seed: u64, letter: u8, index: u64) -> Vec<u8> {
+    let (way, _) = MIXED[(index % MIXED.len() as u64) as usize];
+    mixed(&mut rng_for(seed, letter, index), way)
+}
+
+fn mixed_call(seed: u64, index: u64) -> Call {
+    whole_call(RUN, mixed_file(seed, b'5', index))
+}
+
+fn mixed_read_call(seed: u64, index: u64) -> Call {
+    read_of(ReadCase {
+        text: mixed_file(seed, b'6', index),
+        words: WORD_PLACES,
+        later: LATER_PLACES,
+    })
+}
+
+/// Notices that overtake each other, with room for the whole answer.
+fn overtaken_call(seed: u64, index: u64) -> Call {
+    let mut rng = rng_for(seed, b'7', index);
+    let manner = rng.pick(&[
+        Manner::Silent,
+        Manner::Wild,
+        Manner::Forward,
+        Manner::Backward,
+    ]);
+    whole_call(RUN, join(&overtaken_run(&mut rng, manner).lines))
 }
 
 fn write_call(seed: u64, index: u64) -> Call {
@@ -414,76 +461,54 @@ fn open_call(seed: u64, index: u64) -> Call {
 // ---- the reader of run files
 
 fn read_call(seed: u64, index: u64) -> Call {
-    let mut rng = rng_for(seed, b'f', index);
-    // Other files than those that are run.
-    let sorts = if rng.chance(40) { VALID_SORTS } else { SORTS };
-    let place = (1_000 + index) * SORTS + rng.below(sorts as usize) as u64;
-    let body = case(Kind::Run, seed, place);
-    let wrong = [0, 1, WORD_PLACES - 1, WORD_PLACES + 1];
-    let lent = if rng.chance(15) {
-        rng.pick(&wrong)
-    } else {
-        WORD_PLACES
-    };
-    read_of(body, lent)
+    read_of(read_case(seed, index))
 }
 
-/// A file for the reader, and a list of so many places for its words.
-fn read_of(body: Vec<u8>, lent: usize) -> Call {
-    // A file's own causes all come before that of the list's length, 15 and 17 with those of their
-    // places.
-    let line = match read_run(&body, Fault::None) {
-        Err(refusal) => refused_file(refusal.cause, refusal.line, lent),
-        Ok(_) if lent != WORD_PLACES => refused_file(Cause::Length, 0, lent),
+/// A file for the reader, and two lists of so many places.
+fn read_of(call: ReadCase) -> Call {
+    let (answer, words, later) = read_answer(&call, Fault::None);
+    let mut line = match answer {
         Ok(file) => accepted_file(&file),
+        Err(refusal) => refused_file(refusal),
     };
+    line.extend(list_bytes(&words));
+    line.extend(list_bytes(&later));
     Call {
         kind: b'f',
-        lent,
-        body,
+        lent: call.words,
+        body: [&[call.later as u8], &call.text[..]].concat(),
         line,
     }
 }
 
-/// Number and line, zeros for all that is read, and the list as it was.
-fn refused_file(cause: Cause, line: u16, lent: usize) -> Vec<u8> {
-    let marks = (lent as u32).to_be_bytes();
-    [
-        &[cause.number()],
-        &pair(line)[..],
-        &NO_PLAN,
-        &[0; 4 + 2 + 1],
-        &marks,
-    ]
-    .concat()
+/// Number and line, and zeros for all that is read.
+fn refused_file(refusal: Refusal) -> Vec<u8> {
+    let zeros = [0; 4 + 1 + 4 + 1];
+    let line = pair(refusal.line);
+    [&[refusal.cause.number()], &line[..], &NO_PLAN, &zeros].concat()
 }
 
 fn accepted_file(file: &RunFile) -> Vec<u8> {
-    let plan = &file.plan;
     let mut line = vec![0; 3];
-    line.extend(answered_plan(plan));
+    line.extend(answered_plan(&file.plan));
     line.extend(quad(&file.bad));
-    line.extend(pair(file.value));
+    line.push(u8::from(file.form == Form::New));
+    line.extend(file.start.number().to_be_bytes());
     line.push(file.rounds as u8);
-    let marks = file.words.values().filter(|&&word| word == MARK_WORD);
-    line.extend((marks.count() as u32).to_be_bytes());
-    for (place, &word) in words_of(file).iter().enumerate() {
-        if word != 0 && word != MARK_WORD {
-            line.extend(pair(place as u16));
-            line.extend(pair(word));
-        }
-    }
     line
 }
 
-/// The words of a run file as the list that a run is lent.
-fn words_of(file: &RunFile) -> Vec<u16> {
-    let n = file.plan.n;
-    let mut words = vec![0; (file.rounds * n * n) as usize];
-    for (&(round, from, to), &value) in &file.words {
-        words[(((round - 1) * n + from) * n + to) as usize] = value;
+/// How many places of a list hold the mark, and what the others hold, but for zeros.
+fn list_bytes(list: &[u32]) -> Vec<u8> {
+    let marks = list.iter().filter(|&&number| number == MARK_NOTICE).count();
+    let mut bytes = (marks as u32).to_be_bytes().to_vec();
+    for (place, &number) in list.iter().enumerate() {
+        if number != 0 && number != MARK_NOTICE {
+            bytes.extend(pair(place as u16));
+            bytes.extend(number.to_be_bytes());
+        }
     }
-    words
+    bytes
 }
 
 // ---- plans and sets
@@ -595,18 +620,26 @@ fn fault_set(plan: &Plan, bad: &Set) -> Call {
 // ---- the step
 
 fn record_bytes(record: &Record) -> Vec<u8> {
-    let (state, round, value) = match record.state {
-        State::Waiting => (0, 0, 0),
-        State::Taken(round, value) => (1, round as u8, value),
+    let (state, round, held) = match record.state {
+        State::Waiting => (0, 0, Notice::default()),
+        State::Taken(round, held) => (1, round as u8, held),
     };
     let mut bytes = vec![state, round];
-    bytes.extend(pair(value));
+    bytes.extend(held.number().to_be_bytes());
     bytes.push(record.round as u8);
     for row in &record.notes {
+        bytes.extend(pair(row.edition));
         bytes.extend([row.count as u8, row.used() as u8]);
         bytes.extend((0..row.used()).flat_map(|place| pair(row.at(place))));
     }
     bytes
+}
+
+/// Notices, four bytes each.
+fn number_bytes(list: &[u32]) -> Vec<u8> {
+    list.iter()
+        .flat_map(|number| number.to_be_bytes())
+        .collect()
 }
 
 fn step_call(seed: u64, index: u64) -> Call {
@@ -619,135 +652,72 @@ fn step_call(seed: u64, index: u64) -> Call {
     body.push(place.number as u8);
     body.extend(quad(&place.heard));
     body.extend(record_bytes(&record));
-    body.extend(said.iter().flat_map(|&word| pair(word)));
-    let (number, after) = match step(&place, record, &said, Fault::None) {
-        Ok(after) => (0, after),
-        Err((cause, after)) => (cause.number(), after),
-    };
+    body.extend(number_bytes(&said));
+    let answer = step(&place, record, &said, Fault::None);
     Call {
         kind: b's',
         lent: said.len(),
         body,
-        line: [&[number], &record_bytes(&after)[..]].concat(),
+        line: answered_record(answer),
+    }
+}
+
+/// A number, and the record beside it.
+fn answered_record(answer: Result<Record, (Cause, Record)>) -> Vec<u8> {
+    let (number, after) = match answer {
+        Ok(after) => (0, after),
+        Err((cause, after)) => (cause.number(), after),
+    };
+    [&[number], &record_bytes(&after)[..]].concat()
+}
+
+/// The source's board takes a later notice.
+fn issue_call(seed: u64, index: u64) -> Call {
+    let IssueCase { record, later } = issue_case(seed, index);
+    Call {
+        kind: b'i',
+        lent: 0,
+        body: [&record_bytes(&record)[..], &later.frame_bytes()].concat(),
+        line: answered_record(issue(record, later, Fault::None)),
     }
 }
 
 // ---- the run by value
 
-/// What a run is given, with its words as a list.
-struct Site {
-    plan: Plan,
-    bad: Set,
-    value: u16,
-    rounds: u32,
-    words: Vec<u16>,
-}
-
-impl Site {
-    fn of(file: RunFile) -> Site {
-        Site {
-            words: words_of(&file),
-            plan: file.plan,
-            bad: file.bad,
-            value: file.value,
-            rounds: file.rounds,
-        }
-    }
-
-    fn order(&self) -> Order<'_> {
-        Order {
-            plan: &self.plan,
-            bad: &self.bad,
-            value: self.value,
-            rounds: self.rounds,
-            words: &self.words,
-        }
-    }
-
-    /// All but the words.
-    fn head_bytes(&self) -> Vec<u8> {
-        let mut bytes = plan_bytes(&self.plan);
-        bytes.extend(quad(&self.bad));
-        bytes.extend(pair(self.value));
-        bytes.push(self.rounds as u8);
-        bytes
-    }
-
-    fn word_bytes(&self) -> Vec<u8> {
-        self.words.iter().flat_map(|&word| pair(word)).collect()
-    }
+/// All but the words of a run's call.
+fn site_head(of: &Site) -> Vec<u8> {
+    let mut bytes = plan_bytes(&of.plan);
+    bytes.extend(quad(&of.bad));
+    bytes.extend(of.start.number().to_be_bytes());
+    bytes.push(of.rounds as u8);
+    bytes.extend(pair(of.later.len() as u16));
+    bytes.extend(number_bytes(&of.later));
+    bytes
 }
 
 fn site(of: Site) -> Call {
     // Twenty places are printed at most; a plan with more is refused and leaves start records.
-    let mut records = vec![Record::waiting(); of.plan.n as usize];
-    let mut line = vec![number(run(&of.order(), &mut records, Fault::None))];
+    let (answer, records) = of.played(Fault::None);
+    let mut line = vec![number(answer)];
     line.extend(records.iter().take(20).flat_map(record_bytes));
     Call {
         kind: b'n',
         lent: of.words.len(),
-        body: [of.head_bytes(), of.word_bytes()].concat(),
+        body: [site_head(&of), number_bytes(&of.words)].concat(),
         line,
     }
-}
-
-/// The run of a file, with noise where no word is looked at; one in ten has deaf terminals, which
-/// a plan record may have, and one in three is then broken.
-fn noisy_site(rng: &mut Rng, seed: u64, sizes: RangeInclusive<u32>) -> Site {
-    let file = loop {
-        let turn = 10_000 + rng.below(1 << 30) as u64;
-        let index = turn * SORTS + rng.below(VALID_SORTS as usize) as u64;
-        match read_run(&case(Kind::Run, seed, index), Fault::None) {
-            Ok(file) if sizes.contains(&file.plan.n) => break file,
-            _ => continue,
-        }
-    };
-    let mut of = Site::of(file);
-    if rng.chance(10) {
-        deafen(rng, &mut of.plan);
-    }
-    let n = of.plan.n as usize;
-    for (place, word) in of.words.iter_mut().enumerate() {
-        let link = ((place / n % n) as u32, (place % n) as u32);
-        let looked_at = of.bad.contains(&link.0) && of.plan.links.contains(&link);
-        if !looked_at && rng.chance(30) {
-            *word = rng.pick(&[1, 3, of.value]);
-        }
-    }
-    if rng.chance(33) {
-        break_site(rng, &mut of);
-    }
-    of
 }
 
 fn site_call(seed: u64, index: u64) -> Call {
     site(noisy_site(&mut rng_for(seed, b'n', index), seed, 2..=8))
 }
 
-fn break_site(rng: &mut Rng, of: &mut Site) {
-    let length = of.words.len();
-    match rng.below(7) {
-        0 => break_plan(rng, &mut of.plan),
-        1 => drop(of.bad.insert(of.plan.source)),
-        2 => drop(of.bad.insert(rng.between(of.plan.n, 31))),
-        3 => {
-            of.bad = some_set(rng, of.plan.n);
-            of.bad.remove(&of.plan.source);
-            if !of.plan.bound.has_groups() {
-                of.plan.bound = Bound::f(0);
-            }
-        }
-        4 => of.value = 0,
-        5 => of.rounds = rng.pick(&[41, 255]),
-        _ => {
-            let short = length.saturating_sub(1);
-            of.words.resize(rng.pick(&[0, short, length + 1]), 1);
-        }
-    }
+fn wrong_lists_call(seed: u64, index: u64) -> Call {
+    site(wrong_lists(&mut rng_for(seed, b'8', index), seed))
 }
 
 /// A sample of the whole space of sites with three terminals: any links, f or two groups, bad set
-/// and script over silence, the value and a lie, for two rounds.
+/// and script over silence, two notices and a lie, for two rounds.
 fn small_site_call(seed: u64, index: u64) -> Call {
     let mut rng = rng_for(seed, b'x', index);
     let mut plan = Plan::new(3, rng.between(0, 2), rng.between(0, 2));
@@ -769,12 +739,18 @@ fn small_site_call(seed: u64, index: u64) -> Call {
     }
     let mut bad = set_of(rng.between(0, 7));
     bad.remove(&plan.source);
-    let words = (0..18).map(|_| rng.pick(&[0, 7, 3])).collect();
+    let [first, second] = [notice(1, 7).number(), notice(2, 3).number()];
+    let lie = notice(1, 3).number();
+    let words = (0..18)
+        .map(|_| rng.pick(&[0, first, lie, second]))
+        .collect();
+    let later = [[0, 0], [second, 0], [0, second]];
     site(Site {
         plan,
         bad,
-        value: 7,
+        start: notice(1, 7),
         rounds: 2,
+        later: rng.pick(&later).to_vec(),
         words,
     })
 }
@@ -821,7 +797,10 @@ const LENT_RECORDS: usize = 5;
 fn noise(rng: &mut Rng) -> Record {
     let state = match rng.below(3) {
         0 => State::Waiting,
-        _ => State::Taken(u32::from(rng.byte()), rng.pick(&[0, 7, 65_535])),
+        _ => {
+            let held = [notice(0, 0), notice(1, 7), notice(65_535, 65_535)];
+            State::Taken(u32::from(rng.byte()), rng.pick(&held))
+        }
     };
     Record {
         state,
@@ -837,6 +816,7 @@ fn noise_row(rng: &mut Rng) -> Row {
         return row;
     }
     let any = u32::from(rng.byte());
+    row.edition = rng.pick(&[0, 1, 256, 65_535]);
     row.count = rng.pick(&[0, 1, 2, 40, any]);
     let last = rng.between(0, PLACES - 1);
     for place in [0, 1, last] {
@@ -860,7 +840,7 @@ fn lent_call(seed: u64, index: u64) -> Call {
     Call {
         kind: b'l',
         lent: of.words.len(),
-        body: [of.head_bytes(), before, of.word_bytes()].concat(),
+        body: [site_head(&of), before, number_bytes(&of.words)].concat(),
         line,
     }
 }
@@ -871,9 +851,26 @@ fn lent_call(seed: u64, index: u64) -> Call {
 /// bound as in an answer's plan, own number in two bytes, the heard set in four, the record, and
 /// what was said.
 pub fn write_boards(seed: u64, count: u64, calls: &Path, lines: &Path) -> io::Result<()> {
+    write_lines(
+        (0..count).map(|index| board_call(seed, index)),
+        calls,
+        lines,
+    )
+}
+
+/// The same of a board that takes a later notice: the record, and the notice.
+pub fn write_issues(seed: u64, count: u64, calls: &Path, lines: &Path) -> io::Result<()> {
+    let all = (0..count).map(|index| board_issue(seed, index));
+    write_lines(all, calls, lines)
+}
+
+fn write_lines(
+    all: impl Iterator<Item = (Vec<u8>, Vec<u8>)>,
+    calls: &Path,
+    lines: &Path,
+) -> io::Result<()> {
     let (mut input, mut output) = (Vec::new(), Vec::new());
-    for index in 0..count {
-        let (call, line) = board_call(seed, index);
+    for (call, line) in all {
         input.extend(digits(&call));
         input.push(10);
         output.extend(digits(&line));
@@ -883,7 +880,38 @@ pub fn write_boards(seed: u64, count: u64, calls: &Path, lines: &Path) -> io::Re
     fs::write(lines, output)
 }
 
-/// A step's call; one record in five has bytes that are no state.
+/// Bytes of a record, one in five of which has bytes that are no state, and the record that they stand
+/// for: such bytes are a wrong record, and that is looked at in the same place.
+fn board_record(rng: &mut Rng, record: Record) -> (Vec<u8>, Record) {
+    let mut bytes = record_bytes(&record);
+    if !rng.chance(20) {
+        return (bytes, record);
+    }
+    break_state(rng, &mut bytes);
+    let stands_for = Record {
+        state: State::Taken(0, Notice::default()),
+        ..record
+    };
+    (bytes, stands_for)
+}
+
+/// A refused record's bytes come back as they are, whatever they are.
+fn board_line(answer: Result<Record, (Cause, Record)>, before: &[u8]) -> Vec<u8> {
+    match answer {
+        Ok(after) => [&[0], &record_bytes(&after)[..]].concat(),
+        Err((cause, _)) => [&[cause.number()], before].concat(),
+    }
+}
+
+fn board_issue(seed: u64, index: u64) -> (Vec<u8>, Vec<u8>) {
+    let mut rng = rng_for(seed, b'j', index);
+    let IssueCase { record, later } = issue_case(seed, index);
+    let (bytes, record) = board_record(&mut rng, record);
+    let call = [&bytes[..], &later.frame_bytes()].concat();
+    (call, board_line(issue(record, later, Fault::None), &bytes))
+}
+
+/// A step's call.
 fn board_call(seed: u64, index: u64) -> (Vec<u8>, Vec<u8>) {
     let mut rng = rng_for(seed, b'b', index);
     let StepCase {
@@ -895,42 +923,27 @@ fn board_call(seed: u64, index: u64) -> (Vec<u8>, Vec<u8>) {
     if place.bound.sort == Sort::Number {
         place.bound = Bound::f(place.bound.number);
     }
-    let mut bytes = record_bytes(&record);
-    let broken = rng.chance(20);
-    if broken {
-        break_state(&mut rng, &mut bytes);
-    }
+    let (bytes, record) = board_record(&mut rng, record);
     let mut call = answered_head(place.n, place.source, &place.bound);
     call.extend(pair(place.number as u16));
     call.extend(quad(&place.heard));
     call.extend(&bytes);
-    call.extend(said.iter().flat_map(|&word| pair(word)));
-    // Bytes that are no state are a wrong record, and that is looked at in the same place.
-    let stands_for = if broken {
-        Record {
-            state: State::Taken(0, 0),
-            ..record
-        }
-    } else {
-        record
-    };
-    let line = match step(&place, stands_for, &said, Fault::None) {
-        Ok(after) => [&[0], &record_bytes(&after)[..]].concat(),
-        Err((cause, _)) => [&[cause.number()], &bytes[..]].concat(),
-    };
-    (call, line)
+    call.extend(number_bytes(&said));
+    let answer = step(&place, record, &said, Fault::None);
+    (call, board_line(answer, &bytes))
 }
 
-/// A first byte that is neither 0 nor 1, or a waiting record with a round or a value.
+/// A first byte that is neither 0 nor 1, or a waiting record with a round or a notice.
 fn break_state(rng: &mut Rng, bytes: &mut [u8]) {
-    bytes[..4].copy_from_slice(&[0; 4]);
+    bytes[..6].copy_from_slice(&[0; 6]);
     match rng.below(4) {
         0 => bytes[1] = 1 + rng.below(255) as u8,
-        1 => bytes[2 + rng.below(2)] = 1 + rng.below(255) as u8,
+        1 => bytes[2 + rng.below(4)] = 1 + rng.below(255) as u8,
         _ => {
             bytes[0] = 2 + rng.below(254) as u8;
             bytes[1] = rng.byte();
             bytes[3] = rng.byte();
+            bytes[5] = rng.byte();
         }
     }
 }

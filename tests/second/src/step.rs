@@ -2,6 +2,7 @@
 
 use crate::faults::Fault;
 use crate::groups::{Bound, Rule};
+use crate::notice::{notice, Notice};
 use crate::plan::{head_in_range, Cause, Set};
 use crate::run::last_round;
 use std::collections::{BTreeMap, BTreeSet};
@@ -14,24 +15,39 @@ pub const PLACES: u32 = 40;
 #[derive(Clone, Copy, Debug, PartialEq, Eq)]
 pub enum State {
     Waiting,
-    /// The round of taking and the value.
-    Taken(u32, u16),
+    /// The round of taking and the notice.
+    Taken(u32, Notice),
 }
 
-/// What a record holds of one terminal. It can hold nonsense: any count, any values.
+impl State {
+    /// The edition that is held, 0 while waiting.
+    pub fn edition(self) -> u16 {
+        match self {
+            State::Waiting => 0,
+            State::Taken(_, held) => held.edition,
+        }
+    }
+}
+
+/// What a record holds of one terminal. It can hold nonsense: any edition, any count, any layouts.
 #[derive(Clone, Debug, Default, PartialEq, Eq)]
 pub struct Row {
-    /// How many values are noted.
+    /// The highest edition that was said.
+    pub edition: u16,
+    /// How many layouts are noted, all in this edition.
     pub count: u32,
     /// What stands in the places, from 0; a place that holds 0 has no entry.
     places: BTreeMap<u32, u16>,
 }
 
 impl Row {
-    /// The row that has noted these.
-    pub fn of(values: &[u16]) -> Row {
-        let mut row = Row::default();
-        values.iter().for_each(|&value| row.add(value));
+    /// The row that has noted these in one edition.
+    pub fn of(edition: u16, layouts: &[u16]) -> Row {
+        let mut row = Row {
+            edition,
+            ..Row::default()
+        };
+        layouts.iter().for_each(|&layout| row.add(layout));
         row
     }
 
@@ -39,21 +55,21 @@ impl Row {
         self.places.get(&place).copied().unwrap_or(0)
     }
 
-    pub fn put(&mut self, place: u32, value: u16) {
-        if value == 0 {
+    pub fn put(&mut self, place: u32, layout: u16) {
+        if layout == 0 {
             self.places.remove(&place);
         } else {
-            self.places.insert(place, value);
+            self.places.insert(place, layout);
         }
     }
 
     /// Notes one more.
-    pub fn add(&mut self, value: u16) {
-        self.put(self.count, value);
+    pub fn add(&mut self, layout: u16) {
+        self.put(self.count, layout);
         self.count += 1;
     }
 
-    /// The noted values as they stand, without zeros. Later places are not looked at.
+    /// The noted layouts as they stand, without zeros. Later places are not looked at.
     pub fn noted(&self) -> Vec<u16> {
         self.places
             .range(..self.count)
@@ -72,8 +88,8 @@ impl Row {
     }
 }
 
-/// Who has each value.
-pub type Votes = BTreeMap<u16, Vec<u32>>;
+/// Who has each layout of one edition.
+type Votes = BTreeMap<u16, Vec<u32>>;
 
 /// What a terminal keeps from round to round.
 #[derive(Clone, Debug, PartialEq, Eq)]
@@ -83,7 +99,7 @@ pub struct Record {
     /// A row for each of the 20 terminals.
     pub notes: Vec<Row>,
     /// Votes beside those of the rows. Stays empty, save under the fault that counts words.
-    pub tally: Votes,
+    pub tally: BTreeMap<Notice, Vec<u32>>,
 }
 
 impl Record {
@@ -96,9 +112,9 @@ impl Record {
         }
     }
 
-    pub fn source(value: u16) -> Record {
+    pub fn source(start: Notice) -> Record {
         Record {
-            state: State::Taken(0, value),
+            state: State::Taken(0, start),
             ..Record::waiting()
         }
     }
@@ -126,7 +142,7 @@ pub struct Place {
 pub fn step(
     place: &Place,
     record: Record,
-    said: &[u16],
+    said: &[u32],
     fault: Fault,
 ) -> Result<Record, (Cause, Record)> {
     if let Err(cause) = check(place, &record, said, fault) {
@@ -134,20 +150,24 @@ pub fn step(
     }
     let mut after = record;
     after.round += 1;
-    let waits = after.state == State::Waiting;
-    if waits || fault == Fault::TakenNotes {
+    let source = place.number == place.source;
+    let deaf = match fault {
+        Fault::TakenNotesNothing => after.state != State::Waiting,
+        Fault::SourceNotesNothing => source,
+        _ => false,
+    };
+    if !deaf {
         note(place, &mut after, said, fault);
     }
-    if waits {
-        if let Some(value) = choose(place, &after, fault) {
-            after.state = State::Taken(after.round, value);
-        }
+    // What the source holds is the office's to say.
+    if !source || fault == Fault::SourceTakes {
+        take(place, &mut after, fault);
     }
     Ok(after)
 }
 
 /// Causes 4, 5, 17, 13 and 12, in this order.
-fn check(place: &Place, record: &Record, said: &[u16], fault: Fault) -> Result<(), Cause> {
+fn check(place: &Place, record: &Record, said: &[u32], fault: Fault) -> Result<(), Cause> {
     let too_many = too_many_values(place, record, fault);
     if too_many && fault == Fault::CountsFirst {
         return Err(Cause::Record);
@@ -159,11 +179,8 @@ fn check(place: &Place, record: &Record, said: &[u16], fault: Fault) -> Result<(
     if fault == Fault::GroupsBeforeLinkEnds {
         groups?;
     }
-    if place
-        .heard
-        .iter()
-        .any(|&other| other >= place.n || other == place.number)
-    {
+    let wrong_end = |&other: &u32| other >= place.n || other == place.number;
+    if place.heard.iter().any(wrong_end) {
         return Err(Cause::LinkEnd);
     }
     if fault != Fault::GroupsAfterRecord {
@@ -171,7 +188,7 @@ fn check(place: &Place, record: &Record, said: &[u16], fault: Fault) -> Result<(
     }
     let odd_state = match record.state {
         State::Waiting => place.number == place.source,
-        State::Taken(round, value) => round > record.round || value == 0,
+        State::Taken(round, held) => round > record.round || no_notice(held, fault),
     };
     if record.round >= last_round(fault) || place.number >= place.n || odd_state {
         return Err(Cause::Record);
@@ -187,7 +204,16 @@ fn check(place: &Place, record: &Record, said: &[u16], fault: Fault) -> Result<(
     Ok(())
 }
 
-/// Whether a heard neighbour has more values than rounds were played.
+/// Whether nobody can have taken this.
+fn no_notice(held: Notice, fault: Fault) -> bool {
+    match fault {
+        Fault::EditionZeroTakenAccepted => held.layout == 0,
+        Fault::LayoutZeroTakenAccepted => held.edition == 0,
+        _ => held.is_silence(),
+    }
+}
+
+/// Whether a heard neighbour has more layouts than rounds were played, whatever its edition.
 fn too_many_values(place: &Place, record: &Record, fault: Fault) -> bool {
     let taken = record.state != State::Waiting;
     let allowed = match fault {
@@ -196,81 +222,194 @@ fn too_many_values(place: &Place, record: &Record, fault: Fault) -> bool {
         Fault::CountCheckedByPlaces => PLACES,
         _ => record.round,
     };
-    let looked_at =
-        |terminal: u32| place.heard.contains(&terminal) || fault == Fault::CountOfUnheardChecked;
+    let looked_at = |terminal: u32, row: &Row| match fault {
+        Fault::CountOfUnheardChecked => true,
+        Fault::CountOfEditionZeroNotChecked if row.edition == 0 => false,
+        Fault::CountBelowHeldNotChecked if row.edition < record.state.edition() => false,
+        _ => place.heard.contains(&terminal),
+    };
     (0..).zip(&record.notes).any(|(terminal, row)| {
         let refused = match fault {
             Fault::CountAtRoundRefused => row.count >= allowed,
+            Fault::CountOverAllEditions => row.count.max(row.held().len() as u32) > allowed,
             _ => row.count > allowed,
         };
-        refused && looked_at(terminal)
+        refused && looked_at(terminal, row)
     })
 }
 
+// ---- what is noted
+
 /// Every heard neighbour's word, if it is a new one of this neighbour.
-fn note(place: &Place, record: &mut Record, said: &[u16], fault: Fault) {
-    for (neighbour, &word) in (0..).zip(said) {
+fn note(place: &Place, record: &mut Record, said: &[u32], fault: Fault) {
+    for (neighbour, &number) in (0..).zip(said) {
+        let word = Notice::of(number);
         let heard = place.heard.contains(&neighbour) || fault == Fault::UnheardNoted;
-        if word == 0 || !heard {
+        if !heard || says_nothing(word, fault) {
             continue;
         }
-        if fault == Fault::WordsCounted && record.row(neighbour).noted().contains(&word) {
+        let row = record.row(neighbour);
+        let known = row.edition == word.edition && row.noted().contains(&word.layout);
+        if known && fault == Fault::WordsCounted {
             record.tally.entry(word).or_default().push(neighbour);
         }
         note_word(record.row_mut(neighbour), word, fault);
     }
 }
 
-fn note_word(row: &mut Row, word: u16, fault: Fault) {
+fn says_nothing(word: Notice, fault: Fault) -> bool {
+    match fault {
+        Fault::LayoutZeroHeard => word.edition == 0,
+        Fault::EditionZeroHeard => word.layout == 0,
+        _ => word.is_silence(),
+    }
+}
+
+/// A higher edition than the neighbour's wipes what it said before; a lower one is not looked at.
+fn note_word(row: &mut Row, word: Notice, fault: Fault) {
+    let empty = row.count == 0 && fault == Fault::EmptyNoteForgotten;
+    let noted = if empty { 0 } else { row.edition };
+    let (edition, noted) = match fault {
+        Fault::EditionLowByteCompared => (word.edition % 256, noted % 256),
+        Fault::LowerEditionNoted if noted > 0 => (noted, noted),
+        Fault::HigherEditionNoted if noted > 0 => (word.edition.min(noted), noted),
+        Fault::FirstEditionKept if noted > 0 && word.edition > noted => return,
+        _ => (word.edition, noted),
+    };
+    if edition > noted || (edition < noted && fault == Fault::LowerEditionWipes) {
+        wipe(row, word, fault);
+    } else if edition == noted {
+        note_layout(row, word.layout, fault);
+    }
+}
+
+/// The row has this word alone.
+fn wipe(row: &mut Row, word: Notice, fault: Fault) {
+    let before = std::mem::replace(row, Row::of(word.edition, &[word.layout]));
+    match fault {
+        Fault::LaterPlacesStayOnWipe => {
+            *row = Row {
+                places: before.places,
+                ..row.clone()
+            };
+            row.put(0, word.layout);
+        }
+        Fault::CountNotResetOnWipe => {
+            *row = Row::of(word.edition, &vec![0; before.count as usize]);
+            row.add(word.layout);
+        }
+        Fault::LayoutsKeptOnWipe => {
+            *row = before;
+            row.edition = word.edition;
+            row.add(word.layout);
+        }
+        _ => {}
+    }
+}
+
+/// One more layout in the neighbour's edition, if it is a new one.
+fn note_layout(row: &mut Row, layout: u16, fault: Fault) {
     let known = match fault {
-        Fault::StalePlacesKnown => row.held().contains(&word),
+        Fault::StalePlacesKnown => row.held().contains(&layout),
         Fault::RepeatedNoted => false,
         Fault::FirstWordOnly => row.count > 0,
-        _ => row.noted().contains(&word),
+        _ => row.noted().contains(&layout),
     };
     match fault {
-        Fault::LastWordKept => *row = Row::of(&[word]),
+        Fault::LastWordKept => *row = Row::of(row.edition, &[layout]),
+        Fault::GreaterLayoutWipes if row.noted().iter().all(|&noted| noted < layout) => {
+            *row = Row::of(row.edition, &[layout]);
+        }
         _ if known => {}
-        _ => row.add(word),
+        _ => row.add(layout),
     }
     if fault == Fault::StalePlacesCleared {
-        row.places = row
-            .places
-            .range(..row.count)
-            .map(|(&p, &v)| (p, v))
-            .collect();
+        drop(row.places.split_off(&row.count));
     }
 }
 
-/// The value to take, if there is one: the source's first, else the smallest with enough votes.
-fn choose(place: &Place, record: &Record, fault: Fault) -> Option<u16> {
-    direct(place, record, fault).or_else(|| voted(place, record, fault))
+// ---- what is taken
+
+/// Takes a notice, if there is one to take, in this round.
+fn take(place: &Place, record: &mut Record, fault: Fault) {
+    let Some(taken) = choose(place, record, fault) else {
+        return;
+    };
+    let round = match record.state {
+        State::Taken(..) if fault == Fault::TakenNeverTakesAgain => return,
+        State::Taken(first, _) if fault == Fault::FirstRoundKept => first,
+        _ => record.round,
+    };
+    record.state = State::Taken(round, taken);
 }
 
-fn direct(place: &Place, record: &Record, fault: Fault) -> Option<u16> {
-    if !place.heard.contains(&place.source) {
+/// The highest edition above the one that is held in which something qualifies.
+fn choose(place: &Place, record: &Record, fault: Fault) -> Option<Notice> {
+    let held = record.state.edition();
+    let above = |edition: u16| match fault {
+        Fault::EqualEditionTakenAgain => edition >= held && edition > 0,
+        Fault::EditionZeroQualifies => edition > held || record.state == State::Waiting,
+        Fault::AnyEditionTaken => edition > 0 && edition != held,
+        _ => edition > held,
+    };
+    let said: BTreeSet<u16> = (0..)
+        .zip(&record.notes)
+        .filter(|(neighbour, _)| place.heard.contains(neighbour))
+        .map(|(_, row)| row.edition)
+        .filter(|&edition| above(edition))
+        .collect();
+    let qualify = |edition: u16| {
+        let layout = choose_in(place, record, edition, fault)?;
+        Some(notice(edition, layout))
+    };
+    let direct = record.row(place.source).edition;
+    let direct_first = fault == Fault::SourceBeforeHigherEditions
+        && said.contains(&direct)
+        && direct_in(place, record, direct, fault).is_some();
+    let mut found = said.iter().filter_map(|&edition| qualify(edition));
+    match fault {
+        _ if direct_first => qualify(direct),
+        Fault::LowestEditionTaken => found.next(),
+        Fault::HighestEditionOnly => said.last().and_then(|&edition| qualify(edition)),
+        _ => found.next_back(),
+    }
+}
+
+/// The layout to take in one edition, if there is one: the source's first, else the smallest with
+/// enough votes.
+fn choose_in(place: &Place, record: &Record, edition: u16, fault: Fault) -> Option<u16> {
+    let direct = direct_in(place, record, edition, fault);
+    match fault {
+        Fault::VotesBeforeSource => voted_in(place, record, edition, fault).or(direct),
+        _ => direct.or_else(|| voted_in(place, record, edition, fault)),
+    }
+}
+
+fn direct_in(place: &Place, record: &Record, edition: u16, fault: Fault) -> Option<u16> {
+    let row = record.row(place.source);
+    let other = row.edition != edition && fault != Fault::SourceEditionNotAsked;
+    if !place.heard.contains(&place.source) || other {
         return None;
     }
-    let row = record.row(place.source);
-    let value = match fault {
+    let layout = match fault {
         Fault::LastWordOfSource => row.count.checked_sub(1).map(|last| row.at(last)),
         Fault::ZeroSkippedAtSource => row.noted().first().copied(),
         Fault::SourceCountNotAsked => Some(row.at(0)),
         _ => (row.count >= 1).then(|| row.at(0)),
     };
-    value.filter(|&value| value != 0)
+    layout.filter(|&layout| layout != 0)
 }
 
-fn voted(place: &Place, record: &Record, fault: Fault) -> Option<u16> {
+fn voted_in(place: &Place, record: &Record, edition: u16, fault: Fault) -> Option<u16> {
     let rule = match fault {
         Fault::VotesWithoutOne => Rule::of(&place.bound, fault).without_one(),
         _ => Rule::of(&place.bound, fault),
     };
-    let votes = votes(place, record, fault);
+    let votes = votes_in(place, record, edition, fault);
     let mut enough = votes
         .iter()
         .filter(|(_, voters)| rule.enough(voters, fault))
-        .map(|(&value, _)| value);
+        .map(|(&layout, _)| layout);
     if fault == Fault::LargestValue {
         enough.next_back()
     } else {
@@ -278,29 +417,39 @@ fn voted(place: &Place, record: &Record, fault: Fault) -> Option<u16> {
     }
 }
 
-/// The heard neighbours that have each value.
-fn votes(place: &Place, record: &Record, fault: Fault) -> Votes {
-    let mut votes = record.tally.clone();
+/// The heard neighbours that have each layout of this edition.
+fn votes_in(place: &Place, record: &Record, edition: u16, fault: Fault) -> Votes {
+    let mut votes = Votes::new();
+    for (said, voters) in &record.tally {
+        if said.edition == edition {
+            votes.insert(said.layout, voters.clone());
+        }
+    }
     for (neighbour, row) in (0..).zip(&record.notes) {
         let heard = place.heard.contains(&neighbour) || fault == Fault::UnheardCounted;
         let barred = fault == Fault::SourceRowNotCounted && neighbour == place.source;
-        if heard && !barred {
-            for value in said_values(row, fault) {
-                votes.entry(value).or_default().push(neighbour);
+        let this_edition = match fault {
+            Fault::VotesOverEditions => row.edition > 0,
+            Fault::VotesOfHigherEditions => row.edition >= edition,
+            _ => row.edition == edition,
+        };
+        if heard && !barred && this_edition {
+            for layout in said_layouts(row, fault) {
+                votes.entry(layout).or_default().push(neighbour);
             }
         }
     }
     votes
 }
 
-/// What one neighbour counts for: every different value once.
-fn said_values(row: &Row, fault: Fault) -> Vec<u16> {
-    let values = match fault {
+/// What one neighbour counts for: every different layout once.
+fn said_layouts(row: &Row, fault: Fault) -> Vec<u16> {
+    let layouts = match fault {
         Fault::StalePlacesCounted => row.held(),
         Fault::FirstValueCounted => row.noted().into_iter().take(1).collect(),
         Fault::PlacesCounted => return row.noted(),
         _ => row.noted(),
     };
-    let different: BTreeSet<u16> = values.into_iter().collect();
+    let different: BTreeSet<u16> = layouts.into_iter().collect();
     different.into_iter().collect()
 }

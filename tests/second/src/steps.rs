@@ -1,8 +1,9 @@
-//! Seeded calls of the step, right or wrong. They reach what no run shows: several values with
-//! enough votes, rows that no run leaves, wrong arguments.
+//! Seeded calls of the step, right or wrong. They reach what no run shows: several layouts and
+//! editions with enough votes, rows that no run leaves, wrong arguments.
 
 use crate::grouping::GROUPED;
 use crate::groups::{Bound, Sort, MOST_GROUPS};
+use crate::notice::{notice, Notice};
 use crate::plan::Set;
 use crate::records::break_bound;
 use crate::rng::Rng;
@@ -13,7 +14,7 @@ use crate::step::{Place, Record, Row, State, PLACES, ROWS};
 pub struct StepCase {
     pub place: Place,
     pub record: Record,
-    pub said: Vec<u16>,
+    pub said: Vec<u32>,
 }
 
 /// Values that many rows have, so that neighbours agree by chance.
@@ -25,32 +26,55 @@ const NEW: u16 = 4_660;
 /// Values to be voted on. Which of two is the smaller shows in the high byte or in the low one.
 const BALLOT: [u16; 6] = [1, 2, 255, 256, 300, 65_535];
 
+/// Editions of one case: a low one, one that most have, and a high one. By their low bytes alone they
+/// come in another order in some.
+type Editions = [u16; 3];
+
+const EDITIONS: [Editions; 5] = [
+    [1, 2, 3],
+    [1, 2, 3],
+    [255, 256, 257],
+    [2, 258, 513],
+    [65_533, 65_534, 65_535],
+];
+
 pub fn step_case(seed: u64, index: u64) -> StepCase {
     let mut rng = Rng::for_case(seed, 3, index);
+    let editions = rng.pick(&EDITIONS);
     let place = some_place(&mut rng);
     let mut record = Record::waiting();
     let any = rng.between(0, 39);
     record.round = rng.pick(&[0, 1, 1, 2, 3, 39, 39, any, any]);
-    if place.number == place.source || rng.chance(10) {
-        record.state = State::Taken(rng.between(0, record.round), 7);
+    if place.number == place.source || rng.chance(30) {
+        let held = notice(held_edition(&mut rng, editions), 7);
+        record.state = State::Taken(rng.between(0, record.round), held);
     }
-    let said = (0..place.n).map(|_| some_word(&mut rng)).collect();
+    let said = (0..place.n).map(|_| some_word(&mut rng, editions).number());
     let mut case = StepCase {
         place,
         record,
-        said,
+        said: said.collect(),
     };
-    fill_rows(&mut rng, &mut case);
-    if rng.chance(45) {
-        put_to_the_vote(&mut rng, &mut case);
+    fill_rows(&mut rng, &mut case, editions);
+    if rng.chance(55) {
+        put_to_the_vote(&mut rng, &mut case, editions);
     }
     if rng.chance(35) {
-        break_step(&mut rng, &mut case);
+        break_step(&mut rng, &mut case, editions);
     }
     if case.place.bound.has_groups() && rng.chance(12) {
         wrong_groups(&mut rng, &mut case.place);
     }
     case
+}
+
+/// The one that most neighbours have is above it, equal, or below.
+fn held_edition(rng: &mut Rng, [low, main, high]: Editions) -> u16 {
+    rng.pick(&[low, low, low - 1, main, main, high]).max(1)
+}
+
+fn some_edition(rng: &mut Rng, [low, main, high]: Editions) -> u16 {
+    rng.pick(&[low, main, main, main, main, main, high, high])
 }
 
 fn some_place(rng: &mut Rng) -> Place {
@@ -104,14 +128,22 @@ fn some_groups(rng: &mut Rng, n: u32, source: u32, heard: &Set) -> Bound {
     Bound::groups(&groups)
 }
 
-fn some_word(rng: &mut Rng) -> u16 {
+/// Silence, a word, or seldom a zero in one half alone.
+fn some_word(rng: &mut Rng, editions: Editions) -> Notice {
     let filling = FILLING + rng.below(PLACES as usize) as u16;
-    rng.pick(&[0, 0, 0, 5, 7, 9, filling, NEW])
+    let layout = rng.pick(&[0, 0, 0, 5, 7, 9, filling, NEW]);
+    let edition = some_edition(rng, editions);
+    match layout {
+        0 if rng.chance(85) => notice(0, 0),
+        0 => notice(edition, 0),
+        _ if rng.chance(6) => notice(0, layout),
+        _ => notice(edition, layout),
+    }
 }
 
 // ---- rows
 
-fn fill_rows(rng: &mut Rng, case: &mut StepCase) {
+fn fill_rows(rng: &mut Rng, case: &mut StepCase, editions: Editions) {
     let round = case.record.round;
     // Full rows are long after many rounds: many of them stand in few cases only.
     let full = match round {
@@ -124,7 +156,7 @@ fn fill_rows(rng: &mut Rng, case: &mut StepCase) {
     for terminal in 0..ROWS {
         let heard = case.place.heard.contains(&terminal);
         if rng.chance(if heard { share } else { 35 }) {
-            let mut row = some_row(rng, round, full);
+            let mut row = some_row(rng, round, full, editions);
             if !heard && rng.chance(40) {
                 row.count = over_full(rng, round);
             }
@@ -133,18 +165,24 @@ fn fill_rows(rng: &mut Rng, case: &mut StepCase) {
     }
 }
 
-/// A row that is accepted after so many rounds; so many in a hundred are full.
-fn some_row(rng: &mut Rng, round: u32, full: u32) -> Row {
+/// A row that is accepted after so many rounds; so many in a hundred are full. Seldom its edition
+/// is 0.
+fn some_row(rng: &mut Rng, round: u32, full: u32, editions: Editions) -> Row {
     let count = if rng.chance(full) {
         round
     } else {
         rng.between(0, round.min(3))
     };
-    let mut row = Row::of(&match rng.below(4) {
+    let edition = match rng.chance(8) {
+        true => 0,
+        false => some_edition(rng, editions),
+    };
+    let layouts: Vec<u16> = match rng.below(4) {
         0 => (0..count).map(|_| rng.pick(&FAMILIAR)).collect(),
         1 => (0..count).map(|_| rng.pick(&[0, 0, 5, 7, 9])).collect(),
         _ => different(rng, count),
-    });
+    };
+    let mut row = Row::of(edition, &layouts);
     if rng.chance(25) {
         leave_noise(rng, &mut row);
     }
@@ -183,28 +221,38 @@ fn over_full(rng: &mut Rng, round: u32) -> u32 {
 
 // ---- votes
 
-/// Lets heard neighbours that are just enough, or just not, have a value that the others lack, in
-/// their rows or by what they say; mostly for two values, and without a direct word.
-fn put_to_the_vote(rng: &mut Rng, case: &mut StepCase) {
+/// Lets heard neighbours that are just enough, or just not, have a layout that the others lack, in
+/// their rows or by what they say; mostly for two layouts, in one edition or in two, and without a
+/// direct word.
+fn put_to_the_vote(rng: &mut Rng, case: &mut StepCase, editions: Editions) {
     if rng.chance(60) {
         for neighbour in case.place.heard.clone() {
             case.said[neighbour as usize] = 0;
             *case.record.row_mut(neighbour) = Row::default();
         }
     }
-    hush_source(rng, case);
-    let mut values = BALLOT;
-    rng.shuffle(&mut values);
-    for &value in values.iter().take(rng.pick(&[1, 2, 2, 3])) {
-        let mut voters: Vec<u32> = case.place.heard.iter().copied().collect();
+    hush_source(rng, case, editions);
+    let [low, main, high] = editions;
+    let mut layouts = BALLOT;
+    rng.shuffle(&mut layouts);
+    let mut voters: Vec<u32> = case.place.heard.iter().copied().collect();
+    rng.shuffle(&mut voters);
+    for &layout in layouts.iter().take(rng.pick(&[1, 2, 2, 3])) {
         voters.retain(|&voter| voter != case.place.source || zero_first(case, voter));
-        rng.shuffle(&mut voters);
         if rng.chance(50) {
             // The source, which no group has, before others.
             voters.sort_by_key(|&voter| voter != case.place.source);
         }
-        for voter in edge_of(rng, &case.place.bound, voters) {
-            vote(rng, case, voter, value);
+        let said = notice(rng.pick(&[main, main, main, high, high, low, 0]), layout);
+        let those = edge_of(rng, &case.place.bound, voters.clone());
+        for &voter in &those {
+            vote(rng, case, voter, said);
+        }
+        if rng.chance(60) {
+            // Others vote on the next one, so that what was voted stays.
+            voters.retain(|voter| !those.contains(voter));
+        } else {
+            rng.shuffle(&mut voters);
         }
     }
 }
@@ -249,36 +297,52 @@ fn zero_first(case: &StepCase, terminal: u32) -> bool {
     row.count > 0 && row.at(0) == 0
 }
 
-/// The voter has the value in its row, once or twice, says it now, or both.
-fn vote(rng: &mut Rng, case: &mut StepCase, voter: u32, value: u16) {
+/// The voter has the layout in its row, once or twice, says it now, or both. A row of another edition
+/// is begun anew, or is left to be wiped by the word.
+fn vote(rng: &mut Rng, case: &mut StepCase, voter: u32, said: Notice) {
     let round = case.record.round;
+    let no_direct_word = zero_first(case, voter);
     let row = case.record.row_mut(voter);
+    if no_direct_word {
+        // The zero stays before what is voted on.
+        row.edition = said.edition;
+    } else if row.edition != said.edition && (row.edition > said.edition || rng.chance(50)) {
+        *row = Row::of(said.edition, &[]);
+    }
     let wanted = rng.pick(&[0, 1, 1, 2]);
     let times = wanted.min(round.saturating_sub(row.count));
-    (0..times).for_each(|_| row.add(value));
+    let times = times * u32::from(row.edition == said.edition);
+    (0..times).for_each(|_| row.add(said.layout));
     if times == 0 || rng.chance(20) {
-        case.said[voter as usize] = value;
+        case.said[voter as usize] = said.number();
     }
 }
 
-/// The source is not heard, has said nothing, or has 0 in its first place; seldom none of these.
-fn hush_source(rng: &mut Rng, case: &mut StepCase) {
+/// The source is not heard, has said nothing, has 0 in its first place or in its edition; seldom none
+/// of these.
+fn hush_source(rng: &mut Rng, case: &mut StepCase, editions: Editions) {
     let source = case.place.source;
     let round = case.record.round;
-    match rng.below(6) {
+    let edition = some_edition(rng, editions);
+    match rng.below(7) {
         0 => {}
         1 => drop(case.place.heard.remove(&source)),
+        4 if round > 0 => {
+            // In edition 0, which counts for nothing.
+            case.said[source as usize] = 0;
+            *case.record.row_mut(source) = Row::of(0, &[rng.pick(&BALLOT)]);
+        }
         2 | 3 => {
-            let values = [0, rng.pick(&BALLOT), rng.pick(&FAMILIAR)];
+            let layouts = [0, rng.pick(&BALLOT), rng.pick(&FAMILIAR)];
             let count = rng.between(0, round.min(3)) as usize;
-            *case.record.row_mut(source) = Row::of(&values[..count]);
+            *case.record.row_mut(source) = Row::of(edition, &layouts[..count]);
             if count == 0 {
                 case.said[source as usize] = 0;
             }
         }
         _ => {
             case.said[source as usize] = 0;
-            let mut row = Row::default();
+            let mut row = Row::of(edition, &[]);
             leave_noise(rng, &mut row);
             *case.record.row_mut(source) = row;
         }
@@ -288,10 +352,12 @@ fn hush_source(rng: &mut Rng, case: &mut StepCase) {
 // ---- wrong arguments
 
 /// One or two wrong arguments, often more values of a heard neighbour than rounds.
-fn break_step(rng: &mut Rng, case: &mut StepCase) {
+fn break_step(rng: &mut Rng, case: &mut StepCase, [low, main, _]: Editions) {
     let n = case.place.n;
+    let round = case.record.round;
+    let word = notice(main, 7).number();
     for _ in 0..rng.between(1, 2) {
-        match rng.below(20) {
+        match rng.below(24) {
             0 => case.place.n = rng.pick(&[0, 1, 21]),
             1 => case.place.source = rng.pick(&[n, 255]),
             2 if case.place.bound.sort == Sort::Number => {
@@ -305,12 +371,15 @@ fn break_step(rng: &mut Rng, case: &mut StepCase) {
             ),
             4 => case.place.number = rng.pick(&[n, 31]),
             5 => case.record.round = rng.pick(&[40, 41, 255]),
-            6 => case.record.state = State::Taken((case.record.round + 1).min(255), 7),
-            7 => case.record.state = State::Taken(0, 0),
+            6 => case.record.state = State::Taken((round + 1).min(255), notice(low, 7)),
+            7 | 20 => {
+                let none = [notice(0, 0), notice(main, 0), notice(0, 7), notice(0, 7)];
+                case.record.state = State::Taken(0, rng.pick(&none));
+            }
             8 => case.record.state = State::Waiting,
             9 | 10 => case
                 .said
-                .resize(rng.pick(&[0, n as usize - 1, n as usize + 1]), 7),
+                .resize(rng.pick(&[0, n as usize - 1, n as usize + 1]), word),
             _ => overfill(rng, case),
         }
     }

@@ -1,9 +1,13 @@
 //! Library calls: the run, the witness check, the writer, and their refusals.
 
+mod common;
+
+use common::{first, firsts};
 use second::drawings::DRAWINGS;
 use second::faults::Fault;
 use second::grouping::group_up;
 use second::groups::Bound;
+use second::notice::Notice;
 use second::output::plan_text;
 use second::plan::{number_of, set_of, write_plan, Cause, Plan, Set};
 use second::reader::read_archive;
@@ -20,8 +24,9 @@ fn set(members: &[u32]) -> Set {
 struct Given {
     plan: Plan,
     bad: Set,
-    value: u16,
+    start: Notice,
     rounds: u32,
+    later: Vec<u32>,
     words: usize,
     records: usize,
 }
@@ -31,26 +36,28 @@ fn given() -> Given {
     Given {
         plan,
         bad: set(&[1]),
-        value: 7,
+        start: first(7),
         rounds: 2,
+        later: vec![0; 2],
         words: 32,
         records: 4,
     }
 }
 
 fn run_answer(given: &Given) -> Result<(), u8> {
-    let words = vec![9; given.words];
+    let words = firsts(&vec![9; given.words]);
     let held = Record {
         round: 77,
-        state: State::Taken(5, 5),
+        state: State::Taken(5, first(5)),
         ..Record::waiting()
     };
     let mut records = vec![held.clone(); given.records];
     let order = Order {
         plan: &given.plan,
         bad: &given.bad,
-        value: given.value,
+        start: given.start,
         rounds: given.rounds,
+        later: &given.later,
         words: &words,
     };
     let answer = run(&order, &mut records, Fault::None).map_err(Cause::number);
@@ -77,7 +84,7 @@ fn run_refusals() {
     assert_eq!(wrong(|given| given.bad = set(&[4])), Err(7));
     assert_eq!(wrong(|given| given.bad = set(&[31])), Err(7));
     assert_eq!(wrong(|given| given.bad = set(&[1, 2])), Err(8));
-    assert_eq!(wrong(|given| given.value = 0), Err(9));
+    assert_eq!(wrong(|given| given.start = first(0)), Err(9));
     assert_eq!(wrong(|given| given.rounds = 41), Err(9));
     for length in [0, 31, 33] {
         assert_eq!(
@@ -103,7 +110,7 @@ fn run_refusals() {
 fn run_refusals_in_order() {
     let mut wrong = Given {
         words: 1,
-        value: 0,
+        start: first(0),
         bad: set(&[1, 2]),
         ..given()
     };
@@ -116,7 +123,7 @@ fn run_refusals_in_order() {
     assert_eq!(run_answer(&wrong), Err(4));
     wrong = Given {
         words: 1,
-        value: 0,
+        start: first(0),
         ..given()
     };
     assert_eq!(run_answer(&wrong), Err(9));
@@ -128,20 +135,21 @@ fn played(plan: &Plan, rounds: u32, said: &[(u32, u32, u16)]) -> Vec<Record> {
     let n = plan.n;
     let mut words = vec![0; (rounds * n * n) as usize];
     for &(round, hearer, word) in said {
-        words[(((round - 1) * n + 1) * n + hearer) as usize] = word;
+        words[(((round - 1) * n + 1) * n + hearer) as usize] = first(word).number();
     }
     for sender in (0..n).filter(|&sender| sender != 1) {
-        words[(sender * n + n - 1) as usize] = 1; // from a good sender: not looked at
+        words[(sender * n + n - 1) as usize] = first(1).number(); // from a good sender: not looked at
     }
-    let mut held = Record::source(3);
+    let mut held = Record::source(first(3));
     held.round = 9;
-    held.notes = vec![Row::of(&[1, 2, 3]); 20];
+    held.notes = vec![Row::of(1, &[1, 2, 3]); 20];
     let mut records = vec![held; n as usize];
     let order = Order {
         plan,
         bad: &set(&[1]),
-        value: 7,
+        start: first(7),
         rounds,
+        later: &vec![0; rounds as usize],
         words: &words,
     };
     assert_eq!(run(&order, &mut records, Fault::None), Ok(()));
@@ -154,7 +162,7 @@ fn left(round: u32, state: State, rows: &[(u32, &[u16])]) -> Record {
     record.round = round;
     record.state = state;
     for &(terminal, values) in rows {
-        *record.row_mut(terminal) = Row::of(values);
+        *record.row_mut(terminal) = Row::of(1, values);
     }
     record
 }
@@ -163,20 +171,20 @@ fn left(round: u32, state: State, rows: &[(u32, &[u16])]) -> Record {
 fn run_leaves_records() {
     let said = [(1, 3, 9), (2, 3, 9), (3, 3, 8), (3, 0, 9), (1, 2, 9)];
     let records = played(&DRAWINGS[4].plan(), 3, &said);
-    assert_eq!(records[0], left(3, State::Taken(0, 7), &[]));
+    assert_eq!(records[0], left(3, State::Taken(0, first(7)), &[]));
     assert_eq!(records[1], Record::waiting());
-    assert_eq!(records[2], left(3, State::Taken(1, 7), &[(0, &[7])]));
+    assert_eq!(records[2], left(3, State::Taken(1, first(7)), &[(0, &[7])]));
     let rows: [(u32, &[u16]); 2] = [(1, &[9, 8]), (2, &[7])];
     assert_eq!(records[3], left(3, State::Waiting, &rows));
 }
 
-/// Nothing is noted after the round that takes, and the value that made it up is the last noted.
+/// The value that made it up is noted, and what is said after the take is noted too.
 #[test]
 fn run_takes_what_is_said_second() {
     let said = [(1, 3, 9), (3, 3, 7), (4, 3, 5)];
     let records = played(&DRAWINGS[4].plan(), 4, &said);
-    let rows: [(u32, &[u16]); 2] = [(1, &[9, 7]), (2, &[7])];
-    assert_eq!(records[3], left(4, State::Taken(3, 7), &rows));
+    let rows: [(u32, &[u16]); 2] = [(1, &[9, 7, 5]), (2, &[7])];
+    assert_eq!(records[3], left(4, State::Taken(3, first(7)), &rows));
 }
 
 /// A liar with another value in each of 40 rounds fills its row, and no step is refused.

@@ -3,7 +3,7 @@
 
 mod common;
 
-use common::{archive_bytes, file, refused, run_bytes, verdict_bytes};
+use common::{archive_bytes, file, first, refused, run_bytes, verdict_bytes};
 use second::faults::{Fault, Sound};
 use second::generate::{case, Kind, SORTS, VALID_SORTS};
 use second::groups::Bound;
@@ -144,7 +144,9 @@ fn lines_that_fail_2_come_first() {
         "0300000000",
         "04",
         "0400",
-        "0400070200",
+        "04000702000000",
+        "080100020007ff",
+        "0801",
         "05",
         "0501010009",
         "05010100000900",
@@ -335,17 +337,18 @@ fn plan_records_may_be_deaf() {
         Ok(true)
     );
     assert_eq!(fault_cause(&plan, &other, Fault::None), Ok(()));
-    let mut records = vec![Record::source(3); 2];
+    let mut records = vec![Record::source(first(3)); 2];
     let order = Order {
         plan: &plan,
         bad: &none,
-        value: 7,
+        start: first(7),
         rounds: 3,
+        later: &[0; 3],
         words: &[9; 12],
     };
     assert_eq!(run(&order, &mut records, Fault::None), Ok(()));
     let states: Vec<State> = records.iter().map(|record| record.state).collect();
-    assert_eq!(states, [State::Taken(0, 7), State::Waiting]);
+    assert_eq!(states, [State::Taken(0, first(7)), State::Waiting]);
 }
 
 // ---- files of the generator and recorded ones
@@ -406,8 +409,9 @@ fn line_name(plan: &Plan, line: &[u8]) -> Option<&'static str> {
                 Err(_) => "bad set, 8",
             }
         }
-        [4, _, _] | [4, _, _, _] => "start",
-        [5, _, _, _, _, _] => "word",
+        [4, _, _] | [4, _, _, _] | [4, _, _, _, _] | [4, _, _, _, _, _] => "start",
+        [5, _, _, _, _, _] | [5, _, _, _, _, _, _, _] => "word",
+        [8, _, _, _, _, _] => "notice",
         [7, _, _, _] if !plan.bound.has_groups() => "group",
         [7, high, middle, low] => {
             let group = set_of(high * 65_536 + middle * 256 + low);
@@ -418,7 +422,7 @@ fn line_name(plan: &Plan, line: &[u8]) -> Option<&'static str> {
             return None;
         }
         [7, ..] => "group, 2",
-        [1 | 3 | 4 | 5, ..] => "length",
+        [1 | 3 | 4 | 5 | 8, ..] => "length",
         _ => "kind",
     };
     Some(name)
@@ -481,7 +485,7 @@ fn by_the_text(seen: &Seen, program: u8) -> Option<(u8, u16)> {
         "group, 17" => return Some((17, seen.line)),
         "link, 5" => return Some((5, seen.line)),
         "link, 6" => return Some((6, seen.line)),
-        "bad set" | "bad set, 7" | "bad set, 8" | "start" | "word" if !run => {
+        "bad set" | "bad set, 7" | "bad set, 8" | "start" | "word" | "notice" if !run => {
             return Some((2, seen.line))
         }
         "end" if run => Some((3, 0)),
@@ -507,7 +511,7 @@ fn refusal_of<T>(answer: Result<T, Refusal>) -> (u8, u16) {
 /// Every file is refused, or not, as what stands where its links end says.
 #[test]
 fn the_place_decides() {
-    for index in 0..3600 {
+    for index in 0..200 * SORTS {
         let plan_file = case(Kind::Verdict, 3, index);
         let run_file = case(Kind::Run, 3, index);
         for text in [plan_file, run_file] {
@@ -531,7 +535,7 @@ fn the_place_decides() {
 #[test]
 fn new_plans_and_the_archive() {
     let (mut accepted, mut deaf, mut both, mut differ) = (0, 0, 0, 0);
-    for index in 0..5400 {
+    for index in 0..300 * SORTS {
         let text = case(Kind::Verdict, 4, index);
         let new = read_plan(&text, Fault::None);
         match read_archive(&text, Fault::None) {
@@ -619,7 +623,7 @@ const SHAPES: [&str; 11] = [
 ];
 
 /// What stands where the links of a deaf plan end, in run files; plan files lack none of it.
-const PLACES: [&str; 20] = [
+const PLACES: [&str; 21] = [
     "end",
     "bad set",
     "bad set, 7",
@@ -627,6 +631,7 @@ const PLACES: [&str; 20] = [
     "bad set, end",
     "start",
     "word",
+    "notice",
     "same head",
     "other head",
     "kind",
@@ -667,7 +672,7 @@ fn bodies(letter: u8) -> Vec<Vec<u8>> {
 }
 
 fn fresh(kind: Kind) -> Vec<Vec<u8>> {
-    (0..3800).map(|index| case(kind, 1, index)).collect()
+    (0..210 * SORTS).map(|index| case(kind, 1, index)).collect()
 }
 
 /// Each name that is needed is there so often.
@@ -820,7 +825,7 @@ fn recorded_texts_are_about_deaf_plans() {
 /// Which files show which fault about deaf terminals.
 #[test]
 fn planted_faults_show_where_they_should() {
-    let sound = Sound::new(2, 1800);
+    let sound = Sound::new(2, 2000);
     let everywhere = [
         Fault::DeafWithLine,
         Fault::DeafBeforeText,

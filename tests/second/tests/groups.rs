@@ -3,7 +3,9 @@
 
 mod common;
 
-use common::{archive, archive_bytes, file, refused, run, run_bytes, verdict, verdict_bytes};
+use common::{
+    archive, archive_bytes, file, first, firsts, refused, run, run_bytes, verdict, verdict_bytes,
+};
 use second::faults::Fault;
 use second::groups::Bound;
 use second::output::{plan_text, rewritten_text};
@@ -648,7 +650,7 @@ fn record(rows: &[(u32, &[u16])]) -> Record {
     let mut record = Record::waiting();
     record.round = 5;
     for &(terminal, values) in rows {
-        *record.row_mut(terminal) = Row::of(values);
+        *record.row_mut(terminal) = Row::of(1, values);
     }
     record
 }
@@ -657,8 +659,9 @@ fn record(rows: &[(u32, &[u16])]) -> Record {
 fn examples_of_enough() {
     for (name, listed, rows, said, taken) in EXAMPLES {
         let place = place(groups(listed));
+        let said = firsts(&said);
         let after = step(&place, record(rows), &said, Fault::None).expect("a right call");
-        let state = taken.map_or(State::Waiting, |value| State::Taken(6, value));
+        let state = taken.map_or(State::Waiting, |layout| State::Taken(6, first(layout)));
         assert_eq!((after.round, after.state), (6, state), "{name}");
         // The order of the groups doesn't matter, nor does one that is given twice, or is empty.
         let mut more: Vec<Set> = listed.iter().rev().map(|group| set(group)).collect();
@@ -719,8 +722,9 @@ fn causes(plan: &Plan) -> Vec<Option<u8>> {
     let order = Order {
         plan,
         bad: &none,
-        value: 7,
+        start: first(7),
         rounds: 0,
+        later: &[],
         words: &[],
     };
     let place = Place {
@@ -809,17 +813,18 @@ fn order_of_the_causes() {
         for bad in [&[0][..], &[31], &[1, 2, 3, 4]] {
             let bad = set(bad);
             assert_eq!(fault_cause(&plan, &bad, Fault::None), Err(Cause::Group));
-            let mut records = vec![Record::source(3); 4];
+            let mut records = vec![Record::source(first(3)); 4];
             let order = Order {
                 plan: &plan,
                 bad: &bad,
-                value: 0,
+                start: first(0),
                 rounds: 41,
+                later: &[],
                 words: &[1],
             };
             let answer = play(&order, &mut records, Fault::None);
             assert_eq!(answer, Err(Cause::Group));
-            assert_eq!(records, vec![Record::source(3); 4]);
+            assert_eq!(records, vec![Record::source(first(3)); 4]);
         }
         assert_eq!(write_plan(&plan, &mut [], Fault::None), Err(Cause::Group));
         // Beside 5, then 4.
@@ -834,7 +839,7 @@ fn order_of_the_causes() {
 fn order_of_the_causes_in_a_step() {
     let refused = |place: &Place, record: Record, length: usize| {
         let before = record.clone();
-        let answer = step(place, record, &vec![7; length], Fault::None);
+        let answer = step(place, record, &firsts(&vec![7; length]), Fault::None);
         let (cause, after) = answer.expect_err("wrong");
         assert_eq!(after, before);
         cause.number()

@@ -5,6 +5,7 @@ mod common;
 use common::bytes::Bytes;
 use second::faults::Fault;
 use second::groups::{Bound, Sort};
+use second::notice::Notice;
 use second::plan::{set_of, Set};
 use second::record::{self, Call, LONGEST_BODY, LONGEST_LINE};
 use second::step::{step, Place, Record, Row, State};
@@ -18,7 +19,7 @@ fn step_of(call: &Call) -> StepCase {
     let number = u32::from(body.byte());
     let heard = body.quad();
     let record = body.record();
-    let said: Vec<u16> = (0..call.lent).map(|_| body.pair()).collect();
+    let said: Vec<u32> = (0..call.lent).map(|_| body.quad()).collect();
     assert!(body.0.is_empty());
     StepCase {
         place: Place {
@@ -76,9 +77,10 @@ fn runs_are_read_back() {
     for call in calls_of(b'l') {
         let (mut body, mut line) = (Bytes(&call.body), Bytes(&call.line));
         body.plan();
-        body.skip(4 + 2 + 1);
+        body.skip(4 + 4 + 1);
+        body.later();
         let before: Vec<Record> = (0..5).map(|_| body.record()).collect();
-        assert_eq!(body.0.len(), 2 * call.lent);
+        assert_eq!(body.0.len(), 4 * call.lent);
         let refused = line.byte() > 0;
         let after: Vec<Record> = (0..5).map(|_| line.record()).collect();
         assert!(line.0.is_empty());
@@ -94,7 +96,7 @@ fn nothing_is_longer_than_replay_reads_and_prints() {
     assert!(body.expect("a call") <= LONGEST_BODY && line.expect("a call") <= LONGEST_LINE);
     let input: usize = calls.iter().map(|call| 5 + call.body.len()).sum();
     let output: usize = calls.iter().map(|call| 2 * call.line.len() + 1).sum();
-    assert!(input < 2_000_000 && output < 1_800_000, "{input}, {output}");
+    assert!(input < 2_600_000 && output < 2_400_000, "{input}, {output}");
 }
 
 // ---- wrong groups in a record
@@ -124,10 +126,20 @@ fn wrong_groups(n: u32, source: u32, bound: &Bound) -> Option<&'static str> {
 
 // ---- what the steps are about
 
-/// The heard neighbours that have each value in the record.
-fn votes(place: &Place, record: &Record) -> BTreeMap<u16, Set> {
+/// The edition that decides: the one that is taken, or else the highest that a neighbour has.
+fn deciding(place: &Place, after: &Record) -> u16 {
+    let said = place.heard.iter().map(|&j| after.row(j).edition).max();
+    match after.state {
+        State::Taken(_, held) => held.edition,
+        State::Waiting => said.unwrap_or(0),
+    }
+}
+
+/// The heard neighbours that have each layout of this edition in the record.
+fn votes(place: &Place, record: &Record, edition: u16) -> BTreeMap<u16, Set> {
     let mut votes: BTreeMap<u16, Set> = BTreeMap::new();
-    for &neighbour in &place.heard {
+    let of_edition = |neighbour: &&u32| record.row(**neighbour).edition == edition;
+    for &neighbour in place.heard.iter().filter(of_edition) {
         for value in record.row(neighbour).noted() {
             votes.entry(value).or_default().insert(neighbour);
         }
@@ -224,15 +236,19 @@ fn marks_of_waiting(case: &StepCase, after: &Record) -> Vec<&'static str> {
     let (place, before) = (&case.place, &case.record);
     let source = before.row(place.source);
     let heard_source = place.heard.contains(&place.source);
-    let direct =
-        heard_source && after.row(place.source).count > 0 && after.row(place.source).at(0) > 0;
-    let lone = |value: u16| {
-        let only = |j: &u32| after.row(*j).count == 1 && after.row(*j).at(0) == value;
+    let edition = deciding(place, after);
+    let first = after.row(place.source);
+    let direct = heard_source && first.edition == edition && first.count > 0 && first.at(0) > 0;
+    let lone = |held: Notice| {
+        let only = |j: &u32| *after.row(*j) == Row::of(held.edition, &[held.layout]);
         place.heard.iter().any(only)
     };
-    let no_lone_voter = matches!(after.state, State::Taken(_, value) if !direct && !lone(value));
+    let no_lone_voter = matches!(after.state, State::Taken(_, held) if !direct && !lone(held));
     let written = |j: &u32| before.row(*j).count == 39 && after.row(*j).count == 40;
-    let known = |j: &u32| before.row(*j).noted().contains(&case.said[*j as usize]);
+    let known = |j: &u32| {
+        let (row, word) = (before.row(*j), Notice::of(case.said[*j as usize]));
+        row.edition == word.edition && row.noted().contains(&word.layout)
+    };
     let mut marks = named(&[
         ("direct", direct),
         ("no voter has said only this", no_lone_voter),
@@ -248,7 +264,7 @@ fn marks_of_waiting(case: &StepCase, after: &Record) -> Vec<&'static str> {
         ("an equal word", place.heard.iter().any(known)),
     ]);
     if !direct {
-        let votes = votes(place, after);
+        let votes = votes(place, after, edition);
         marks.extend(match place.bound.sort {
             Sort::Number => marks_of_number(place.bound.number, &votes),
             Sort::Groups => marks_of_groups(place, &votes),
@@ -299,7 +315,7 @@ fn marks_of_refused(case: &StepCase, number: u8) -> Vec<&'static str> {
     }
     let (right, taken) = match record.state {
         State::Waiting => (place.number != place.source, false),
-        State::Taken(at, value) => (at <= record.round && value > 0, true),
+        State::Taken(at, held) => (at <= record.round && !held.is_silence(), true),
     };
     let alone = right && record.round < 40 && place.number < place.n;
     let mark = match number {
@@ -428,7 +444,7 @@ fn tally(cases: impl Iterator<Item = StepCase>) -> BTreeMap<&'static str, u32> {
 /// Among fresh steps and among recorded ones.
 #[test]
 fn needed_steps_are_there() {
-    let fresh = tally((0..1600).map(|index| step_case(1, index)));
+    let fresh = tally((0..2000).map(|index| step_case(1, index)));
     let recorded = tally(calls_of(b's').iter().map(step_of));
     for name in NEEDED {
         for seen in [&fresh, &recorded] {

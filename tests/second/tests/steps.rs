@@ -1,5 +1,8 @@
-//! The step, sentence by sentence, and its refusals.
+//! The step in one edition, sentence by sentence, and its refusals.
 
+mod common;
+
+use common::{first, firsts};
 use second::faults::Fault;
 use second::groups::Bound;
 use second::plan::Set;
@@ -27,21 +30,21 @@ fn record(round: u32, rows: &[(u32, &[u16])]) -> Record {
     let mut record = Record::waiting();
     record.round = round;
     for &(terminal, values) in rows {
-        *record.row_mut(terminal) = Row::of(values);
+        *record.row_mut(terminal) = Row::of(1, values);
     }
     record
 }
 
 /// A row with such a count and such places.
 fn row(count: u32, places: &[(u32, u16)]) -> Row {
-    let mut row = Row::default();
+    let mut row = Row::of(1, &[]);
     row.count = count;
     places.iter().for_each(|&(at, value)| row.put(at, value));
     row
 }
 
 fn stepped(place: &Place, record: Record, said: &[u16]) -> Record {
-    step(place, record, said, Fault::None).expect("a right call")
+    step(place, record, &firsts(said), Fault::None).expect("a right call")
 }
 
 /// The terminal of `place` after rounds in which the others said these words.
@@ -100,7 +103,7 @@ fn the_last_place_is_written_in_round_40() {
     };
     let after = stepped(&deaf, before.clone(), &[0, 139, 139, 0, 0]);
     assert_eq!((after.round, after.state), (40, WAITS));
-    assert_eq!(after.row(1), &Row::of(&(100..140).collect::<Vec<u16>>()));
+    assert_eq!(after.row(1), &Row::of(1, &(100..140).collect::<Vec<u16>>()));
     assert_eq!(after.row(2), before.row(2));
     // The last of a full row is known as well as the first.
     for word in [100, 138] {
@@ -119,18 +122,21 @@ fn unheard_words_and_rows_are_left_alone() {
     *before.row_mut(3) = row(41, &[(0, 9), (39, 5)]);
     *before.row_mut(19) = row(255, &[(3, 9)]);
     let after = stepped(&deaf, before.clone(), &[5, 9, 5, 9, 0]);
-    *before.row_mut(1) = Row::of(&[9]);
+    *before.row_mut(1) = Row::of(1, &[9]);
     before.round = 3;
     assert_eq!(after, before);
 }
 
 #[test]
-fn a_taken_terminal_changes_only_its_round() {
+fn a_taken_terminal_notes_and_takes_nothing_in_its_edition() {
     let mut before = record(2, &[(1, &[9, 0]), (2, &[9])]);
-    *before.row_mut(4) = row(0, &[(0, 6)]);
-    before.state = State::Taken(0, 8);
-    let after = stepped(&place(), before.clone(), &[7, 5, 5, 5, 5]);
+    *before.row_mut(4) = row(0, &[(0, 6), (1, 6)]);
+    before.state = State::Taken(0, first(8));
+    let after = stepped(&place(), before.clone(), &[7, 5, 9, 5, 5]);
     before.round = 3;
+    *before.row_mut(0) = Row::of(1, &[7]);
+    before.row_mut(1).add(5);
+    *before.row_mut(4) = row(1, &[(0, 5), (1, 6)]);
     assert_eq!(after, before);
     // A source that took later than round 0 is accepted as well.
     let source = Place {
@@ -139,8 +145,9 @@ fn a_taken_terminal_changes_only_its_round() {
         ..place()
     };
     let mut late = record(4, &[]);
-    late.state = State::Taken(3, 9);
-    assert_eq!(stepped(&source, late, &[7; 5]).state, State::Taken(3, 9));
+    late.state = State::Taken(3, first(9));
+    let after = stepped(&source, late, &[7; 5]);
+    assert_eq!(after.state, State::Taken(3, first(9)));
 }
 
 // ---- what is taken
@@ -154,7 +161,7 @@ type Example = (
 );
 
 const fn takes(value: u16) -> State {
-    State::Taken(6, value)
+    State::Taken(6, first(value))
 }
 
 const EXAMPLES: [Example; 19] = [
@@ -301,16 +308,16 @@ fn words_of_several_rounds() {
     // A spoiled first word, then the good one.
     assert_eq!(
         taken(&[[0, 9, 0, 0, 0], [0, 7, 7, 0, 0]]),
-        State::Taken(2, 7)
+        State::Taken(2, first(7))
     );
     // The good word first, then another.
     assert_eq!(
         taken(&[[0, 7, 0, 0, 0], [0, 9, 0, 0, 0], [0, 0, 7, 0, 0]]),
-        State::Taken(3, 7)
+        State::Taken(3, first(7))
     );
     // Two that agree one round apart.
     let apart = [[0, 9, 0, 0, 0], [0, 8, 9, 0, 0]];
-    assert_eq!(taken(&apart), State::Taken(2, 9));
+    assert_eq!(taken(&apart), State::Taken(2, first(9)));
     let bound_two = Place {
         bound: Bound::f(2),
         ..place()
@@ -322,7 +329,8 @@ fn words_of_several_rounds() {
 
 fn refused(place: &Place, record: Record, length: usize) -> u8 {
     let before = record.clone();
-    let (cause, after) = step(place, record, &vec![7; length], Fault::None).expect_err("wrong");
+    let (cause, after) =
+        step(place, record, &vec![65_543; length], Fault::None).expect_err("wrong");
     assert_eq!(after, before);
     cause.number()
 }
@@ -358,9 +366,9 @@ fn wrong_records() {
     };
     let wrong = [
         with(40, WAITS),
-        with(255, State::Taken(1, 7)),
-        with(2, State::Taken(3, 7)),
-        with(2, State::Taken(1, 0)),
+        with(255, State::Taken(1, first(7))),
+        with(2, State::Taken(3, first(7))),
+        with(2, State::Taken(1, first(0))),
     ];
     for record in wrong {
         assert_eq!(refused(&place(), record, 5), 13);
@@ -381,12 +389,12 @@ fn wrong_records() {
 #[test]
 fn more_values_than_rounds() {
     for round in [0, 1, 2, 38, 39] {
-        for state in [WAITS, State::Taken(0, 8)] {
+        for state in [WAITS, State::Taken(0, first(8))] {
             for neighbour in [0, 1, 4] {
                 let mut before = record(round, &[]);
                 before.state = state;
                 before.row_mut(neighbour).count = round;
-                assert!(step(&place(), before.clone(), &[7; 5], Fault::None).is_ok());
+                assert!(step(&place(), before.clone(), &firsts(&[7; 5]), Fault::None).is_ok());
                 for count in [round + 1, 40, 41, 255] {
                     before.row_mut(neighbour).count = count;
                     assert_eq!(refused(&place(), before.clone(), 5), 13);

@@ -4,6 +4,7 @@ use crate::ask::Programs;
 use crate::document::{Document, Extras};
 use crate::frames::{Plan, State, Verdict};
 use crate::mend::first_way;
+use crate::notice::Notice;
 use crate::search::Link;
 use crate::shapes::Role;
 use crate::sheet::{Sheet, Told};
@@ -73,55 +74,71 @@ fn legend_of(extras: &Extras, verdict: &Verdict) -> Vec<(Role, String)> {
     ]
 }
 
-/// Who has the layout after the last round, and since when.
+/// Who has the source's last notice after the last round, and since when; and who has an older one.
 fn of_run(document: &Document, states: &[(u8, State)]) -> Told {
     let run = words::run_of(document);
+    let last = run.last_issued();
+    let role = |state: &State| role_of(*state, last.notice);
     let of = |wanted: Role| -> Vec<u8> {
-        let those = states.iter().filter(|(_, state)| role_of(*state) == wanted);
+        let those = states.iter().filter(|(_, state)| role(state) == wanted);
         those.map(|(terminal, _)| *terminal).collect()
     };
-    let (taken, waiting) = (of(Role::Reached), of(Role::CutOff));
     let row = |role: Role, name: String| {
         let words = format!("{name}: {}", document.extras.listed(&of(role)));
         (role, words)
     };
-    let good = taken.len() + waiting.len();
-    let (value, rounds) = (run.value, words::rounds(run.rounds));
-    Told {
-        good: waiting.is_empty(),
-        says: format!(
-            "A run: {} of {good} good terminals took a layout",
-            taken.len()
-        ),
-        why: format!("The source's layout is {value}, after {rounds}."),
-        roles: states.iter().map(|(_, state)| role_of(*state)).collect(),
-        legend: vec![
-            row(Role::Bad, "bad".into()),
-            row(
-                Role::Reached,
-                format!("took layout {value}, beside it when"),
+    let (taken, older, waiting) = (of(Role::Reached), of(Role::Plain), of(Role::CutOff));
+    let good = taken.len() + older.len() + waiting.len();
+    let (took, is) = match last.notice.edition {
+        Some(_) => (
+            "have the last notice",
+            format!(
+                "last notice is layout {}, of round {}",
+                last.notice, last.round
             ),
-            row(Role::CutOff, "waiting".into()),
-        ],
-        beside: states.iter().filter_map(since(run.value)).collect(),
+        ),
+        None => ("took a layout", format!("layout is {}", last.notice)),
+    };
+    let mut legend = vec![
+        row(Role::Bad, "bad".into()),
+        row(
+            Role::Reached,
+            format!("took layout {}, beside it when", last.notice),
+        ),
+        row(Role::CutOff, "waiting".into()),
+    ];
+    if !older.is_empty() {
+        legend.insert(
+            2,
+            row(Role::Plain, "took an older notice, beside it which".into()),
+        );
+    }
+    Told {
+        good: taken.len() == good,
+        says: format!("A run: {} of {good} good terminals {took}", taken.len()),
+        why: format!("The source's {is}, after {}.", words::rounds(run.rounds)),
+        roles: states.iter().map(|(_, state)| role(state)).collect(),
+        legend,
+        beside: states.iter().filter_map(since(last.notice)).collect(),
     }
 }
 
-/// When a terminal took, and what, where it is not the source's value.
-fn since(expected: u16) -> impl Fn(&(u8, State)) -> Option<(u8, String)> {
+/// When a terminal took, and what, where it is not the source's last notice.
+fn since(last: Notice) -> impl Fn(&(u8, State)) -> Option<(u8, String)> {
     move |(terminal, state)| match state {
-        State::Taken { round, value } if *value == expected => {
+        State::Taken { round, notice } if *notice == last => {
             Some((*terminal, format!("round {round}")))
         }
-        State::Taken { round, value } => Some((*terminal, format!("{value} in round {round}"))),
+        State::Taken { round, notice } => Some((*terminal, format!("{notice} in round {round}"))),
         _ => None,
     }
 }
 
-fn role_of(state: State) -> Role {
+fn role_of(state: State, last: Notice) -> Role {
     match state {
         State::Waiting => Role::CutOff,
-        State::Taken { .. } => Role::Reached,
+        State::Taken { notice, .. } if notice == last => Role::Reached,
+        State::Taken { .. } => Role::Plain,
         State::Bad => Role::Bad,
     }
 }

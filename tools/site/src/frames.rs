@@ -2,6 +2,7 @@
 //! what comes in has been accepted by a proved program, or was printed by one.
 
 use crate::groups::Limit;
+use crate::notice::{Later, Notice};
 use std::collections::BTreeSet;
 
 #[derive(Clone)]
@@ -19,18 +20,19 @@ pub struct Word {
     pub round: u8,
     pub from: u8,
     pub to: u8,
-    pub value: u16,
+    pub notice: Notice,
 }
 
-/// What a run file has beside its plan.
+/// What a run file has beside its plan. Its notices all have an edition, or none has.
 #[derive(Clone)]
 pub struct Run {
     pub bad: Vec<u8>,
-    pub value: u16,
+    pub start: Notice,
     /// Those that are played.
     pub rounds: u8,
     /// Whether the start frame has its rounds byte; without it they are one less than the terminals.
     pub given: bool,
+    pub later: Vec<Later>,
     pub words: Vec<Word>,
 }
 
@@ -40,6 +42,9 @@ pub const MOST_ROUNDS: u8 = 40;
 /// The cause that a new plan with a deaf terminal is refused with: one other than the source that
 /// hears nobody.
 pub const DEAF: u8 = 15;
+
+/// The cause of a notice of the source whose edition is 0, or not above its last.
+pub const EDITION: u8 = 16;
 
 /// The cause of a wrong group, and of a plan that lists groups and has none.
 pub const GROUPS: u8 = 17;
@@ -61,7 +66,7 @@ pub struct Verdict {
 #[derive(Clone, Copy, PartialEq, Eq)]
 pub enum State {
     Waiting,
-    Taken { round: u8, value: u16 },
+    Taken { round: u8, notice: Notice },
     Bad,
 }
 
@@ -98,11 +103,16 @@ pub fn bad_set(set: u32) -> String {
     format!("03{set:06x}\n")
 }
 
-pub fn start(value: u16, rounds: Option<u8>) -> String {
+pub fn start(notice: Notice, rounds: Option<u8>) -> String {
+    let notice = notice.digits();
     match rounds {
-        Some(rounds) => format!("04{value:04x}{rounds:02x}\n"),
-        None => format!("04{value:04x}\n"),
+        Some(rounds) => format!("04{notice}{rounds:02x}\n"),
+        None => format!("04{notice}\n"),
     }
+}
+
+pub fn later(Later { round, notice }: Later) -> String {
+    format!("08{round:02x}{}\n", notice.digits())
 }
 
 pub fn word(word: Word) -> String {
@@ -110,9 +120,9 @@ pub fn word(word: Word) -> String {
         round,
         from,
         to,
-        value,
+        notice,
     } = word;
-    format!("05{round:02x}{from:02x}{to:02x}{value:04x}\n")
+    format!("05{round:02x}{from:02x}{to:02x}{}\n", notice.digits())
 }
 
 impl Plan {
@@ -141,19 +151,54 @@ impl Plan {
 }
 
 impl Run {
-    /// The frames of the run after those of its plan. Words past the last round would be refused.
+    /// One notice without an edition, everybody good, and so many rounds.
+    pub fn plain(rounds: u8) -> Run {
+        Run {
+            bad: Vec::new(),
+            start: Notice::plain(1),
+            rounds,
+            given: true,
+            later: Vec::new(),
+            words: Vec::new(),
+        }
+    }
+
+    /// The frames of the run after those of its plan. Later notices and words past the last round
+    /// would be refused.
     pub fn to_frames(&self) -> String {
+        let issued = self.later.iter().filter(|one| one.round <= self.rounds);
         let played = self.words.iter().filter(|word| word.round <= self.rounds);
         bad_set(set_of(&self.bad))
-            + &start(self.value, Some(self.rounds))
+            + &start(self.start, Some(self.rounds))
+            + &issued.map(|&one| later(one)).collect::<String>()
             + &played.map(|&one| word(one)).collect::<String>()
+    }
+
+    /// A start's notice has two bytes, or four with its edition; one more is the rounds byte.
+    fn take_start(&mut self, rest: &[u8]) {
+        let (notice, rounds) = rest.split_at(rest.len() & !1);
+        if let Some(notice) = Notice::of(notice) {
+            self.start = notice;
+        }
+        if let [rounds] = *rounds {
+            (self.rounds, self.given) = (rounds, true);
+        }
+    }
+
+    /// What the source issued last, and in which round; the start is of round 0.
+    pub fn last_issued(&self) -> Later {
+        let start = Later {
+            round: 0,
+            notice: self.start,
+        };
+        self.later.last().copied().unwrap_or(start)
     }
 }
 
-/// Kinds 03 to 05 are those that only `run` has.
+/// Kinds 03 to 05 and 08 are those that only `run` has.
 pub fn is_run_file(file: &[u8]) -> bool {
     let mut lines = file.split(|&byte| byte == b'\n');
-    lines.any(|line| matches!(line, [b'0', b'3' | b'4' | b'5', ..]))
+    lines.any(|line| matches!(line, [b'0', b'3' | b'4' | b'5' | b'8', ..]))
 }
 
 /// The first line, the links under it, and the groups where it has ff for the bound. A file that
@@ -190,29 +235,29 @@ pub fn plan(file: &[u8]) -> Plan {
     plan
 }
 
-/// The bad set, the start and the words of an accepted run file.
+/// The bad set, the start, the later notices and the words of an accepted run file.
 pub fn run(file: &[u8]) -> Run {
     let mut run = Run {
-        bad: Vec::new(),
-        value: 0,
-        rounds: plan(file).terminals.saturating_sub(1),
         given: false,
-        words: Vec::new(),
+        ..Run::plain(plan(file).terminals.saturating_sub(1))
     };
     for line in String::from_utf8_lossy(file).lines() {
         match bytes(line).unwrap_or_default()[..] {
             [3, a, b, c] => run.bad = members([a, b, c]),
-            [4, high, low] => run.value = u16::from_be_bytes([high, low]),
-            [4, high, low, rounds] => {
-                run.value = u16::from_be_bytes([high, low]);
-                (run.rounds, run.given) = (rounds, true);
+            [4, ref rest @ ..] => run.take_start(rest),
+            [5, round, from, to, ref said @ ..] => {
+                let word = |notice| Word {
+                    round,
+                    from,
+                    to,
+                    notice,
+                };
+                run.words.extend(Notice::of(said).map(word));
             }
-            [5, round, from, to, high, low] => run.words.push(Word {
-                round,
-                from,
-                to,
-                value: u16::from_be_bytes([high, low]),
-            }),
+            [8, round, ref issued @ ..] => {
+                let later = |notice| Later { round, notice };
+                run.later.extend(Notice::of(issued).map(later));
+            }
             _ => {}
         }
     }
@@ -251,13 +296,13 @@ fn verdict(fails: u8, sets: &[u8]) -> Option<Answer> {
 }
 
 fn terminal(frame: &[u8]) -> Option<(u8, State)> {
-    let [0x82, number, state, round, high, low] = *frame else {
+    let [0x82, number, state, round, ref held @ ..] = *frame else {
         return None;
     };
-    let value = u16::from_be_bytes([high, low]);
+    let notice = Notice::of(held)?;
     match state {
         0 => Some((number, State::Waiting)),
-        1 => Some((number, State::Taken { round, value })),
+        1 => Some((number, State::Taken { round, notice })),
         2 => Some((number, State::Bad)),
         _ => None,
     }

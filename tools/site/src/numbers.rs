@@ -1,6 +1,7 @@
 //! Numbers, sets, names and coordinates as the text form has them.
 
 use crate::groups::LISTED;
+use crate::notice::Notice;
 
 const LONGEST_NAME: usize = 40;
 
@@ -15,10 +16,23 @@ pub fn number(word: &str, expected: &str) -> Result<u8, String> {
     Ok(word.parse().unwrap_or(u8::MAX))
 }
 
-/// A layout has two bytes, all of them in range but 0: a larger one stands there as 0.
-pub fn layout(word: &str, text: &str) -> Result<u16, String> {
-    digits(text, &format!("one layout after '{word}'"))?;
-    Ok(text.parse().unwrap_or(0))
+/// `8`, or `8 edition 2`.
+pub fn notice(word: &str, text: &str) -> Result<Notice, String> {
+    let (layout, edition) = match text.split_once("edition") {
+        Some((layout, edition)) => (layout.trim(), Some(edition.trim())),
+        None => (text, None),
+    };
+    let one = |edition: &str| two_bytes(edition, "one number after 'edition'");
+    Ok(Notice {
+        layout: two_bytes(layout, &format!("one layout after '{word}'"))?,
+        edition: edition.map(one).transpose()?,
+    })
+}
+
+/// Layouts and editions have two bytes, all of them in range but 0: a larger one stands there as 0.
+fn two_bytes(word: &str, expected: &str) -> Result<u16, String> {
+    digits(word, expected)?;
+    Ok(word.parse().unwrap_or(0))
 }
 
 fn digits(word: &str, expected: &str) -> Result<(), String> {

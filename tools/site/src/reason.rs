@@ -2,19 +2,11 @@
 //! looks at the file once more, and says nothing where it cannot tell.
 
 use crate::digits::bad_line;
-use crate::frames::{self, Plan, Refusal, Run, Word, DEAF, GROUPS};
+use crate::frames::{self, Plan, Refusal, Run, Word, DEAF, EDITION, GROUPS};
 use crate::groups::{self, Limit};
+use crate::{kinds, later};
 
 const LONGEST_FILE: usize = 24_576;
-/// Each kind's name, its lengths after the kind byte, and what they hold.
-const KINDS: [(u8, &str, &[usize], &str); 6] = [
-    (1, "head", &[3], "n, source, f"),
-    (2, "link", &[2], "from, to"),
-    (3, "bad set", &[3], "a set of three bytes"),
-    (4, "start", &[2, 3], "value (2 bytes), rounds"),
-    (5, "word", &[5], "round, from, to, value (2 bytes)"),
-    (7, "group", &[3], "a set of three bytes"),
-];
 
 /// What is wrong, and what would be right.
 pub struct Reason {
@@ -47,12 +39,12 @@ pub fn plainly(rule: impl Into<String>) -> Option<Reason> {
 }
 
 /// The file up to the refused line, which the program has accepted so far.
-struct Scene<'a> {
+pub struct Scene<'a> {
     before: Vec<Vec<u8>>,
-    plan: Plan,
-    run: Run,
-    line: &'a [u8],
-    frame: Vec<u8>,
+    pub plan: Plan,
+    pub run: Run,
+    pub line: &'a [u8],
+    pub frame: Vec<u8>,
     line_of: &'a dyn Fn(usize) -> usize,
 }
 
@@ -119,14 +111,8 @@ fn hear_nobody(plan: &Plan) -> Option<Reason> {
     ))
 }
 
-fn counted(bytes: usize) -> String {
-    match bytes {
-        1 => "1 byte".into(),
-        more => format!("{more} bytes"),
-    }
-}
-
-fn rounds(run: &Run) -> String {
+/// Which rounds there are.
+pub fn rounds(run: &Run) -> String {
     let has = match run.rounds {
         0 => "the run has no round".into(),
         1 => "the run has round 1 only".into(),
@@ -141,7 +127,7 @@ fn rounds(run: &Run) -> String {
 impl Scene<'_> {
     fn reason(&self, program: &str, cause: u8) -> Option<Reason> {
         match cause {
-            2 => self.wrong_kind(program),
+            2 => kinds::wrong(self, program),
             3 => self.wrong_order(),
             4 => self.out_of_range(),
             5 => self.wrong_link(),
@@ -151,39 +137,13 @@ impl Scene<'_> {
             9 => self.wrong_start(),
             10 => self.wrong_word(),
             11 => self.second_word(),
+            EDITION => later::wrong_edition(self),
             GROUPS => groups::refused(&self.plan, &self.named()?),
             _ => None,
         }
     }
 
-    fn wrong_kind(&self, program: &str) -> Option<Reason> {
-        let kind = *self.frame.first()?;
-        // A plan with a bound has no place for a group, so it is not told of one.
-        let (all, of_plan) = match self.plan.limit {
-            Limit::Bound(_) => ("01 to 05", "01 and 02"),
-            Limit::Groups(_) => ("01 to 05, and 07", "01, 02 and 07"),
-        };
-        let Some((_, name, lengths, holds)) = KINDS.iter().find(|known| known.0 == kind) else {
-            return because(format!("kind {kind:02x}"), format!("there are {all}"));
-        };
-        if (3..=5).contains(&kind) && program != "run" {
-            return because(
-                format!("kind {kind:02x}, a run's {name}"),
-                format!("'{program}' has {of_plan} only"),
-            );
-        }
-        let found = self.frame.len() - 1;
-        if lengths.contains(&found) {
-            return None;
-        }
-        let wanted: Vec<String> = lengths.iter().map(usize::to_string).collect();
-        because(
-            format!("kind {kind:02x} with {} after it", counted(found)),
-            format!("a {name} has {} ({holds})", wanted.join(" or ")),
-        )
-    }
-
-    fn has(&self, kind: u8) -> bool {
+    pub fn has(&self, kind: u8) -> bool {
         self.before.iter().any(|frame| frame.first() == Some(&kind))
     }
 
@@ -200,6 +160,7 @@ impl Scene<'_> {
             3 if self.has(4) => plainly("the bad set, 03, stands before 04"),
             4 => plainly("the start, 04, stands after the bad set, 03"),
             5 if !self.has(4) => plainly("a word, 05, stands after the start, 04"),
+            8 => later::misplaced(self),
             _ => None,
         }
     }
@@ -252,7 +213,7 @@ impl Scene<'_> {
     }
 
     /// The line of the first frame before this one that starts with these bytes.
-    fn earlier(&self, start: &[u8]) -> Option<usize> {
+    pub fn earlier(&self, start: &[u8]) -> Option<usize> {
         let place = self
             .before
             .iter()
@@ -311,16 +272,21 @@ impl Scene<'_> {
         ))
     }
 
+    /// The start, or a later notice.
     fn wrong_start(&self) -> Option<Reason> {
-        match self.frame[..] {
-            [_, 0, 0, ..] => because("value 0", "layouts are 1 to 65535"),
-            [_, _, _, rounds] if rounds > frames::MOST_ROUNDS => Some(Reason {
-                field: 1,
-                subject: format!("{rounds} rounds"),
-                rule: "0 to 40 are allowed".into(),
-            }),
-            _ => None,
+        let run = frames::run(self.line);
+        let notice = run.later.first().map_or(run.start, |later| later.notice);
+        if notice.layout == 0 {
+            return because(notice.layout_named(), "layouts are 1 to 65535");
         }
+        if run.given && run.rounds > frames::MOST_ROUNDS {
+            return Some(Reason {
+                field: 1,
+                subject: format!("{} rounds", run.rounds),
+                rule: "0 to 40 are allowed".into(),
+            });
+        }
+        None
     }
 
     fn wrong_word(&self) -> Option<Reason> {
@@ -329,7 +295,7 @@ impl Scene<'_> {
             round,
             from,
             to,
-            value,
+            notice,
         } = *said.first()?;
         let (run, n) = (&self.run, self.plan.terminals);
         if round == 0 || round > run.rounds {
@@ -348,8 +314,14 @@ impl Scene<'_> {
                 "{from} is good, and the rules say what a good one says"
             ));
         }
-        if value == 0 {
-            return because("value 0", "layouts are 1 to 65535; silence needs no word");
+        let needs_none = "silence needs no word";
+        if notice.layout == 0 {
+            let rule = format!("layouts are 1 to 65535; {needs_none}");
+            return because(notice.layout_named(), rule);
+        }
+        if notice.edition == Some(0) {
+            let rule = format!("{}; {needs_none}", later::EDITIONS);
+            return because("edition 0", rule);
         }
         None
     }

@@ -3,6 +3,7 @@
 use crate::document::Extras;
 use crate::frames::{Plan, Run, Word};
 use crate::groups::{Group, Limit};
+use crate::notice::Later;
 use std::collections::BTreeSet;
 
 pub fn plan(plan: &Plan, extras: &Extras) -> String {
@@ -68,20 +69,26 @@ fn spaced_or_none(set: &[u8]) -> String {
 
 pub fn run(run: &Run) -> String {
     let bad = spaced_or_none(&run.bad);
-    let mut text = format!("bad{bad}\nvalue {}\n", run.value);
+    let mut text = format!("bad{bad}\nvalue {}\n", run.start);
     if run.given {
         text += &format!("rounds {}\n", run.rounds);
     }
+    for Later { round, notice } in &run.later {
+        text += &format!("round {round}: source issues {notice}\n");
+    }
     let alike = |one: &Word, next: &Word| {
-        (one.round, one.from, one.value) == (next.round, next.from, next.value)
+        (one.round, one.from, one.notice) == (next.round, next.from, next.notice)
     };
     for words in run.words.chunk_by(alike) {
         let Word {
-            round, from, value, ..
+            round,
+            from,
+            notice,
+            ..
         } = words[0];
         let hearers: Vec<u8> = words.iter().map(|word| word.to).collect();
         text += &format!(
-            "round {round}: {from} says {value} to{}\n",
+            "round {round}: {from} says {notice} to{}\n",
             spaced(&hearers)
         );
     }

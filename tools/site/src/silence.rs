@@ -5,7 +5,7 @@
 use crate::ask::Programs;
 use crate::deaf::Hearing;
 use crate::document::Document;
-use crate::frames::{self, Answer, Plan, Refusal, State, MOST_ROUNDS};
+use crate::frames::{Answer, Plan, Refusal, Run, State, MOST_ROUNDS};
 use crate::groups::{self, Limit};
 use crate::reason::{self, with_and};
 use crate::{words, Told, Trouble};
@@ -22,7 +22,11 @@ pub fn with_bad(
     let bad = numbers(terminals)?;
     let plan = programs.accepted_plan(document)?;
     let hearing = Hearing::of(&plan, &bad);
-    let run = frames::bad_set(frames::set_of(&bad)) + &frames::start(1, Some(MOST_ROUNDS));
+    let run = Run {
+        bad: bad.clone(),
+        ..Run::plain(MOST_ROUNDS)
+    };
+    let run = run.to_frames();
     let who = with_and(&bad);
     let asked = hearing.plan.to_frames() + &run;
     match programs.ask("run", asked.as_bytes())?.1 {

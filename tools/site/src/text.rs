@@ -4,7 +4,8 @@
 use crate::document::Extras;
 use crate::frames::{self, Word};
 use crate::groups::LISTED;
-use crate::numbers::{bound, byte, layout, measure, number, quoted, set};
+use crate::notice::{Later, Notice};
+use crate::numbers::{bound, byte, measure, notice, number, quoted, set};
 use std::collections::BTreeSet;
 
 const HEAD: [&str; 3] = ["terminals", "source", "bound"];
@@ -15,6 +16,7 @@ const WANTED: [&str; 3] = [
     "'bound NUMBER' or 'group TERMINAL..'",
 ];
 const NOT_BOTH: &str = "a plan has a bound or groups, not both";
+const ALL_OR_NONE: &str = "a run has an edition with every layout, or with none";
 
 /// Where a part of the text stands, to be told of where it is refused.
 #[derive(Clone)]
@@ -36,9 +38,13 @@ pub struct Draft {
     groups: Vec<Part<u32>>,
     links: Vec<Part<(u8, u8)>>,
     bad: Option<Part<u32>>,
-    value: Option<Part<u16>>,
+    /// The first notice, in 'value'.
+    start: Option<Part<Notice>>,
     rounds: Option<Part<u8>>,
+    later: Vec<Part<Later>>,
     says: Vec<Part<Word>>,
+    /// The first line with a notice, and whether it has an edition.
+    form: Option<(usize, bool)>,
     pub extras: Extras,
 }
 
@@ -56,7 +62,7 @@ pub fn read(text: &str) -> Result<Draft, String> {
     if let Some(wanted) = draft.missing() {
         return Err(format!("end of the file: expected {wanted}"));
     }
-    if draft.value.is_none() && draft.has_run_part() {
+    if draft.start.is_none() && draft.has_run_part() {
         return Err("end of the file: expected 'value NUMBER', since it has a run".into());
     }
     Ok(draft)
@@ -85,7 +91,8 @@ impl Draft {
     }
 
     fn has_run_part(&self) -> bool {
-        self.bad.is_some() || self.rounds.is_some() || !self.says.is_empty()
+        let lines = !self.later.is_empty() || !self.says.is_empty();
+        self.bad.is_some() || self.rounds.is_some() || lines
     }
 
     fn take(&mut self, line: usize, text: &str) -> Result<(), String> {
@@ -117,8 +124,9 @@ impl Draft {
             "name" => self.take_name(rest),
             "at" => self.take_place(rest),
             "bad" => take_once(&mut self.bad, line, text, set(word, rest)?),
-            "value" => take_once(&mut self.value, line, text, layout("value", rest)?),
+            "value" => self.take_start(line, text, rest),
             "rounds" => take_once(&mut self.rounds, line, text, byte(word, rest)?),
+            "round" if rest.contains("issues") => self.take_later(line, rest),
             "round" => self.take_words(line, rest),
             _ if starts_with_letter => Err(unknown(text)),
             _ => self.take_links(line, text),
@@ -178,13 +186,51 @@ impl Draft {
         Ok(())
     }
 
-    /// After 'round': `2: 3 says 9 to 6 7`.
+    /// A line's notice; whether it has an edition is as in the lines before.
+    fn notice(&mut self, line: usize, word: &str, text: &str) -> Result<Notice, String> {
+        let notice = notice(word, text)?;
+        let has = notice.edition.is_some();
+        match *self.form.get_or_insert((line, has)) {
+            (given, false) if has => Err(format!(
+                "an edition, and line {given} has none: {ALL_OR_NONE}"
+            )),
+            (given, true) if !has => Err(format!(
+                "no edition, and line {given} has one: {ALL_OR_NONE}"
+            )),
+            _ => Ok(notice),
+        }
+    }
+
+    fn take_start(&mut self, line: usize, text: &str, rest: &str) -> Result<(), String> {
+        let notice = self.notice(line, "value", rest)?;
+        take_once(&mut self.start, line, text, notice)
+    }
+
+    /// After 'round': `2: source issues 8 edition 2`.
+    fn take_later(&mut self, line: usize, text: &str) -> Result<(), String> {
+        let form = "expected 'round NUMBER: source issues LAYOUT edition NUMBER'";
+        let (round, rest) = text.split_once(':').ok_or(form)?;
+        let (who, rest) = rest.split_once("issues").ok_or(form)?;
+        let (round, who, issued) = (round.trim(), who.trim(), rest.trim());
+        if who != "source" || !issued.contains("edition") {
+            return Err(form.into());
+        }
+        let is = Later {
+            round: number(round, "a round after 'round'")?,
+            notice: self.notice(line, "issues", issued)?,
+        };
+        let place = place_of(line, &format!("round {round}: source issues {issued}"));
+        self.later.push(Part { place, is });
+        Ok(())
+    }
+
+    /// After 'round': `2: 3 says 9 to 6 7`, or `2: 3 says 9 edition 2 to 6 7`.
     fn take_words(&mut self, line: usize, text: &str) -> Result<(), String> {
         let form = "expected 'round NUMBER: TERMINAL says LAYOUT to TERMINAL'";
         let (round, rest) = text.split_once(':').ok_or(form)?;
         let (from, rest) = rest.split_once("says").ok_or(form)?;
-        let (value, hearers) = rest.split_once("to").ok_or(form)?;
-        let (round, from, value) = (round.trim(), from.trim(), value.trim());
+        let (said, hearers) = rest.split_once("to").ok_or(form)?;
+        let (round, from, said) = (round.trim(), from.trim(), said.trim());
         if hearers.trim().is_empty() {
             return Err("expected a terminal after 'to', found nothing".into());
         }
@@ -193,10 +239,10 @@ impl Draft {
                 round: number(round, "a round after 'round'")?,
                 from: number(from, "one terminal before 'says'")?,
                 to: number(hearer, "a terminal after 'to'")?,
-                value: layout("says", value)?,
+                notice: self.notice(line, "says", said)?,
             };
-            let words = format!("round {round}: {from} says {value} to {hearer}");
-            let place = Place { line, words };
+            let words = format!("round {round}: {from} says {said} to {hearer}");
+            let place = place_of(line, &words);
             self.says.push(Part { place, is: word });
         }
         Ok(())
@@ -260,8 +306,8 @@ impl Draft {
             lines.push((frames::group(*is), vec![place.clone()]));
         }
         let plan_lines = lines.len();
-        if let Some(value) = &self.value {
-            lines.extend(self.run_frames(value));
+        if let Some(start) = &self.start {
+            lines.extend(self.run_frames(start));
         }
         (lines, plan_lines)
     }
@@ -280,20 +326,25 @@ impl Draft {
         )
     }
 
-    /// Without a 'bad' line nobody is bad.
-    fn run_frames(&self, value: &Part<u16>) -> Vec<(String, Vec<Place>)> {
-        let start = value.place.clone();
+    /// Without a 'bad' line nobody is bad. Later notices stand in the order of their rounds, and
+    /// those of one round in the order given.
+    fn run_frames(&self, start: &Part<Notice>) -> Vec<(String, Vec<Place>)> {
         let (set, place) = match &self.bad {
-            Some(bad) => (bad.is, bad.place.clone()),
-            None => (0, start.clone()),
+            Some(bad) => (bad.is, &bad.place),
+            None => (0, &start.place),
         };
         let rounds = self.rounds.as_ref().map(|rounds| rounds.is);
-        let mut places = vec![start];
+        let mut places = vec![start.place.clone()];
         places.extend(self.rounds.iter().map(|rounds| rounds.place.clone()));
         let mut lines = vec![
-            (frames::bad_set(set), vec![place]),
-            (frames::start(value.is, rounds), places),
+            (frames::bad_set(set), vec![place.clone()]),
+            (frames::start(start.is, rounds), places),
         ];
+        let mut later: Vec<&Part<Later>> = self.later.iter().collect();
+        later.sort_by_key(|part| part.is.round);
+        for Part { place, is } in later {
+            lines.push((frames::later(*is), vec![place.clone()]));
+        }
         for Part { place, is } in &self.says {
             lines.push((frames::word(*is), vec![place.clone()]));
         }

@@ -3,6 +3,7 @@
 use crate::ask::Programs;
 use crate::document::Document;
 use crate::frames::{Run, State};
+use crate::notice::Notice;
 use crate::words;
 use crate::Trouble;
 use std::collections::BTreeMap;
@@ -19,7 +20,7 @@ pub fn trace(document: &Document, csv: bool, programs: &Programs) -> Result<Stri
     let run = words::run_of(document);
     let course = course(document, &run, programs)?;
     Ok(if csv {
-        table(&course)
+        table(&run, &course)
     } else {
         story(document, &run, &course)
     })
@@ -37,15 +38,23 @@ fn course(document: &Document, run: &Run, programs: &Programs) -> Result<Course,
     (0..=run.rounds).map(after).collect()
 }
 
-fn table(course: &Course) -> String {
-    let mut text = String::from("round,terminal,state,taken_in,value\n");
+/// Editions come last, so that the other columns stand where they stand without them.
+fn table(run: &Run, course: &Course) -> String {
+    let (column, none) = match run.start.edition {
+        Some(_) => (",edition", ","),
+        None => ("", ""),
+    };
+    let mut text = format!("round,terminal,state,taken_in,value{column}\n");
     for (round, states) in course.iter().enumerate() {
         for (terminal, state) in states {
             text += &match state {
-                State::Waiting => format!("{round},{terminal},waiting,,\n"),
-                State::Bad => format!("{round},{terminal},bad,,\n"),
-                State::Taken { round: at, value } => {
-                    format!("{round},{terminal},taken,{at},{value}\n")
+                State::Waiting => format!("{round},{terminal},waiting,,{none}\n"),
+                State::Bad => format!("{round},{terminal},bad,,{none}\n"),
+                State::Taken { round: at, notice } => {
+                    let edition = notice.edition.map(|edition| format!(",{edition}"));
+                    let edition = edition.unwrap_or_default();
+                    let layout = notice.layout;
+                    format!("{round},{terminal},taken,{at},{layout}{edition}\n")
                 }
             };
         }
@@ -57,10 +66,13 @@ fn story(document: &Document, run: &Run, course: &Course) -> String {
     let mut text = String::new();
     for (round, states) in course.iter().enumerate() {
         let mut events = lies(document, run, round);
-        let before = round.checked_sub(1).map(|last| &course[last]);
-        match takes(document, states, before) {
-            none if none.is_empty() => events.push("nobody takes".into()),
-            takes => events.extend(takes),
+        match round.checked_sub(1) {
+            None => events.extend(has(document, states)),
+            Some(last) => {
+                let changes = changes(states, &course[last]);
+                events.extend(takes(document, &changes));
+                events.extend(issues(document, &changes));
+            }
         }
         text += &format!("round {round}: {}\n", events.join("; "));
     }
@@ -69,63 +81,122 @@ fn story(document: &Document, run: &Run, course: &Course) -> String {
 
 /// What the bad ones say, words alike together.
 fn lies(document: &Document, run: &Run, round: usize) -> Vec<String> {
-    let mut said: BTreeMap<(u8, u16), Vec<u8>> = BTreeMap::new();
+    let mut said: BTreeMap<(u8, Notice), Vec<u8>> = BTreeMap::new();
     for word in &run.words {
         if usize::from(word.round) == round {
-            let hearers = said.entry((word.from, word.value)).or_default();
+            let hearers = said.entry((word.from, word.notice)).or_default();
             hearers.push(word.to);
         }
     }
     let extras = &document.extras;
     said.into_iter()
-        .map(|((from, value), hearers)| {
+        .map(|((from, notice), hearers)| {
             let (from, hearers) = (extras.called(from), extras.listed(&hearers));
-            format!("bad {from} says {value} to {hearers}")
+            format!("bad {from} says {notice} to {hearers}")
         })
         .collect()
 }
 
-/// Who has a layout now and had none before; at the start that is the source.
-fn takes(
-    document: &Document,
-    states: &[(u8, State)],
-    before: Option<&Vec<(u8, State)>>,
-) -> Vec<String> {
-    let mut events = Vec::new();
-    for (place, (terminal, state)) in states.iter().enumerate() {
-        let State::Taken { value, .. } = state else {
-            continue;
-        };
-        let called = document.extras.called(*terminal);
-        match before {
-            None => events.push(format!("{called}, the source, has {value}")),
-            Some(before) if before[place].1 == State::Waiting => {
-                events.push(format!("{called} takes {value}"));
-            }
-            Some(_) => {}
+/// Who has a notice at the start: the source.
+fn has(document: &Document, states: &[(u8, State)]) -> Vec<String> {
+    let called = |terminal: u8| document.extras.called(terminal);
+    let has = |(terminal, state): &(u8, State)| match state {
+        State::Taken { notice, .. } => {
+            Some(format!("{}, the source, has {notice}", called(*terminal)))
         }
-    }
-    events
+        _ => None,
+    };
+    states.iter().filter_map(has).collect()
 }
 
+/// Who has a notice now and had none, or another, before.
+fn changes(states: &[(u8, State)], before: &[(u8, State)]) -> Vec<(u8, Notice)> {
+    let both = states.iter().zip(before);
+    both.filter_map(|((terminal, now), (_, before))| match now {
+        State::Taken { notice, .. } if now != before => Some((*terminal, *notice)),
+        _ => None,
+    })
+    .collect()
+}
+
+fn takes(document: &Document, changes: &[(u8, Notice)]) -> Vec<String> {
+    let source = document.plan().source;
+    let others = changes.iter().filter(|(terminal, _)| *terminal != source);
+    let takes: Vec<String> = others
+        .map(|(terminal, notice)| {
+            let called = document.extras.called(*terminal);
+            format!("{called} takes {notice}")
+        })
+        .collect();
+    match takes.is_empty() {
+        true => vec!["nobody takes".into()],
+        false => takes,
+    }
+}
+
+/// The source takes by itself, once the others have taken in this round.
+fn issues(document: &Document, changes: &[(u8, Notice)]) -> Option<String> {
+    let source = document.plan().source;
+    let (_, notice) = changes.iter().find(|(terminal, _)| *terminal == source)?;
+    let called = document.extras.called(source);
+    Some(format!("{called}, the source, issues {notice}"))
+}
+
+/// Who has what in the end.
 fn summary(document: &Document, run: &Run, states: &[(u8, State)]) -> String {
-    let of = |wanted: fn(&State) -> bool| -> Vec<u8> {
+    let of = |wanted: &dyn Fn(&State) -> bool| -> Vec<u8> {
         let those = states.iter().filter(|(_, state)| wanted(state));
         those.map(|(terminal, _)| *terminal).collect()
     };
-    let taken = of(|state| matches!(state, State::Taken { .. }));
-    let waiting = of(|state| matches!(state, State::Waiting));
+    let taken = of(&|state| matches!(state, State::Taken { .. }));
+    let waiting = of(&|state| matches!(state, State::Waiting));
     let good = taken.len() + waiting.len();
-    let other = states
-        .iter()
-        .any(|(_, state)| matches!(state, State::Taken { value, .. } if *value != run.value));
+    let have = match run.start.edition {
+        Some(_) => with_editions(document, run, states, good),
+        None => without_editions(run, states, &taken, good),
+    };
     format!(
-        "after {}: {} of {good} good terminals have {}, the last since round {}; waiting: {}; bad: {}\n",
+        "after {}: {have}; waiting: {}; bad: {}\n",
         words::rounds(run.rounds),
-        taken.len(),
-        if other { "a layout, NOT ALL THE SAME".into() } else { format!("layout {}", run.value) },
-        words::last_take(states),
         document.extras.listed(&waiting),
         document.extras.listed(&run.bad)
     )
+}
+
+fn without_editions(run: &Run, states: &[(u8, State)], taken: &[u8], good: usize) -> String {
+    let other = states
+        .iter()
+        .any(|(_, state)| matches!(state, State::Taken { notice, .. } if *notice != run.start));
+    let layout = match other {
+        true => "a layout, NOT ALL THE SAME".into(),
+        false => format!("layout {}", run.start),
+    };
+    format!(
+        "{} of {good} good terminals have {layout}, the last since round {}",
+        taken.len(),
+        words::last_take(states)
+    )
+}
+
+/// Those with the source's last notice, and then those with others, the newest first.
+fn with_editions(document: &Document, run: &Run, states: &[(u8, State)], good: usize) -> String {
+    let last = run.last_issued().notice;
+    let mut held: BTreeMap<Notice, Vec<(u8, State)>> = BTreeMap::new();
+    for &(terminal, state) in states {
+        if let State::Taken { notice, .. } = state {
+            held.entry(notice).or_default().push((terminal, state));
+        }
+    }
+    let newest = held.remove(&last).unwrap_or_default();
+    let mut text = format!(
+        "{} of {good} good terminals have the source's last notice, {last}, the last of them since round {}",
+        newest.len(),
+        words::last_take(&newest)
+    );
+    for (notice, those) in held.iter().rev() {
+        let terminals: Vec<u8> = those.iter().map(|(terminal, _)| *terminal).collect();
+        let listed = document.extras.listed(&terminals);
+        text += &format!("; still with {notice}: {listed}");
+    }
+    text
 }

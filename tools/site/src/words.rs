@@ -2,8 +2,9 @@
 
 use crate::ask::Programs;
 use crate::document::{Document, Extras};
-use crate::frames::{self, Plan, Refusal, Run, State, Verdict, DEAF, GROUPS};
+use crate::frames::{self, Plan, Refusal, Run, State, Verdict, DEAF, EDITION, GROUPS};
 use crate::groups::{self, Limit};
+use crate::notice::Later;
 use crate::Trouble;
 
 /// The lines under a verdict's frame. How fast a notice is when nobody lies is asked of `run`.
@@ -16,13 +17,7 @@ pub fn of_verdict(
     if verdict.fails {
         return Ok(failed(&plan, &document.extras, verdict));
     }
-    let run = Run {
-        bad: Vec::new(),
-        value: 1,
-        rounds: plan.terminals - 1,
-        given: true,
-        words: Vec::new(),
-    };
+    let run = Run::plain(plan.terminals - 1);
     let states = programs.states(&(plan.to_frames() + &run.to_frames()))?;
     let mut lines = vec![
         format!(
@@ -129,7 +124,8 @@ pub fn of_states(document: &Document, states: &[(u8, State)]) -> Vec<String> {
         true => format!("{} played, as given", rounds(run.rounds)),
         false => format!("{} played: n-1, since none are given", rounds(run.rounds)),
     };
-    let source = document.plan().source;
+    let plan = document.plan();
+    let source = plan.source;
     let line = |(number, state): &(u8, State)| {
         let called = document.extras.called(*number);
         let source = if *number == source {
@@ -140,15 +136,27 @@ pub fn of_states(document: &Document, states: &[(u8, State)]) -> Vec<String> {
         match state {
             State::Waiting => format!("terminal {called}{source}: waiting"),
             State::Bad => format!("terminal {called}{source}: bad"),
-            State::Taken { round, value } => {
-                format!("terminal {called}{source}: took layout {value} in round {round}")
+            State::Taken { round, notice } => {
+                format!("terminal {called}{source}: took layout {notice} in round {round}")
             }
         }
     };
     [played]
         .into_iter()
+        .chain(last_notice(&plan, &run))
         .chain(states.iter().map(line))
         .collect()
+}
+
+/// Of a run with editions: how long the source's last notice has had, and what it may need.
+fn last_notice(plan: &Plan, run: &Run) -> Option<String> {
+    let Later { round, notice } = run.last_issued();
+    notice.edition?;
+    Some(format!(
+        "the source's last notice is layout {notice}, of round {round}: {} played after it, and a plan that passes needs at most {} (n-1)",
+        rounds(run.rounds - round),
+        plan.terminals - 1
+    ))
 }
 
 /// A line of the file as it stands there, the start of it where it is long.
@@ -166,18 +174,21 @@ pub fn cause(refusal: &Refusal) -> &'static str {
     match (refusal.cause, refusal.line) {
         (1, 0) => "file empty or too long",
         (1, _) => "foreign character, empty line, odd digits, no line end",
-        (2, _) => "unknown kind, one this program lacks, wrong length",
+        (2, _) => "unknown kind, one this program lacks, wrong length, or not of the start's form",
         (3, 0) => "03 or 04 missing at the end",
-        (3, _) => "frame out of order; 01, 03 or 04 repeated",
+        (3, _) => "frame out of order; 01, 03 or 04 repeated; rounds of 08 that do not rise",
         (4, _) => "n, source or f out of range",
         (5, _) => "link end at or above n, or to itself",
         (6, _) => "link given twice",
         (7, _) => "bad set names the source or a number at or above n",
         (8, _) => "a good terminal hears more than f of it, or it is part of no group",
-        (9, _) => "value 0, or rounds above 40",
-        (10, _) => "word with round 0 or past the last, no such link, good sender, value 0",
+        (9, _) => "value or layout 0, or rounds above 40",
+        (10, _) => {
+            "word with round 0 or past the last, no such link, good sender, value or edition 0"
+        }
         (11, _) => "second word on one link in one round",
         (DEAF, _) => "a terminal other than the source hears nobody",
+        (EDITION, _) => "edition 0, or not above the source's last",
         (GROUPS, 0) => "no group, where the head has ff for f",
         (GROUPS, _) => "more than 16 groups, or one naming the source or a number at or above n",
         _ => "a cause that files do not have",

@@ -24,6 +24,9 @@ read-lines-requires c κs = search needs
 same-length : tie.Need-same-length
 same-length c = search needs
 
+same-length-2 : tie.Need-same-length-2
+same-length-2 c = search needs
+
 returns-3 : tie.Need-returns-3
 returns-3 c = search needs
 
@@ -37,4 +40,5 @@ read-spec =
     returns-2
     read-lines-requires
     same-length
+    same-length-2
     returns-3)

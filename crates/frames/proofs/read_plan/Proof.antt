@@ -7,12 +7,16 @@ use Rattle.frames.proofs.read_plan.Tie as tie
 slice-aggregate-read : tie.Need-slice-aggregate-read
 slice-aggregate-read c = search needs
 
+slice-aggregate-read-2 : tie.Need-slice-aggregate-read-2
+slice-aggregate-read-2 c = search needs
+
 read-requires : tie.Need-read-requires
 read-requires c κs = search needs
 
 returns : tie.Need-returns
 unfolding planReading
-returns c = c .before .read .ensures .0
+returns c = c .before .before .read .ensures .0
 
 pub read-plan-spec : {M : Type 1} → statement M
-read-plan-spec = tie.close (tie.spec slice-aggregate-read read-requires returns)
+read-plan-spec =
+    tie.close (tie.spec slice-aggregate-read slice-aggregate-read-2 read-requires returns)

@@ -12,25 +12,25 @@ bytes-of-requires : tie.Need-bytes-of-requires
 bytes-of-requires c κs = search needs
 
 array-share-prefix-first : tie.Need-array-share-prefix-first
-array-share-prefix-first c = let room : length (c .before .before .before .bytes-of .result .first) ≡ 6 = search needs in omega arith
+array-share-prefix-first c = let room : length (c .before .before .before .bytes-of .result .first) ≡ 8 = search needs in omega arith
 
 slice-aggregate-known-frame : tie.Need-slice-aggregate-known-frame
 slice-aggregate-known-frame c =
     let first = c .before .before .before .before .bytes-of .result .first in
-    let room : length first ≡ 6 = search needs in
+    let room : length first ≡ 8 = search needs in
     omega (arith, length-take (length (c .before .before .before .before .before .before .args .line .now) / 2) first)
 
 known-frame-requires : tie.Need-known-frame-requires
 known-frame-requires c κs =
     let first = c .before .before .before .before .bytes-of .result .first in
-    let room : length first ≡ 6 = search needs in
+    let room : length first ≡ 8 = search needs in
     let long = formed-length _ (sym (c .before .before .before .before .bytes-of .ensures .0) ∙ c .before .before .before .if1 .taken) in
     omega (arith, length-take (length (c .before .before .before .before .before .before .args .line .now) / 2) first)
 
 returns : tie.Need-returns
 returns c =
     let read = c .before .before .before .before .before .bytes-of in
-    let room : length (read .result .first) ≡ 6 = search needs in
+    let room : length (read .result .first) ≡ 8 = search needs in
     let whole = c .before .before .before .before .if1 .taken in
     c .known-frame .ensures ∙ frame-short _ _ (read .result .first) room (sym (read .ensures .0) ∙ whole) (c .before .before .before .if2 .taken) (read .ensures .1 whole)
 

@@ -12,46 +12,61 @@ head-of-requires c κs = search needs
 
 returns : tie.Need-returns
 unfolding kindOf
-returns c = c .head-of .ensures ∙ sym (pick-yes _ _ _ (eq-eqb (c .before .before .before .args .kind) 1 (c .before .if1 .taken)))
+returns c = let kind = c .before .before .before .args .kind in
+    c .head-of .ensures ∙ sym (pick-yes _ _ _ (eq-eqb kind 1 (c .before .if1 .taken)))
 
 link-of-requires : tie.Need-link-of-requires
 link-of-requires c κs = search needs
 
 returns-2 : tie.Need-returns-2
 unfolding kindOf
-returns-2 c = c .link-of .ensures ∙ sym (pick-no _ _ _ (ne-eqb (c .before .before .before .before .args .kind) 1 (c .before .before .if1 .left)) ∙ pick-yes _ _ _ (eq-eqb (c .before .before .before .before .args .kind) 2 (c .before .if2 .taken)))
+returns-2 c = let kind = c .before .before .before .before .args .kind in
+    c .link-of .ensures ∙ sym (pick-no _ _ _ (ne-eqb kind 1 (c .before .before .if1 .left)) ∙ pick-yes _ _ _ (eq-eqb kind 2 (c .before .if2 .taken)))
 
 fault-set-of-requires : tie.Need-fault-set-of-requires
 fault-set-of-requires c κs = search needs
 
 returns-3 : tie.Need-returns-3
 unfolding kindOf
-returns-3 c = c .fault-set-of .ensures ∙ sym (pick-no _ _ _ (ne-eqb (c .before .before .before .before .before .args .kind) 1 (c .before .before .before .if1 .left)) ∙ pick-no _ _ _ (ne-eqb (c .before .before .before .before .before .args .kind) 2 (c .before .before .if2 .left)) ∙ pick-yes _ _ _ (eq-eqb (c .before .before .before .before .before .args .kind) 3 (c .before .if3 .taken)))
+returns-3 c = let kind = c .before .before .before .before .before .args .kind in
+    c .fault-set-of .ensures ∙ sym (pick-no _ _ _ (ne-eqb kind 1 (c .before .before .before .if1 .left)) ∙ pick-no _ _ _ (ne-eqb kind 2 (c .before .before .if2 .left)) ∙ pick-yes _ _ _ (eq-eqb kind 3 (c .before .if3 .taken)))
 
 start-of-requires : tie.Need-start-of-requires
 start-of-requires c κs = search needs
 
 returns-4 : tie.Need-returns-4
 unfolding kindOf
-returns-4 c = c .start-of .ensures ∙ sym (pick-no _ _ _ (ne-eqb (c .before .before .before .before .before .before .args .kind) 1 (c .before .before .before .before .if1 .left)) ∙ pick-no _ _ _ (ne-eqb (c .before .before .before .before .before .before .args .kind) 2 (c .before .before .before .if2 .left)) ∙ pick-no _ _ _ (ne-eqb (c .before .before .before .before .before .before .args .kind) 3 (c .before .before .if3 .left)) ∙ pick-yes _ _ _ (eq-eqb (c .before .before .before .before .before .before .args .kind) 4 (c .before .if4 .taken)))
+returns-4 c = let kind = c .before .before .before .before .before .before .args .kind in
+    c .start-of .ensures ∙ sym (pick-no _ _ _ (ne-eqb kind 1 (c .before .before .before .before .if1 .left)) ∙ pick-no _ _ _ (ne-eqb kind 2 (c .before .before .before .if2 .left)) ∙ pick-no _ _ _ (ne-eqb kind 3 (c .before .before .if3 .left)) ∙ pick-yes _ _ _ (eq-eqb kind 4 (c .before .if4 .taken)))
 
 message-of-requires : tie.Need-message-of-requires
 message-of-requires c κs = search needs
 
 returns-5 : tie.Need-returns-5
 unfolding kindOf
-returns-5 c = c .message-of .ensures ∙ sym (pick-no _ _ _ (ne-eqb (c .before .before .before .before .before .before .before .args .kind) 1 (c .before .before .before .before .before .if1 .left)) ∙ pick-no _ _ _ (ne-eqb (c .before .before .before .before .before .before .before .args .kind) 2 (c .before .before .before .before .if2 .left)) ∙ pick-no _ _ _ (ne-eqb (c .before .before .before .before .before .before .before .args .kind) 3 (c .before .before .before .if3 .left)) ∙ pick-no _ _ _ (ne-eqb (c .before .before .before .before .before .before .before .args .kind) 4 (c .before .before .if4 .left)) ∙ pick-yes _ _ _ (eq-eqb (c .before .before .before .before .before .before .before .args .kind) 5 (c .before .if5 .taken)))
+returns-5 c = let kind = c .before .before .before .before .before .before .before .args .kind in
+    c .message-of .ensures ∙ sym (pick-no _ _ _ (ne-eqb kind 1 (c .before .before .before .before .before .if1 .left)) ∙ pick-no _ _ _ (ne-eqb kind 2 (c .before .before .before .before .if2 .left)) ∙ pick-no _ _ _ (ne-eqb kind 3 (c .before .before .before .if3 .left)) ∙ pick-no _ _ _ (ne-eqb kind 4 (c .before .before .if4 .left)) ∙ pick-yes _ _ _ (eq-eqb kind 5 (c .before .if5 .taken)))
 
 group-of-requires : tie.Need-group-of-requires
 group-of-requires c κs = search needs
 
 returns-6 : tie.Need-returns-6
 unfolding kindOf
-returns-6 c = c .group-of .ensures ∙ sym (pick-no _ _ _ (ne-eqb (c .before .before .before .before .before .before .before .before .args .kind) 1 (c .before .before .before .before .before .before .if1 .left)) ∙ pick-no _ _ _ (ne-eqb (c .before .before .before .before .before .before .before .before .args .kind) 2 (c .before .before .before .before .before .if2 .left)) ∙ pick-no _ _ _ (ne-eqb (c .before .before .before .before .before .before .before .before .args .kind) 3 (c .before .before .before .before .if3 .left)) ∙ pick-no _ _ _ (ne-eqb (c .before .before .before .before .before .before .before .before .args .kind) 4 (c .before .before .before .if4 .left)) ∙ pick-no _ _ _ (ne-eqb (c .before .before .before .before .before .before .before .before .args .kind) 5 (c .before .before .if5 .left)) ∙ pick-yes _ _ _ (eq-eqb (c .before .before .before .before .before .before .before .before .args .kind) 7 (c .before .if6 .taken)))
+returns-6 c = let kind = c .before .before .before .before .before .before .before .before .args .kind in
+    c .group-of .ensures ∙ sym (pick-no _ _ _ (ne-eqb kind 1 (c .before .before .before .before .before .before .if1 .left)) ∙ pick-no _ _ _ (ne-eqb kind 2 (c .before .before .before .before .before .if2 .left)) ∙ pick-no _ _ _ (ne-eqb kind 3 (c .before .before .before .before .if3 .left)) ∙ pick-no _ _ _ (ne-eqb kind 4 (c .before .before .before .if4 .left)) ∙ pick-no _ _ _ (ne-eqb kind 5 (c .before .before .if5 .left)) ∙ pick-yes _ _ _ (eq-eqb kind 7 (c .before .if6 .taken)))
+
+later-of-requires : tie.Need-later-of-requires
+later-of-requires c κs = search needs
 
 returns-7 : tie.Need-returns-7
 unfolding kindOf
-returns-7 c = sym (pick-no _ _ _ (ne-eqb (c .before .before .before .before .before .before .before .args .kind) 1 (c .before .before .before .before .before .if1 .left)) ∙ pick-no _ _ _ (ne-eqb (c .before .before .before .before .before .before .before .args .kind) 2 (c .before .before .before .before .if2 .left)) ∙ pick-no _ _ _ (ne-eqb (c .before .before .before .before .before .before .before .args .kind) 3 (c .before .before .before .if3 .left)) ∙ pick-no _ _ _ (ne-eqb (c .before .before .before .before .before .before .before .args .kind) 4 (c .before .before .if4 .left)) ∙ pick-no _ _ _ (ne-eqb (c .before .before .before .before .before .before .before .args .kind) 5 (c .before .if5 .left)) ∙ pick-no _ _ _ (ne-eqb (c .before .before .before .before .before .before .before .args .kind) 7 (c .if6 .left)))
+returns-7 c = let kind = c .before .before .before .before .before .before .before .before .before .args .kind in
+    c .later-of .ensures ∙ sym (pick-no _ _ _ (ne-eqb kind 1 (c .before .before .before .before .before .before .before .if1 .left)) ∙ pick-no _ _ _ (ne-eqb kind 2 (c .before .before .before .before .before .before .if2 .left)) ∙ pick-no _ _ _ (ne-eqb kind 3 (c .before .before .before .before .before .if3 .left)) ∙ pick-no _ _ _ (ne-eqb kind 4 (c .before .before .before .before .if4 .left)) ∙ pick-no _ _ _ (ne-eqb kind 5 (c .before .before .before .if5 .left)) ∙ pick-no _ _ _ (ne-eqb kind 7 (c .before .before .if6 .left)) ∙ pick-yes _ _ _ (eq-eqb kind 8 (c .before .if7 .taken)))
+
+returns-8 : tie.Need-returns-8
+unfolding kindOf
+returns-8 c = let kind = c .before .before .before .before .before .before .before .before .args .kind in
+    sym (pick-no _ _ _ (ne-eqb kind 1 (c .before .before .before .before .before .before .if1 .left)) ∙ pick-no _ _ _ (ne-eqb kind 2 (c .before .before .before .before .before .if2 .left)) ∙ pick-no _ _ _ (ne-eqb kind 3 (c .before .before .before .before .if3 .left)) ∙ pick-no _ _ _ (ne-eqb kind 4 (c .before .before .before .if4 .left)) ∙ pick-no _ _ _ (ne-eqb kind 5 (c .before .before .if5 .left)) ∙ pick-no _ _ _ (ne-eqb kind 7 (c .before .if6 .left)) ∙ pick-no _ _ _ (ne-eqb kind 8 (c .if7 .left)))
 
 pub kind-of-spec : {M : Type 1} → statement M
 kind-of-spec =
@@ -69,4 +84,6 @@ kind-of-spec =
     returns-5
     group-of-requires
     returns-6
-    returns-7)
+    later-of-requires
+    returns-7
+    returns-8)

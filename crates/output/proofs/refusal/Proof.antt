@@ -27,7 +27,7 @@ raw-requires c κs = search needs
 returns : tie.Need-returns
 unfolding refusalLine
 returns c =
-    let short : length (refusalLine (c .before .before .before .before .before .args .number) (c .before .before .before .before .before .args .line)) ≤ 272 = omega (arith, refusal-length (c .before .before .before .before .before .args .number) (c .before .before .before .before .before .args .line)) in
+    let short : length (refusalLine (c .before .before .before .before .before .args .number) (c .before .before .before .before .before .args .line)) ≤ 344 = omega (arith, refusal-length (c .before .before .before .before .before .args .number) (c .before .before .before .before .before .args .line)) in
     whole (c .before .before .before .before .empty .ensures) (then _ _ _ (then _ _ _ (then _ _ _ (c .before .before .before .byte .ensures) (c .before .before .byte2 .ensures)) (c .before .pair .ensures)) (c .raw .ensures)) short
 
 pub refusal-spec : {M : Type 1} → statement M

@@ -16,10 +16,10 @@ use Rattle.run_output.proofs.of_site.Statement.{statement}
 use Rattle.run_output.proofs.of_site.Tie as tie
 
 abbrev Inv-loop : tie.InvT-loop
-Inv-loop n faulty records t₀ b₀ t b = (b ≤ n) × (held t ≡ siteLines b faulty (stateOf records))
+Inv-loop form n faulty records t₀ b₀ t b = (b ≤ n) × (held t ≡ siteLines form b faulty (stateOf records))
 
 abbrev μ-loop : tie.MeasureT-loop
-μ-loop n faulty records t₀ b₀ t b = n - b
+μ-loop form n faulty records t₀ b₀ t b = n - b
 
 empty-requires : tie.Need-empty-requires Inv-loop μ-loop
 empty-requires c κs = search needs
@@ -52,14 +52,14 @@ loop-less c = omega arith
 loop-again : tie.Need-loop-again Inv-loop μ-loop
 loop-again c = let l = c .before .before .before .before .loop in
     let a = c .before .before .before .before .before .before .args in
-    let e = same-state (a .t3) (l .b) (record { state = Waiting; round = 0; notes = [] }) nothingHeard (sym (shown-state start)) in
-    (omega arith, next-line (l .b) (a .faulty) (stateOf (a .t3)) _ _ _ _ (omega arith) (c .before .member .ensures) e (l .inv .1) (c .with-terminal .ensures))
+    let e = same-state (a .t4) (l .b) (record { state = Waiting; round = 0; notes = [] }) nothingHeard (sym (shown-state start)) in
+    (omega arith, next-line (a .form) (l .b) (a .faulty) (stateOf (a .t4)) _ _ _ _ (omega arith) (c .before .member .ensures) e (l .inv .1) (c .with-terminal .ensures))
 
 returns : tie.Need-returns Inv-loop μ-loop
 returns c = let l = c .before .loop in
     let a = c .before .before .before .args in
     let e : l .b ≡ a .n = omega arith in
-    l .inv .1 ∙ ap (λ (k : ℕ). siteLines k (a .faulty) (stateOf (a .t3))) e
+    l .inv .1 ∙ ap (λ (k : ℕ). siteLines (a .form) k (a .faulty) (stateOf (a .t4))) e
 
 pub of-site-spec : {M : Type 1} → statement M
 of-site-spec =

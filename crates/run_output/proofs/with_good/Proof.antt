@@ -1,6 +1,6 @@
 -- The state's own line. Assumes nothing.
-use borrow.Author.Needs.{needs}
 use Rattle.run_output.specs.Site.{goodLine}
+use borrow.Author.Needs.{needs}
 use Rattle.run_output.proofs.with_good.Statement.{statement}
 use Rattle.run_output.proofs.with_good.Tie as tie
 

@@ -30,7 +30,7 @@ use denote.RattleType.{RattleType, owns}
 use denote.Memory.{cellAt, partAt, partOf, mem as in-mem, shares, pointee}
 use denote.Laws.{Is, shows}
 use denote.Plain.{uint-makes, uint-vals, uint-tells, nothing-lawful}
-use denote.Builtin.{u16, usize, unit}
+use denote.Builtin.{u32, usize, unit}
 use denote.Array.{Array, array-vals, array-tells, array-typed}
 use denote.ArrayMemory.{array-apart, array-whole}
 use denote.Ref.{RefT}
@@ -89,7 +89,7 @@ cval c = LL.val C.the-type C′.the-laws c
 
 -- nothing is had of the parameters at exit: the words' slice too goes to `play_turns` for good
 abbrev stayed : Stays (play-array.ended .signature .params) (play-array.ended .kept)
-stayed = (stay-dropped (plain (λ _. Q)) yes, (stay-dropped (plain (λ _. usize)) yes, (stay-dropped (shrSliceOf (0 ∷ []) tt (plain (λ _. u16))) yes, (stay-dropped (arrayOf (plain (λ _. R)) 20) yes, tt))))
+stayed = (stay-dropped (plain (λ _. Q)) yes, (stay-dropped (plain (λ _. usize)) yes, (stay-dropped (shrSliceOf (0 ∷ []) tt (plain (λ _. u32))) yes, (stay-dropped (arrayOf (plain (λ _. R)) 20) yes, tt))))
 
 module _ {M : Type 1} (𝓤 : URA M) (H : Heap 𝓤) (A : Atoms 𝓤) (W : Given 𝓤 H A) where
   tells : (zs : List Record) (vs : List Val) → Is Rs zs vs → vs ≡ machs zs
@@ -117,13 +117,13 @@ module _ {M : Type 1} (𝓤 : URA M) (H : Heap 𝓤) (A : Atoms 𝓤) (W : Given
 abbrev PlayTurns : {M : Type 1} (𝓤 : URA M) (H : Heap 𝓤) (A : Atoms 𝓤) (mem : Memory → SProp 𝓤) (run : Routine → Fun 𝓤) → Contract 𝓤
 PlayTurns 𝓤 H A mem run = tripleOf 𝓤 H A play-turns.signature (play-turns.spec 𝓤 H A mem run)
 
-module _ {M : Type 1} (𝓤 : URA M) (H : Heap 𝓤) (A : Atoms 𝓤) (W : Given 𝓤 H A) (mem : Memory → SProp 𝓤) (run : Routine → Fun 𝓤) (κ : Lft) (q : Share) (c : Turn) (n : ℕ) (t : RefT (List ℕ)) (xs : List Record) (is-c : Is Q c (cval c ∷ [])) (n-fits : n < 2 ^ 64) (room₁ : Room u16 (length (t .now))) (is-xs : Is Rs xs (machs xs)) (can : CanPlay (t .now) c xs n) where
+module _ {M : Type 1} (𝓤 : URA M) (H : Heap 𝓤) (A : Atoms 𝓤) (W : Given 𝓤 H A) (mem : Memory → SProp 𝓤) (run : Routine → Fun 𝓤) (κ : Lft) (q : Share) (c : Turn) (n : ℕ) (t : RefT (List ℕ)) (xs : List Record) (is-c : Is Q c (cval c ∷ [])) (n-fits : n < 2 ^ 64) (room₁ : Room u32 (length (t .now))) (is-xs : Is Rs xs (machs xs)) (can : CanPlay (t .now) c xs n) where
   -- the words' slice: its machine value, and what it owns
   abbrev v : Val
   v = sliceVal (t .ptr) (length (t .now))
 
   abbrev Own : Fml
-  Own = ShrSlice (named 0) κ u16 .own t (v ∷ [])
+  Own = ShrSlice (named 0) κ u32 .own t (v ∷ [])
 
   abbrev a : Turn × (ℕ × (RefT (List ℕ) × (List Record × Unit {0})))
   a = (c, (n, (t, (xs, tt))))
@@ -175,7 +175,7 @@ module _ {M : Type 1} (𝓤 : URA M) (H : Heap 𝓤) (A : Atoms 𝓤) (W : Given
   module _ (C : Calls 𝓤 H) (Λ : Loops 𝓤 H) (fm : FmC 𝓤 H (W .laws) C) (known : Triple 𝓤 (C #simulation·play-turns) (PlayTurns 𝓤 H A mem run)) where
     goes : ent 𝓤 (onEntry 𝓤 H A play-array.signature (κ, tt) (q, tt) a at) (WpFn 𝓤 H C Λ code.function (cval c ∷ vint w64 n ∷ v ∷ mach xs ∷ []) Post)
     goes =
-        qed W ((‵ (flft κ q) ⊛ ‵ ftrue) ∷ ‵ (owns (Q ∷ usize ∷ ShrSlice (named 0) κ u16 ∷ Rs ∷ []) a at) ∷ []) ∵ enter ! C Λ code.function (cval c ∷ vint w64 n ∷ v ∷ mach xs ∷ []) _ $
+        qed W ((‵ (flft κ q) ⊛ ‵ ftrue) ∷ ‵ (owns (Q ∷ usize ∷ ShrSlice (named 0) κ u32 ∷ Rs ∷ []) a at) ∷ []) ∵ enter ! C Λ code.function (cval c ∷ vint w64 n ∷ v ∷ mach xs ∷ []) _ $
         alloc1 ! (λ l₀. alloc1 ! (λ l₁. alloc1 ! (λ l₂. alloc1 ! (λ l₃. alloc1 ! (λ l₄. alloc1 ! (λ l₅. alloc1 ! (λ l₆. alloc1 ! (λ l₇. alloc1 ! (λ l₈. alloc0 ! $ params1 ! $
         pass1 ! (init ! 14 refl typed-c) $ pass1 ! (init ! 12 refl (tt, record { fits = n-fits })) $ pass1 ! (init ! 10 refl (tt, (tt, (record { fits = room₁ .0 }, tt)))) $ pass1 ! (init ! 8 refl (typed 𝓤 H A W xs is-xs)) $ pass0 ! $
         assigns ! (of-opd ! (load ! (from ! (stop !)) (look ! 8 refl))) (from ! (stop !)) (init ! 6 refl (typed 𝓤 H A W xs is-xs)) $
@@ -210,7 +210,7 @@ module _ {M : Type 1} (𝓤 : URA M) (H : Heap 𝓤) (A : Atoms 𝓤) (W : Given
 module _ {M : Type 1} (𝓤 : URA M) (H : Heap 𝓤) (A : Atoms 𝓤) (W : Given 𝓤 H A) (mem : Memory → SProp 𝓤) (run : Routine → Fun 𝓤) (𝓣 : Tables 𝓤 H) (known : Triple 𝓤 (𝓣 .C #simulation·play-turns) (PlayTurns 𝓤 H A mem run)) where
   play-array-walks : Walks 𝓤 H A play-array.ended stayed (WpFn 𝓤 H (𝓣 .C) (𝓣 .Λ) code.function) (play-array.clauses 𝓤 H A mem run)
   play-array-walks = walked 𝓤 H A play-array.ended stayed (play-array.clauses 𝓤 H A mem run) (WpFn 𝓤 H (𝓣 .C) (𝓣 .Λ) code.function)
-      (λ κs. (LL.vals C.the-type C′.the-laws, (uint-vals w64, (slice-vals, (machs, tt))))) (λ κs. (LL.tells C.the-type C′.the-laws, (uint-tells w64, (shr-slice-tells (named 0) (κs .0) u16, (tells 𝓤 H A W, tt)))))
+      (λ κs. (LL.vals C.the-type C′.the-laws, (uint-vals w64, (slice-vals, (machs, tt))))) (λ κs. (LL.tells C.the-type C′.the-laws, (uint-tells w64, (shr-slice-tells (named 0) (κs .0) u32, (tells 𝓤 H A W, tt)))))
       (λ κs qs bounds a g are. needs 𝓤 (CanPlay (a .1 .1 .0 .now) (a .0) (a .1 .1 .1 .0) (a .1 .0)) _ (λ can.
       goes 𝓤 H A W mem run (κs .0) (qs .0) (a .0) (a .1 .0) (a .1 .1 .0) (a .1 .1 .1 .0) (are .0) (are .1 .0 .1) (are .1 .1 .0 .0 .1) (are .1 .1 .1 .0) can (𝓣 .C) (𝓣 .Λ) (fmOf 𝓤 H (W .laws) 𝓣) known))
 
@@ -220,7 +220,7 @@ module _ {M : Type 1} (𝓤 : URA M) (H : Heap 𝓤) (A : Atoms 𝓤) (W : Given
         goes-dropped 𝓤 H A W 1 (plain (λ _. Q)) yes (λ κs x f. refl),
         (
           goes-dropped 𝓤 H A W 1 (plain (λ _. usize)) yes (λ κs x f. refl),
-          (goes-dropped 𝓤 H A W 1 (shrSliceOf (0 ∷ []) tt (plain (λ _. u16))) yes (λ κs x f. refl), (goes-dropped 𝓤 H A W 1 (arrayOf (plain (λ _. R)) 20) yes (λ κs x f. refl), tt)),
+          (goes-dropped 𝓤 H A W 1 (shrSliceOf (0 ∷ []) tt (plain (λ _. u32))) yes (λ κs x f. refl), (goes-dropped 𝓤 H A W 1 (arrayOf (plain (λ _. R)) 20) yes (λ κs x f. refl), tt)),
         ),
       )
       (play-array.clauses 𝓤 H A mem run) (WpFn 𝓤 H (𝓣 .C) (𝓣 .Λ) code.function) (WpFn-mono 𝓤 H (W .laws) 𝓣 code.function) play-array-walks

@@ -13,7 +13,7 @@ no-note-requires : tie.Need-no-note-requires
 no-note-requires c κs = search needs
 
 returns : tie.Need-returns
-returns c = ap (λ (m : Note). record { state = Taken 0 (c .before .args .value); round = 0; notes = replicate 20 m }) (c .no-note .ensures) ∙ shown-nothing _
+returns c = ap (λ (m : Note). record { state = Taken 0 (c .before .args .notice); round = 0; notes = replicate 20 m }) (c .no-note .ensures) ∙ shown-nothing _
 
 pub source-start-spec : {M : Type 1} → statement M
 source-start-spec = tie.close (tie.spec no-note-requires returns)

@@ -20,9 +20,12 @@ returns-2 : tie.Need-returns-2
 unfolding stateSound _and_
 returns-2 c = simp (c .enum-told .given .1)
 
+silent-requires : tie.Need-silent-requires
+silent-requires c κs = search needs
+
 returns-3 : tie.Need-returns-3
 unfolding stateSound _and_
-returns-3 c = simp (c .before .before .state .given .1, le-leb _ _ (c .if1 .left))
+returns-3 c = simp (c .before .before .before .state .given .1, le-leb _ _ (c .before .if1 .left), c .silent .ensures)
 
 pub state-sound-spec : {M : Type 1} → statement M
-state-sound-spec = tie.close (tie.spec enum-told enum-known-state returns returns-2 returns-3)
+state-sound-spec = tie.close (tie.spec enum-told enum-known-state returns silent-requires returns-2 returns-3)

@@ -1,16 +1,9 @@
 -- `step` meets its contract: no cause of refusal is what `play` requires, and any other outcome has a number that is not 0. Assumes nothing.
-use mathlib.Core.Path.{_≡_, refl, sym, ap, _∙_}
-use mathlib.Core.Bool.{false}
-use mathlib.Core.List.{[], _∷_}
-use lib.Dec.{eqb}
+use mathlib.Core.Path.{_≡_, sym, ap, _∙_}
 use lib.ListN.{length}
-use types.Run.{OneOf, miss}
-use denote.Enum.Declared.{tagOf}
 use borrow.Author.Needs.{needs}
-use Rattle.terminal.specs.declared.Outcome.{Outcome}
-use Rattle.terminal.specs.declared.Outcome.the-variants.{Accepted, WrongRange, WrongLink, WrongGroups, WrongLength, WrongRecord}
 use Rattle.terminal.specs.Answer.{numberOf, causeOf}
-use Rattle.terminal.proofs.Outcome.{the-type}
+use Rattle.terminal.proofs.Refused.{refused}
 use Rattle.terminal.proofs.Walks.{accepted-plays, after-accepted, after-refused}
 use Rattle.terminal.proofs.step.Statement.{statement}
 use Rattle.terminal.proofs.step.Tie as tie
@@ -34,15 +27,6 @@ play-requires c κs =
 
 returns : tie.Need-returns
 returns c = (accepted (c .before), c .play .ensures ∙ after-accepted _ _ _ _ _ _ _ (accepted (c .before)))
-
--- an outcome other than Accepted has a number that is not 0
-refused : (o : Outcome) → OneOf (1 ∷ 2 ∷ 3 ∷ 4 ∷ 5 ∷ []) (tagOf the-type o) → eqb (numberOf o) 0 ≡ false
-refused Accepted h = absurd (miss (1 ∷ 2 ∷ 3 ∷ 4 ∷ 5 ∷ []) 0 tt h)
-refused WrongRange h = refl
-refused WrongLink h = refl
-refused WrongGroups h = refl
-refused WrongLength h = refl
-refused WrongRecord h = refl
 
 returns-2 : tie.Need-returns-2
 returns-2 c =

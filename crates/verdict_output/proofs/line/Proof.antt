@@ -34,7 +34,7 @@ returns : tie.Need-returns
 unfolding verdictLine
 returns c = let a = c .before .before .before .before .before .before .before .args in
     let p = c .before .before .before .before .before .before .before .pre in
-    let short : length (verdictLine (a .failed) (a .f) (a .l) (a .r)) ≤ 272 = omega (arith, verdict-length (a .failed) (a .f) (a .l) (a .r)) in
+    let short : length (verdictLine (a .failed) (a .f) (a .l) (a .r)) ≤ 344 = omega (arith, verdict-length (a .failed) (a .f) (a .l) (a .r)) in
     let head = then _ _ _ (c .before .before .before .before .before .byte .ensures) (c .before .before .before .before .byte2 .ensures) in
     let sets = then _ _ _ (then _ _ _ (then _ _ _ head (low _ (a .f) (p .0) (c .before .before .before .triple .ensures))) (low _ (a .l) (p .1) (c .before .before .triple2 .ensures))) (low _ (a .r) (p .2) (c .before .triple3 .ensures)) in
     whole (c .before .before .before .before .before .before .empty .ensures) (then _ _ _ sets (c .raw .ensures)) short

@@ -1,6 +1,7 @@
 //! The bytes of recorded calls, read back.
 
 use second::groups::{Bound, Sort};
+use second::notice::Notice;
 use second::plan::{set_of, Plan};
 use second::step::{Record, Row, State};
 
@@ -38,7 +39,7 @@ impl Bytes<'_> {
     }
 
     pub fn row(&mut self) -> Row {
-        let mut row = Row::default();
+        let mut row = Row::of(self.pair(), &[]);
         row.count = u32::from(self.byte());
         let places = u32::from(self.byte());
         assert!(places <= 40);
@@ -47,11 +48,16 @@ impl Bytes<'_> {
         row
     }
 
+    /// Notices, after how many they are in two bytes.
+    pub fn later(&mut self) -> Vec<u32> {
+        (0..self.pair()).map(|_| self.quad()).collect()
+    }
+
     pub fn record(&mut self) -> Record {
-        let (state, at, value) = (self.byte(), u32::from(self.byte()), self.pair());
-        assert!(state == 1 || (state, at, value) == (0, 0, 0));
+        let (state, at, held) = (self.byte(), u32::from(self.byte()), self.quad());
+        assert!(state == 1 || (state, at, held) == (0, 0, 0));
         Record {
-            state: [State::Waiting, State::Taken(at, value)][usize::from(state)],
+            state: [State::Waiting, State::Taken(at, Notice::of(held))][usize::from(state)],
             round: u32::from(self.byte()),
             notes: (0..20).map(|_| self.row()).collect(),
             ..Record::waiting()

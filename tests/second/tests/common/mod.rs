@@ -4,6 +4,22 @@
 
 pub mod bytes;
 
+use second::notice::{notice, Notice, OLD_EDITION};
+
+/// A layout in the edition that old runs count as.
+pub const fn first(layout: u16) -> Notice {
+    notice(OLD_EDITION, layout)
+}
+
+/// The same of a list, in which 0 stays silence.
+pub fn firsts(layouts: &[u16]) -> Vec<u32> {
+    let number = |&layout: &u16| match layout {
+        0 => 0,
+        _ => first(layout).number(),
+    };
+    layouts.iter().map(number).collect()
+}
+
 pub fn file(words: &str) -> Vec<u8> {
     words
         .split_whitespace()

@@ -1,8 +1,8 @@
 -- Each variant is the definition's case. Assumes nothing.
 use mathlib.Core.Path.{sym, ap, _∙_}
 use mathlib.Core.Bool.{not}
-use Rattle.frames.specs.Reading.{endsLinks}
 use borrow.Author.Needs.{needs}
+use Rattle.frames.specs.Reading.{endsLinks}
 use Rattle.frames.proofs.ends.ends_links.Statement.{statement}
 use Rattle.frames.proofs.ends.ends_links.Tie as tie
 
@@ -32,6 +32,9 @@ enum-told-7 c = search needs
 
 enum-told-8 : tie.Need-enum-told-8
 enum-told-8 c = search needs
+
+enum-told-9 : tie.Need-enum-told-9
+enum-told-9 c = search needs
 
 returns : tie.Need-returns
 unfolding endsLinks
@@ -65,6 +68,10 @@ returns-8 : tie.Need-returns-8
 unfolding endsLinks
 returns-8 c = sym (ap (endsLinks (c .before .before .args .kind)) (c .enum-told8 .given .1))
 
+returns-9 : tie.Need-returns-9
+unfolding endsLinks
+returns-9 c = sym (ap (endsLinks (c .before .before .args .kind)) (c .enum-told9 .given .1))
+
 pub ends-links-spec : {M : Type 1} → statement M
 ends-links-spec =
     tie.close
@@ -78,6 +85,7 @@ ends-links-spec =
     enum-told-6
     enum-told-7
     enum-told-8
+    enum-told-9
     returns
     returns-2
     returns-3
@@ -85,4 +93,5 @@ ends-links-spec =
     returns-5
     returns-6
     returns-7
-    returns-8)
+    returns-8
+    returns-9)

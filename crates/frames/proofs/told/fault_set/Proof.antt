@@ -1,11 +1,11 @@
 -- Each return is the definition's case by the tests that led there. Assumes nothing.
-use mathlib.Core.Path.{refl, sym, _∙_}
+use mathlib.Core.Path.{sym, _∙_}
 use native.Mathlib.Omega.{arith}
+use borrow.Author.Needs.{needs}
 use Rattle.sets.proofs.Bools.{not-i}
 use Rattle.sets.proofs.Causes.{cause-here}
 use Rattle.frames.specs.Reading.{faultSetCause, after}
 use Rattle.frames.proofs.TellLaws.{fault-set-at}
-use borrow.Author.Needs.{needs}
 use Rattle.frames.proofs.told.fault_set.Statement.{statement}
 use Rattle.frames.proofs.told.fault_set.Tie as tie
 
@@ -21,9 +21,12 @@ number-requires c κs = search needs
 returns : tie.Need-returns
 returns c = (c .before .number .ensures ∙ c .before .before .check-fault-set .ensures ∙ sym (fault-set-at _ _ (sym (c .before .before .before .before .in-plan .ensures) ∙ c .before .before .before .if1 .taken)), λ z. absurd (c .if2 .taken z))
 
+planned-requires : tie.Need-planned-requires
+planned-requires c κs = search needs
+
 returns-2 : tie.Need-returns-2
 unfolding after
-returns-2 c = (sym (c .if2 .left) ∙ c .before .number .ensures ∙ c .before .before .check-fault-set .ensures ∙ sym (fault-set-at _ _ (sym (c .before .before .before .before .in-plan .ensures) ∙ c .before .before .before .if1 .taken)), λ z. refl)
+returns-2 c = (sym (c .before .if2 .left) ∙ c .before .before .number .ensures ∙ c .before .before .before .check-fault-set .ensures ∙ sym (fault-set-at _ _ (sym (c .before .before .before .before .before .in-plan .ensures) ∙ c .before .before .before .before .if1 .taken)), λ z. c .planned .ensures)
 
 returns-3 : tie.Need-returns-3
 unfolding faultSetCause
@@ -37,5 +40,6 @@ fault-set-spec =
     check-fault-set-requires
     number-requires
     returns
+    planned-requires
     returns-2
     returns-3)

@@ -1,9 +1,8 @@
 -- The cause decides; an accepted link is added. Assumes nothing.
 use mathlib.Core.Path.{sym, _∙_}
-use Rattle.frames.specs.Reading.{after}
-use Rattle.frames.proofs.TellLaws.{link-end}
 use native.Mathlib.Omega.{arith}
 use borrow.Author.Needs.{needs}
+use Rattle.frames.proofs.TellLaws.{link-end, link-next}
 use Rattle.frames.proofs.told.link.Statement.{statement}
 use Rattle.frames.proofs.told.link.Tie as tie
 
@@ -16,9 +15,12 @@ returns c = (c .before .link-cause .ensures, λ z. absurd (c .if1 .taken z))
 with-link-requires : tie.Need-with-link-requires
 with-link-requires c κs = let l = link-end _ _ _ (sym (c .before .link-cause .ensures) ∙ c .if1 .left) in let n = c .before .before .before .pre in omega arith
 
+planned-requires : tie.Need-planned-requires
+planned-requires c κs = search needs
+
 returns-2 : tie.Need-returns-2
-unfolding after
-returns-2 c = (sym (c .before .if1 .left) ∙ c .before .before .link-cause .ensures, λ z. simp (c .with-link .ensures))
+returns-2 c = (sym (c .before .before .if1 .left) ∙ c .before .before .before .link-cause .ensures, λ z. c .planned .ensures ∙ link-next _ _ _ _ (c .before .with-link .ensures))
 
 pub link-spec : {M : Type 1} → statement M
-link-spec = tie.close (tie.spec link-cause-requires returns with-link-requires returns-2)
+link-spec =
+    tie.close (tie.spec link-cause-requires returns with-link-requires planned-requires returns-2)

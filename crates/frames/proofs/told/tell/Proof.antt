@@ -1,9 +1,9 @@
 -- Each arm is the definition's case of the frame's variant. Assumes nothing.
 use mathlib.Core.Path.{refl}
 use native.Mathlib.Omega.{arith}
-use Rattle.frames.specs.Reading.{causeIn, wordsAfter, after}
-use Rattle.frames.proofs.TellLaws.{told-by, either}
 use borrow.Author.Needs.{needs}
+use Rattle.frames.specs.Reading.{causeIn, saidAfter, after}
+use Rattle.frames.proofs.TellLaws.{told-by, either, changed-words, changed-later}
 use Rattle.frames.proofs.told.tell.Statement.{statement}
 use Rattle.frames.proofs.told.tell.Tie as tie
 
@@ -52,6 +52,12 @@ start-requires c κs = search needs
 enum-known-frame-6 : tie.Need-enum-known-frame-6
 enum-known-frame-6 c = search needs
 
+later-notice-requires : tie.Need-later-notice-requires
+later-notice-requires c κs = search needs
+
+enum-known-frame-7 : tie.Need-enum-known-frame-7
+enum-known-frame-7 c = search needs
+
 cast-message : tie.Need-cast-message
 cast-message c = search needs
 
@@ -61,40 +67,50 @@ cast-message-2 c = search needs
 message-requires : tie.Need-message-requires
 message-requires c κs = search needs
 
+spoken-requires : tie.Need-spoken-requires
+spoken-requires c κs = search needs
+
 returns : tie.Need-returns
-unfolding causeIn wordsAfter
+unfolding causeIn saidAfter
 returns c = told-by _ _ _ _ _ _ (c .enum-told .given .1) refl (λ z. absurd (omega arith)) (either _ _)
 
 returns-2 : tie.Need-returns-2
-unfolding causeIn wordsAfter
+unfolding causeIn saidAfter
 returns-2 c = told-by _ _ _ _ _ _ (c .enum-told2 .given .1) refl (λ z. absurd (omega arith)) (either _ _)
 
 returns-3 : tie.Need-returns-3
-unfolding causeIn wordsAfter
+unfolding causeIn saidAfter
 returns-3 c = told-by _ _ _ _ _ _ (c .before .before .frame .given .1) (c .head .ensures .0) (c .head .ensures .1) (either _ _)
 
 returns-4 : tie.Need-returns-4
-unfolding causeIn wordsAfter
+unfolding causeIn saidAfter
 returns-4 c = told-by _ _ _ _ _ _ (c .before .before .frame2 .given .1) (c .link .ensures .0) (c .link .ensures .1) (either _ _)
 
 returns-5 : tie.Need-returns-5
-unfolding causeIn wordsAfter
+unfolding causeIn saidAfter
 returns-5 c = told-by _ _ _ _ _ _ (c .before .before .frame3 .given .1) (c .group .ensures .0) (c .group .ensures .1) (either _ _)
 
 returns-6 : tie.Need-returns-6
-unfolding causeIn wordsAfter
+unfolding causeIn saidAfter
 returns-6 c = told-by _ _ _ _ _ _ (c .before .before .frame4 .given .1) (c .fault-set .ensures .0) (c .fault-set .ensures .1) (either _ _)
 
 returns-7 : tie.Need-returns-7
-unfolding causeIn wordsAfter
+unfolding causeIn saidAfter
 returns-7 c = told-by _ _ _ _ _ _ (c .before .before .frame5 .given .1) (c .start .ensures .0) (c .start .ensures .1) (either _ _)
 
 same-length : tie.Need-same-length
 same-length c = search needs
 
 returns-8 : tie.Need-returns-8
-unfolding causeIn wordsAfter after
-returns-8 c = told-by _ _ _ _ _ _ (c .before .before .before .before .before .frame6 .given .1) (c .before .before .message .ensures .0) (λ z. refl) (c .before .before .message .ensures .1)
+unfolding causeIn saidAfter
+returns-8 c = told-by _ _ _ _ _ _ (c .before .before .before .before .before .frame6 .given .1) (c .before .before .later-notice .ensures .0) (c .before .before .later-notice .ensures .1) (changed-later _ _ _ _ _ (c .before .before .later-notice .ensures .2))
+
+same-length-2 : tie.Need-same-length-2
+same-length-2 c = search needs
+
+returns-9 : tie.Need-returns-9
+unfolding causeIn saidAfter after
+returns-9 c = told-by _ _ _ _ _ _ (c .before .before .before .before .before .before .frame7 .given .1) (c .before .before .before .message .ensures .0) (λ z. c .spoken .ensures) (changed-words _ _ _ _ _ (c .before .before .before .message .ensures .1))
 
 pub tell-spec : {M : Type 1} → statement M
 tell-spec =
@@ -115,9 +131,12 @@ tell-spec =
     enum-known-frame-5
     start-requires
     enum-known-frame-6
+    later-notice-requires
+    enum-known-frame-7
     cast-message
     cast-message-2
     message-requires
+    spoken-requires
     returns
     returns-2
     returns-3
@@ -126,4 +145,6 @@ tell-spec =
     returns-6
     returns-7
     same-length
-    returns-8)
+    returns-8
+    same-length-2
+    returns-9)

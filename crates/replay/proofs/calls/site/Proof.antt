@@ -1,4 +1,4 @@
--- The part that is lent has as many places as it was lent for. Assumes nothing.
+-- The parts that are lent have as many places as they were lent for. Assumes nothing.
 use mathlib.Core.Path.{sym}
 use lib.Seq.{length-take-le}
 use borrow.Author.Needs.{needs}
@@ -8,20 +8,47 @@ use Rattle.replay.proofs.calls.site.Tie as tie
 plan-requires : tie.Need-plan-requires
 plan-requires c κs = search needs
 
-add-pairs : tie.Need-add-pairs
-add-pairs c = search needs
+add-issues : tie.Need-add-issues
+add-issues c = search needs
 
-slice-aggregate-pairs : tie.Need-slice-aggregate-pairs
-slice-aggregate-pairs c = search needs
+issues-requires : tie.Need-issues-requires
+issues-requires c κs = search needs
 
-pairs-requires : tie.Need-pairs-requires
-pairs-requires c κs = search needs
+add-quads : tie.Need-add-quads
+add-quads c = search needs
+
+slice-aggregate-quads : tie.Need-slice-aggregate-quads
+slice-aggregate-quads c = search needs
+
+quads-requires : tie.Need-quads-requires
+quads-requires c κs = search needs
+
+add-quads-2 : tie.Need-add-quads-2
+add-quads-2 c = search needs
+
+mul-quads : tie.Need-mul-quads
+mul-quads c = search needs
+
+add-quads-3 : tie.Need-add-quads-3
+add-quads-3 c = search needs
+
+slice-aggregate-quads-2 : tie.Need-slice-aggregate-quads-2
+slice-aggregate-quads-2 c = search needs
+
+quads-requires-2 : tie.Need-quads-requires-2
+quads-requires-2 c κs = search needs
+
+array-share-prefix-later : tie.Need-array-share-prefix-later
+array-share-prefix-later c = search needs
+
+slice-aggregate-site-on : tie.Need-slice-aggregate-site-on
+slice-aggregate-site-on c = sym (length-take-le _ _ (search needs))
 
 array-share-prefix-words : tie.Need-array-share-prefix-words
 array-share-prefix-words c = search needs
 
-slice-aggregate-site-on : tie.Need-slice-aggregate-site-on
-slice-aggregate-site-on c = sym (length-take-le _ _ (search needs))
+slice-aggregate-site-on-2 : tie.Need-slice-aggregate-site-on-2
+slice-aggregate-site-on-2 c = sym (length-take-le _ _ (search needs))
 
 site-on-requires : tie.Need-site-on-requires
 site-on-requires c κs = search needs
@@ -40,11 +67,20 @@ site-spec =
     tie.close
     (tie.spec
     plan-requires
-    add-pairs
-    slice-aggregate-pairs
-    pairs-requires
-    array-share-prefix-words
+    add-issues
+    issues-requires
+    add-quads
+    slice-aggregate-quads
+    quads-requires
+    add-quads-2
+    mul-quads
+    add-quads-3
+    slice-aggregate-quads-2
+    quads-requires-2
+    array-share-prefix-later
     slice-aggregate-site-on
+    array-share-prefix-words
+    slice-aggregate-site-on-2
     site-on-requires
     same-length
     returns

@@ -14,11 +14,11 @@ add-record c = search needs
 record-requires : tie.Need-record-requires
 record-requires c κs = search needs
 
-slice-aggregate-pairs : tie.Need-slice-aggregate-pairs
-slice-aggregate-pairs c = search needs
+slice-aggregate-quads : tie.Need-slice-aggregate-quads
+slice-aggregate-quads c = search needs
 
-pairs-requires : tie.Need-pairs-requires
-pairs-requires c κs = search needs
+quads-requires : tie.Need-quads-requires
+quads-requires c κs = search needs
 
 array-share-prefix-words : tie.Need-array-share-prefix-words
 array-share-prefix-words c = search needs
@@ -45,8 +45,8 @@ step-spec =
     bound-requires
     add-record
     record-requires
-    slice-aggregate-pairs
-    pairs-requires
+    slice-aggregate-quads
+    quads-requires
     array-share-prefix-words
     slice-aggregate-step-on
     step-on-requires

@@ -1,4 +1,4 @@
--- Fills the notes place by place; each takes at most 82 bytes of the call. Assumes nothing.
+-- Fills the notes place by place; each takes at most 84 bytes of the call. Assumes nothing.
 use Prim.Native.Nat.{_+_, _*_, _-_, _≤_}
 use mathlib.Core.Path.{_≡_}
 use lib.ListN.{length}
@@ -7,7 +7,7 @@ use Rattle.replay.proofs.said.record.Statement.{statement}
 use Rattle.replay.proofs.said.record.Tie as tie
 
 abbrev Inv-loop : tie.InvT-loop
-Inv-loop body i notes₀ at₀ j₀ notes at j = (j ≤ 20) × (length notes ≡ 20) × (at ≤ i + 5 + 82 * j)
+Inv-loop body i notes₀ at₀ j₀ notes at j = (j ≤ 20) × (length notes ≡ 20) × (at ≤ i + 7 + 84 * j)
 
 abbrev μ-loop : tie.MeasureT-loop
 μ-loop body i notes₀ at₀ j₀ notes at j = 20 - j

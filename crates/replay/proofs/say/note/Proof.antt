@@ -7,13 +7,16 @@ use Rattle.replay.proofs.say.note.Statement.{statement}
 use Rattle.replay.proofs.say.note.Tie as tie
 
 abbrev Inv-loop : tie.InvT-loop
-Inv-loop line₀ at values places one k₀ i₀ line k i = (i ≤ places) × (length line ≡ length line₀)
+Inv-loop line₀ at values places one two k₀ i₀ line k i = (i ≤ places) × (length line ≡ length line₀)
 
 abbrev μ-loop : tie.MeasureT-loop
-μ-loop line₀ at values places one k₀ i₀ line k i = places - i
+μ-loop line₀ at values places one two k₀ i₀ line k i = places - i
 
 listed-requires : tie.Need-listed-requires Inv-loop μ-loop
 listed-requires c κs = search needs
+
+pair-requires : tie.Need-pair-requires Inv-loop μ-loop
+pair-requires c κs = search needs
 
 byte-requires : tie.Need-byte-requires Inv-loop μ-loop
 byte-requires c κs = search needs
@@ -33,8 +36,8 @@ mul-pair c = search needs
 array-read-pair : tie.Need-array-read-pair Inv-loop μ-loop
 array-read-pair c = search needs
 
-pair-requires : tie.Need-pair-requires Inv-loop μ-loop
-pair-requires c κs = search needs
+pair-requires-2 : tie.Need-pair-requires-2 Inv-loop μ-loop
+pair-requires-2 c κs = search needs
 
 add-i : tie.Need-add-i Inv-loop μ-loop
 add-i c = search needs
@@ -58,13 +61,14 @@ note-spec =
     Inv-loop
     μ-loop
     listed-requires
+    pair-requires
     byte-requires
     cast-byte
     byte-requires-2
     loop-holds
     mul-pair
     array-read-pair
-    pair-requires
+    pair-requires-2
     add-i
     loop-less
     loop-again

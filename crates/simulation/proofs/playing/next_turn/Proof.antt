@@ -16,15 +16,15 @@ array-write-next c = search needs
 add-if1 : tie.Need-add-if1
 add-if1 c = search needs
 
-add-t11 : tie.Need-add-t11
-add-t11 c = search needs
+add-t12 : tie.Need-add-t12
+add-t12 c = search needs
 
 returns : tie.Need-returns
 unfolding nextTurn
 returns c = sym (pick-yes _ _ _ (lt-ltb _ _ (c .if1 .taken)))
 
-add-t13 : tie.Need-add-t13
-add-t13 c = search needs
+add-t14 : tie.Need-add-t14
+add-t14 c = search needs
 
 returns-2 : tie.Need-returns-2
 unfolding nextTurn
@@ -32,4 +32,4 @@ returns-2 c = sym (pick-no _ _ _ (le-ltb _ _ (c .before .if1 .left)))
 
 pub next-turn-spec : {M : Type 1} → statement M
 next-turn-spec =
-    tie.close (tie.spec mul-next array-write-next add-if1 add-t11 returns add-t13 returns-2)
+    tie.close (tie.spec mul-next array-write-next add-if1 add-t12 returns add-t14 returns-2)

@@ -8,7 +8,7 @@ use lib.Seq.{length-take-le}
 use Rattle.sets.proofs.Bools.{pick-yes, pick-no}
 use Rattle.terminal.specs.Answer.{recordAfter}
 use Rattle.plan.specs.Plan.{heardBy}
-use Rattle.simulation.specs.Turns.{recordOf}
+use Rattle.simulation.specs.Turns.{issuedIn, recordOf}
 use Rattle.sets.proofs.Tables.{table-length}
 use native.Mathlib.Omega.{arith}
 use borrow.Author.Needs.{needs}
@@ -51,10 +51,17 @@ slice-aggregate-step c = let e : length (c .before .heard .result) ≡ 20 = ap l
 step-requires : tie.Need-step-requires
 step-requires c κs = search needs
 
+issued-requires : tie.Need-issued-requires
+issued-requires c κs = (omega arith, c .before .before .before .before .before .before .before .before .before .before .before .pre .2)
+
 returns-3 : tie.Need-returns-3
 unfolding recordOf heardBy
-returns-3 c = c .before .step .ensures .1
-    ∙ ap (λ (l : List ℕ). recordAfter (c .before .before .before .before .before .before .before .before .before .before .before .before .args .t .plan .n) (c .before .before .before .before .before .before .before .before .before .before .before .before .args .t .plan .source) (c .before .before .before .before .before .before .before .before .before .before .before .before .args .t .plan .bound) (c .before .before .before .before .before .before .before .before .before .before .before .before .args .t .at) (heardBy (c .before .before .before .before .before .before .before .before .before .before .before .before .args .t .plan) (c .before .before .before .before .before .before .before .before .before .before .before .before .args .t .at)) (c .before .before .before .before .before .before .before .before .before .before .before .before .args .before) (take (c .before .before .before .before .before .before .before .before .before .before .before .before .args .t .plan .n) l)) (c .before .before .before .heard .ensures)
+returns-3 c =
+    let a = c .before .before .before .before .before .before .before .before .before .before .before .before .args in
+    c .issued .ensures
+    ∙ ap (issuedIn (a .t))
+    (c .before .step .ensures .1
+    ∙ ap (λ (l : List ℕ). recordAfter (a .t .plan .n) (a .t .plan .source) (a .t .plan .bound) (a .t .at) (heardBy (a .t .plan) (a .t .at)) (a .before) (take (a .t .plan .n) l)) (c .before .before .before .heard .ensures))
     ∙ sym (pick-no _ _ _ (ne-eqb _ _ (c .before .before .before .before .before .before .if1 .left)) ∙ pick-no _ _ _ (sym (c .before .before .before .before .before .member .ensures) ∙ c .before .before .before .before .if2 .left))
 
 pub record-of-spec : {M : Type 1} → statement M
@@ -72,4 +79,5 @@ record-of-spec =
     array-share-prefix-said
     slice-aggregate-step
     step-requires
+    issued-requires
     returns-3)

@@ -6,10 +6,10 @@ use Prim.Native.Nat.{_≤_, _<_, _-_}
 use mathlib.Core.Path.{_≡_, sym, ap, _∙_}
 use mathlib.Core.Bool.{Bool}
 use native.Mathlib.Omega.{arith}
-use lib.ListN.{getD}
+use lib.ListN.{length, getD}
 use Rattle.terminal.specs.declared.Note.{Note}
 use Rattle.terminal.specs.Rule.{isNew}
-use Rattle.terminal.specs.Shown.{noteOf, valuesIn}
+use Rattle.terminal.specs.Shown.{noteOf, spokenIn}
 use Rattle.terminal.proofs.Noting.{NotedBelow, noting-starts, noting-new, noting-old, noting-ends}
 use borrow.Author.Needs.{needs}
 use Rattle.terminal.proofs.Record.note.Statement.{statement}
@@ -49,15 +49,16 @@ is-new-requires c κs =
     let l : noteOf (a .t1 .notes) (turn .j) .count < 40 = c .before .before .before .before .before .before .pre .3 (turn .j) (sym (c .member .ensures) ∙ e) in
     omega arith
 
-with-requires : tie.Need-with-requires Inv-loop μ-loop
-with-requires c κs =
+noted-requires : tie.Need-noted-requires Inv-loop μ-loop
+noted-requires c κs =
     let a = c .before .before .before .before .before .before .before .before .args in
+    let p = c .before .before .before .before .before .before .before .before .pre in
     let turn = c .before .before .before .before .before .before .loop in
-    let h = new-heard (c .before .before .member .result) (valuesIn (noteOf (turn .self .notes) (turn .j))) _ (sym (c .before .is-new .ensures) ∙ c .if1 .taken) in
-    let q : noteOf (turn .self .notes) (turn .j) .count ≡ noteOf (a .t1 .notes) (turn .j) .count =
-    ap (λ (m : Note). m .count) (turn .inv .1 .rest (turn .j) (le-refl (turn .j))) in
-    let l : noteOf (a .t1 .notes) (turn .j) .count < 40 = c .before .before .before .before .before .before .before .before .pre .3 (turn .j) (sym (c .before .before .member .ensures) ∙ h) in
-    omega arith
+    let h = new-heard (c .before .before .member .result) (spokenIn (noteOf (turn .self .notes) (turn .j))) _ (sym (c .before .is-new .ensures) ∙ c .if1 .taken) in
+    let e : noteOf (turn .self .notes) (turn .j) ≡ noteOf (a .t1 .notes) (turn .j) = turn .inv .1 .rest (turn .j) (le-refl (turn .j)) in
+    let l : noteOf (a .t1 .notes) (turn .j) .count < 40 = p .3 (turn .j) (sym (c .before .before .member .ensures) ∙ h) in
+    let n20 = p .0 in
+    (omega (arith, ap (λ (m : Note). m .count) e), ap (λ (m : Note). length (m .values)) e ∙ p .2 .forty (turn .j) (omega arith))
 
 mul-t18 : tie.Need-mul-t18 Inv-loop μ-loop
 mul-t18 c = search needs
@@ -75,10 +76,10 @@ loop-again : tie.Need-loop-again Inv-loop μ-loop
 loop-again c =
     let l = c .before .before .before .before .before .before .before .loop in (
       omega arith,
-      noting-new _ _ _ (l .j) (l .self) (l .inv .1) (omega arith) (c .with .result)
-          (ap (λ (b : Bool). isNew b (valuesIn (noteOf (l .self .notes) (l .j))) (getD (c .before .before .before .before .before .before .before .before .before .args .said .now) (l .j) 0)) (sym (c .before .before .before .member .ensures))
+      noting-new _ _ _ (l .j) (l .self) (l .inv .1) (omega arith) (c .noted .result)
+          (ap (λ (b : Bool). isNew b (spokenIn (noteOf (l .self .notes) (l .j))) (getD (c .before .before .before .before .before .before .before .before .before .args .said .now) (l .j) 0)) (sym (c .before .before .before .member .ensures))
           ∙ sym (c .before .before .is-new .ensures) ∙ c .before .if1 .taken)
-          (c .with .ensures),
+          (c .noted .ensures),
     )
 
 add-j-2 : tie.Need-add-j-2 Inv-loop μ-loop
@@ -92,7 +93,7 @@ loop-again-2 c =
     let l = c .before .before .before .before .before .before .loop in (
       omega arith,
       noting-old _ _ _ (l .j) (l .self) (l .inv .1) (omega arith)
-          (ap (λ (b : Bool). isNew b (valuesIn (noteOf (l .self .notes) (l .j))) (getD (c .before .before .before .before .before .before .before .before .args .said .now) (l .j) 0)) (sym (c .before .before .member .ensures))
+          (ap (λ (b : Bool). isNew b (spokenIn (noteOf (l .self .notes) (l .j))) (getD (c .before .before .before .before .before .before .before .before .args .said .now) (l .j) 0)) (sym (c .before .before .member .ensures))
           ∙ sym (c .before .is-new .ensures) ∙ c .if1 .left),
     )
 
@@ -117,7 +118,7 @@ note-spec =
     element-copy-out-note
     member-requires
     is-new-requires
-    with-requires
+    noted-requires
     mul-t18
     element-set-from-self
     add-j

@@ -10,13 +10,13 @@ use Rattle.text.proofs.Text.count.Tie as tie
 returns : tie.Need-returns
 unfolding held
 returns c = let t = c .before .before .args .self in
-    let e : length (t .bytes) ≡ 272 = search needs in
+    let e : length (t .bytes) ≡ 344 = search needs in
     omega (arith, length-take (t .len) (t .bytes))
 
 returns-2 : tie.Need-returns-2
 unfolding held
 returns-2 c = let t = c .before .before .args .self in
-    let e : length (t .bytes) ≡ 272 = search needs in
+    let e : length (t .bytes) ≡ 344 = search needs in
     omega (arith, length-take (t .len) (t .bytes))
 
 pub count-spec : {M : Type 1} → statement M

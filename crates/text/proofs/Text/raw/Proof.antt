@@ -15,11 +15,11 @@ add-self c = search needs
 
 returns : tie.Need-returns
 unfolding held
-returns c = let e : length (c .before .args .t1 .bytes) ≡ 272 = search needs in grown _ _ _ e (c .if1 .taken)
+returns c = let e : length (c .before .args .t1 .bytes) ≡ 344 = search needs in grown _ _ _ e (c .if1 .taken)
 
 returns-2 : tie.Need-returns-2
 unfolding held
-returns-2 c = let e : length (c .before .args .t1 .bytes) ≡ 272 = search needs in full _ _ _ e (c .if1 .left)
+returns-2 c = let e : length (c .before .args .t1 .bytes) ≡ 344 = search needs in full _ _ _ e (c .if1 .left)
 
 pub raw-spec : {M : Type 1} → statement M
 raw-spec = tie.close (tie.spec element-write-self add-self returns returns-2)
