@@ -2,7 +2,7 @@
 
 mod common;
 
-use common::{first, firsts};
+use common::{first, firsts, set};
 use second::drawings::DRAWINGS;
 use second::faults::Fault;
 use second::grouping::group_up;
@@ -15,10 +15,6 @@ use second::run::{run, Order};
 use second::step::{Record, Row, State};
 use second::verdict::{verdict, witness_check};
 use std::collections::BTreeSet;
-
-fn set(members: &[u32]) -> Set {
-    members.iter().copied().collect()
-}
 
 /// Site E, bad set {1}.
 struct Given {

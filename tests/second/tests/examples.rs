@@ -2,11 +2,11 @@
 
 mod common;
 
-use common::{archive, refused, run, verdict};
+use common::{archive, refused, run, set, verdict};
 use second::drawings::{Outcome, DRAWINGS};
 use second::faults::Fault;
 use second::output::{plan_text, verdict_line};
-use second::plan::{Cause, Set};
+use second::plan::Cause;
 use second::verdict::{verdict as verdict_of, witness_check, Verdict};
 
 const SITE: &str = "01040001 020001 020002 020103 020203";
@@ -55,10 +55,6 @@ fn liars_that_agree_one_round_apart() {
     assert_eq!(four(""), "820400000000");
     assert_eq!(four("050301040007"), "820400000000");
     assert_eq!(four("050301040007 050402040007"), "820401040007");
-}
-
-fn set(members: &[u32]) -> Set {
-    members.iter().copied().collect()
 }
 
 #[test]

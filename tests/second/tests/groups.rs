@@ -4,7 +4,8 @@
 mod common;
 
 use common::{
-    archive, archive_bytes, file, first, firsts, refused, run, run_bytes, verdict, verdict_bytes,
+    archive, archive_bytes, file, first, firsts, refused, run, run_bytes, set, verdict,
+    verdict_bytes,
 };
 use second::faults::Fault;
 use second::groups::Bound;
@@ -14,10 +15,6 @@ use second::reader::{read_archive, read_plan, read_run};
 use second::run::{run as play, Order};
 use second::step::{step, Place, Record, Row, State};
 use second::verdict::{fault_cause, is_bad_set, verdict as judge, witness_check, Verdict};
-
-fn set(members: &[u32]) -> Set {
-    members.iter().copied().collect()
-}
 
 fn groups(groups: &[&[u32]]) -> Bound {
     Bound::groups(&groups.iter().map(|group| set(group)).collect::<Vec<Set>>())

@@ -3,7 +3,7 @@
 mod common;
 
 use common::bytes::Bytes;
-use common::first;
+use common::{first, set};
 use second::drawings::DRAWINGS;
 use second::faults::Fault;
 use second::notice::{notice, Notice};
@@ -14,10 +14,6 @@ use second::step::{Record, State};
 use second::verdict::verdict;
 
 const WAITS: State = State::Waiting;
-
-fn set(members: &[u32]) -> Set {
-    members.iter().copied().collect()
-}
 
 /// Drawing C (0>1 1>2) with nobody bad; what each terminal holds after so many rounds.
 fn states(rounds: u32, later: &[(u32, Notice)]) -> Vec<State> {

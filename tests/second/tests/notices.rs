@@ -4,32 +4,15 @@
 mod common;
 
 use common::bytes::Bytes;
+use common::{place, set, WAITS};
 use second::faults::Fault;
-use second::groups::Bound;
 use second::notice::{notice, Notice};
-use second::plan::{Cause, Set};
+use second::plan::Cause;
 use second::record;
 use second::run::issue;
 use second::step::{step, Place, Record, Row, State};
 use second::steps::{step_case, StepCase};
 use std::collections::{BTreeMap, BTreeSet};
-
-fn set(members: &[u32]) -> Set {
-    members.iter().copied().collect()
-}
-
-/// Terminal 3 of 5 with f = 1; it hears 0, the source, and 1, 2 and 4.
-fn place() -> Place {
-    Place {
-        n: 5,
-        source: 0,
-        bound: Bound::f(1),
-        number: 3,
-        heard: set(&[0, 1, 2, 4]),
-    }
-}
-
-const WAITS: State = State::Waiting;
 
 /// A terminal's number, the edition that it said last, and the layouts in it.
 type Noted = (u32, u16, &'static [u16]);

@@ -2,28 +2,10 @@
 
 mod common;
 
-use common::{first, firsts};
+use common::{first, firsts, place, set, WAITS};
 use second::faults::Fault;
 use second::groups::Bound;
-use second::plan::Set;
 use second::step::{step, Place, Record, Row, State};
-
-fn set(members: &[u32]) -> Set {
-    members.iter().copied().collect()
-}
-
-/// Terminal 3 of 5 with f = 1; it hears 0, the source, and 1, 2 and 4.
-fn place() -> Place {
-    Place {
-        n: 5,
-        source: 0,
-        bound: Bound::f(1),
-        number: 3,
-        heard: set(&[0, 1, 2, 4]),
-    }
-}
-
-const WAITS: State = State::Waiting;
 
 /// So many rounds played, waiting, with these rows.
 fn record(round: u32, rows: &[(u32, &[u16])]) -> Record {

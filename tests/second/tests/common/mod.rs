@@ -4,7 +4,27 @@
 
 pub mod bytes;
 
+use second::groups::Bound;
 use second::notice::{notice, Notice, OLD_EDITION};
+use second::plan::Set;
+use second::step::{Place, State};
+
+pub fn set(members: &[u32]) -> Set {
+    members.iter().copied().collect()
+}
+
+/// Terminal 3 of 5 with f = 1; it hears 0, the source, and 1, 2 and 4.
+pub fn place() -> Place {
+    Place {
+        n: 5,
+        source: 0,
+        bound: Bound::f(1),
+        number: 3,
+        heard: set(&[0, 1, 2, 4]),
+    }
+}
+
+pub const WAITS: State = State::Waiting;
 
 /// A layout in the edition that old runs count as.
 pub const fn first(layout: u16) -> Notice {
