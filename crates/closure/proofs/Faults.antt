@@ -2,18 +2,20 @@
 use Prim.Native.Nat.{ℕ, _<_, _^_}
 use mathlib.Core.Path.{_≡_, refl, _∙_}
 use mathlib.Core.Bool.{Bool, true, false, not}
+use lib.Dec.{eqb}
 use lib.Pow.{pow-pos}
 use borrow.Author.Tests.{ltb-true, lt-ltb}
 use Rattle.sets.specs.Tests.{_and_, _implies_}
 use Rattle.sets.specs.Sets.{mem, within}
 use Rattle.sets.proofs.Bools.{and-l, and-r, and-i, and-no-r, not-i, not-e, not-yes, implies-i, implies-e}
 use Rattle.sets.proofs.Laws.{mem-zero, all-at, all-i}
+use Rattle.sets.proofs.Operations.{mem-without}
 use Rattle.quorum.specs.declared.BoundKind.{BoundKind}
 use Rattle.quorum.specs.declared.BoundKind.the-variants.{Most, Groups}
 use Rattle.quorum.proofs.Laws.{fit-part, fit-none, enough-mono, enough-none, enough-groups}
 use Rattle.plan.specs.declared.Plan.{Plan}
 use Rattle.plan.specs.Plan.{hears}
-use Rattle.closure.specs.FaultSet.{enoughIn, hearsEnough, boundedBy, isBounded, isFaultSet}
+use Rattle.closure.specs.FaultSet.{enoughIn, hearsEnough, boundedBy, isBounded, isFaultSet, besideSource, isSharedFaultSet}
 
 -- it lies below 2 ^ n, it lacks the source, and its members that a good terminal hears are never enough
 pub fault-below : (p : Plan) (s : ℕ) → isFaultSet p s ≡ true → s < 2 ^ p .n
@@ -68,3 +70,19 @@ pub hears-enough-mono : (p : Plan) (b s t : ℕ) → ((a : ℕ) → a < p .n →
     → hearsEnough p b s ≡ true → hearsEnough p b t ≡ true
 unfolding hearsEnough
 hears-enough-mono p b s t i h = hears-enough-of p b s (λ a. hears p b a and mem a t) (λ a k e m. and-i _ _ e (i a k m)) h
+
+-- ---- the fault set of a shared channel
+
+module _ (p : Plan) (s : ℕ) where
+  pub shared-below : isSharedFaultSet p s ≡ true → s < 2 ^ p .n
+  unfolding isSharedFaultSet within
+  shared-below h = ltb-true s (2 ^ p .n) (and-l _ _ h)
+
+  -- its members beside the source are a fault set
+  pub shared-beside : isSharedFaultSet p s ≡ true → isFaultSet p (besideSource p s) ≡ true
+  unfolding isSharedFaultSet
+  shared-beside h = and-r _ _ h
+
+  pub mem-beside : s < 2 ^ p .n → (j : ℕ) → mem j (besideSource p s) ≡ mem j s and not (eqb j (p .source))
+  unfolding besideSource
+  mem-beside h j = mem-without (p .n) s (p .source) j h

@@ -2,7 +2,7 @@
 -- Assumes nothing.
 use mathlib.Core.Bool.{Bool, not}
 use Rattle.sets.specs.Tests.{_and_, _implies_}
-use Rattle.sets.specs.Sets.{Terminal, Set, mem, all, within}
+use Rattle.sets.specs.Sets.{Terminal, Set, mem, all, within, without}
 use Rattle.quorum.specs.declared.BoundKind.{BoundKind}
 use Rattle.quorum.specs.declared.BoundKind.the-variants.{Most, Groups}
 use Rattle.quorum.specs.Quorum.{fit, enough}
@@ -28,3 +28,10 @@ isBounded p s = boundedBy (p .bound .kind) p s
 -- s has terminals of the plan only, lacks the source, and is bounded
 unfoldable pub isFaultSet : Plan → Set → Bool
 isFaultSet p s = within (p .n) s and not (mem (p .source) s) and isBounded p s
+
+-- on a shared channel the source may be bad too (document 02, P11): the others of the set have to be a fault set, so that the bound holds at the source too
+unfoldable pub besideSource : Plan → Set → Set
+besideSource p s = without (p .n) s (p .source)
+
+unfoldable pub isSharedFaultSet : Plan → Set → Bool
+isSharedFaultSet p s = within (p .n) s and isFaultSet p (besideSource p s)

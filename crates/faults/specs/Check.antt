@@ -3,11 +3,11 @@ use Prim.Native.Nat.{ℕ}
 use mathlib.Core.Bool.{not}
 use mathlib.Core.List.{[], _∷_}
 use Rattle.sets.specs.Causes.{_gives_, firstCause, given}
-use Rattle.sets.specs.Sets.{Set}
+use Rattle.sets.specs.Sets.{Set, within}
 use Rattle.quorum.specs.Quorum.{others}
 use Rattle.plan.specs.declared.Plan.{Plan}
 use Rattle.plan.specs.Plan.{causeOf}
-use Rattle.closure.specs.FaultSet.{isFaultSet}
+use Rattle.closure.specs.FaultSet.{isFaultSet, besideSource}
 use Rattle.faults.specs.declared.FaultSetCheck.{FaultSetCheck}
 use Rattle.faults.specs.declared.FaultSetCheck.the-variants.{Sound, WrongRange, WrongLink, WrongGroups, WrongMember, OverBound}
 
@@ -28,5 +28,15 @@ faultCauseOf p s =
     given (causeOf p)
     ∷ not (others (p .n) (p .source) s) gives 7
     ∷ not (isFaultSet p s) gives 8
+    ∷ []
+    )
+
+-- the same on a shared channel (document 02, P11): 7 only for a number at or above n, and 8 by the set without the source
+unfoldable pub sharedFaultCauseOf : Plan → Set → ℕ
+sharedFaultCauseOf p s =
+    firstCause (
+    given (causeOf p)
+    ∷ not (within (p .n) s) gives 7
+    ∷ not (isFaultSet p (besideSource p s)) gives 8
     ∷ []
     )

@@ -9,7 +9,7 @@ ghost use Rattle.sets.specs.Sets.{mem, all, some, mask};
 ghost use Rattle.plan.specs.Plan.{causeOf};
 ghost use Rattle.closure.specs.FaultSet.{isBounded};
 ghost use Rattle.faults.specs.Rows.{over, hearing};
-ghost use Rattle.faults.specs.Check.{faultNumberOf, faultCauseOf};
+ghost use Rattle.faults.specs.Check.{faultNumberOf, faultCauseOf, sharedFaultCauseOf};
 use plan::Plan;
 use plan::Soundness;
 use quorum::Bound;
@@ -143,4 +143,14 @@ pub fn check_fault_set(p: Plan, s: u32) -> FaultSetCheck
         Soundness::WrongLink => FaultSetCheck::WrongLink,
         Soundness::WrongGroups => FaultSetCheck::WrongGroups,
     }
+}
+
+// The same on a shared channel, where the source may be bad too: what counts is the set without it.
+pub fn check_shared_fault_set(p: Plan, s: u32) -> FaultSetCheck
+    ensures { λ r. ⌜ faultNumberOf r ≡ sharedFaultCauseOf p s ⌝ }
+{
+    if sets::within(s, p.n) {
+        return check_fault_set(p, sets::without(s, p.source));
+    }
+    check_fault_set(p, s)
 }

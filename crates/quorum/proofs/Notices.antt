@@ -10,8 +10,8 @@ use lib.ListN.{length, getD, drop}
 use lib.Seq.{drop-cons}
 use borrow.Author.Tests.{eq-eqb, ne-eqb, eqb-true, eqb-false, lt-ltb, le-ltb, ltb-true}
 use Rattle.sets.specs.Tests.{_and_, _or_, pick}
-use Rattle.sets.proofs.Bools.{clash, decide, or-l, or-r, or-no, no-by, and-yes, and-no-l, and-l, and-r, pick-yes, pick-no}
-use Rattle.quorum.specs.Notice.{noticeOf, editionOf, layoutOf, silent, rising}
+use Rattle.sets.proofs.Bools.{clash, decide, or-l, or-r, or-no, no-by, and-yes, and-no-l, and-l, and-r, pick-yes, pick-no, pick-case}
+use Rattle.quorum.specs.Notice.{noticeOf, editionOf, layoutOf, silent, firstEdition, rising}
 
 -- ---- the halves
 
@@ -57,6 +57,31 @@ said-i x e l = or-no _ _ (ne-eqb (editionOf x) 0 e) (ne-eqb (layoutOf x) 0 l)
 pub silent-zero : silent 0 ≡ true
 unfolding silent editionOf
 silent-zero = or-l (eqb 0 0) (eqb (layoutOf 0) 0) refl
+
+-- ---- a layout that is said without an edition
+
+pub first-silence : firstEdition 0 ≡ 0
+unfolding firstEdition
+first-silence = pick-yes _ _ _ (eq-eqb 0 0 refl)
+
+pub first-said : (layout : ℕ) → (layout ≡ 0 → ⊥) → firstEdition layout ≡ noticeOf 1 layout
+unfolding firstEdition
+first-said layout z = pick-no _ _ _ (ne-eqb layout 0 z)
+
+-- it has edition 1, or is silence and has none
+pub first-edition-le : (layout : ℕ) → layout < 65536 → editionOf (firstEdition layout) ≤ 1
+unfolding firstEdition
+first-edition-le layout h =
+    pick-case (λ (x : ℕ). editionOf x ≤ 1) (eqb layout 0) 0 (noticeOf 1 layout) (λ t. omega (arith, edition-zero)) (λ t. omega (arith, edition-notice 1 layout h))
+
+pub first-notice : (layout : ℕ) → layout < 65536 → (layout ≡ 0 → ⊥) → silent (noticeOf 1 layout) ≡ false
+first-notice layout h z = said-i _ (λ e. omega (arith, edition-notice 1 layout h)) (λ e. z (sym (layout-notice 1 layout h) ∙ e))
+
+-- a notice of edition 1, or 0, is that of its layout
+pub first-layout : (layout : ℕ) → layout < 65536 → layoutOf (firstEdition layout) ≡ layout
+unfolding firstEdition layoutOf
+first-layout layout h =
+    pick-case (λ (x : ℕ). x % 65536 ≡ layout) (eqb layout 0) 0 (noticeOf 1 layout) (λ t. sym (eqb-true layout 0 t)) (λ t. layout-notice 1 layout h)
 
 -- ---- what is issued later, one entry further
 

@@ -8,7 +8,7 @@ use lib.Dec.{eqb}
 use borrow.Author.Tests.{eqb-false, leb-true}
 use Rattle.sets.proofs.Bools.{and-l, and-r, not-e}
 use Rattle.quorum.specs.Quorum.{mostTerminals}
-use Rattle.quorum.specs.Words.{mostRounds, mostWords, startSound, placeOf}
+use Rattle.quorum.specs.Words.{mostRounds, mostWords, startSound, placeOf, mostSharedWords, sharedPlaceOf}
 
 pub start-parts : (layout rounds : ℕ) → startSound layout rounds ≡ true → (1 ≤ layout) × (rounds ≤ mostRounds)
 unfolding startSound
@@ -28,3 +28,11 @@ row-le n sender h k = let l : sender ≤ 19 = omega arith in mul-le-mul {n₂ = 
 pub place-below : (n round sender hearer : ℕ) → n ≤ mostTerminals → round ≤ mostRounds → sender < n → hearer < n → placeOf n round sender hearer < mostWords
 unfolding placeOf
 place-below n round sender hearer h k s t = omega (arith, rounds-le n round h k, row-le n sender h (omega arith))
+
+-- on a shared channel: 39 times 20 and 19 lie below 800
+pub shared-rounds-le : (n round : ℕ) → n ≤ mostTerminals → round ≤ mostRounds → (round - 1) * n ≤ 780
+shared-rounds-le n round h k = let l : round - 1 ≤ 39 = omega arith in mul-le-mul {n₂ = 39} {m₂ = 20} l h
+
+pub shared-place-below : (n round sender : ℕ) → n ≤ mostTerminals → round ≤ mostRounds → sender < n → sharedPlaceOf n round sender < mostSharedWords
+unfolding sharedPlaceOf
+shared-place-below n round sender h k s = omega (arith, shared-rounds-le n round h k)

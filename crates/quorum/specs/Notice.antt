@@ -28,6 +28,10 @@ layoutOf x = x % 65536
 unfoldable pub silent : Notice → Bool
 silent x = eqb (editionOf x) 0 or eqb (layoutOf x) 0
 
+-- a layout that is said without an edition counts as edition 1; 0 stays silence
+unfoldable pub firstEdition : Layout → Notice
+firstEdition layout = pick (eqb layout 0) 0 (noticeOf 1 layout)
+
 -- what the office issues later, in its order: each that is not silence has an edition above the last before it
 unfoldable pub rising : (last : Edition) (later : List Notice) → Bool
 rising last [] = true

@@ -21,3 +21,10 @@ startSound layout rounds = not (eqb layout 0) and leb rounds mostRounds
 -- the place of a word: round 1 first, then by sender, then by hearer
 unfoldable pub placeOf : (n round : ℕ) (sender hearer : Terminal) → ℕ
 placeOf n round sender hearer = (round - 1) * (n * n) + sender * n + hearer
+
+-- on a shared channel (document 02, P11) there is one word a round and sender: at most 800, round 1 first, then by sender
+abbrev pub mostSharedWords : ℕ
+mostSharedWords = mostRounds * mostTerminals
+
+unfoldable pub sharedPlaceOf : (n round : ℕ) (sender : Terminal) → ℕ
+sharedPlaceOf n round sender = (round - 1) * n + sender

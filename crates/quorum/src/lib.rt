@@ -6,7 +6,7 @@ ghost use lib.ListN.{getD};
 ghost use Rattle.sets.specs.Tests.{_implies_, pick};
 ghost use Rattle.sets.specs.Sets.{mem, all, some};
 ghost use Rattle.quorum.specs.Quorum.{kindInRange, inRange, listed, others, listedSound, groupsSound, enough};
-ghost use Rattle.quorum.specs.Notice.{noticeOf, editionOf, layoutOf, silent, rising};
+ghost use Rattle.quorum.specs.Notice.{noticeOf, editionOf, layoutOf, silent, firstEdition, rising};
 ghost use Rattle.quorum.specs.Words.{startSound};
 
 // Most(f): a good terminal hears at most f bad ones. Groups(count): the bad ones are some of one group.
@@ -169,6 +169,16 @@ pub fn silent(notice: u32) -> bool
         return true;
     }
     layout_of(notice) == 0
+}
+
+// A layout that is said without an edition counts as edition 1; 0 stays silence.
+pub fn first_edition(layout: u16) -> u32
+    ensures { λ r. ⌜ r ≡ firstEdition layout ⌝ }
+{
+    if layout == 0 {
+        return 0;
+    }
+    notice_of(1, layout)
 }
 
 // The editions that are issued later rise, each above the last before it. Silence issues nothing.

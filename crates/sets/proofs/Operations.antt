@@ -10,8 +10,8 @@ use lib.Bits.{bitAnd, bitOr, and-le-l, or-lt, and-mask}
 use lib.Pow.{pow-lt, pow-pos}
 use borrow.Author.Tests.{eq-eqb, ne-eqb, eqb-true, lt-ltb, le-ltb}
 use Rattle.sets.specs.Tests.{_and_, _or_, _implies_}
-use Rattle.sets.specs.Sets.{mem, all, mask, within, singleton, with}
-use Rattle.sets.proofs.Bools.{not-e, same-test, or-no}
+use Rattle.sets.specs.Sets.{mem, all, mask, within, singleton, with, without}
+use Rattle.sets.proofs.Bools.{not-e, same-test, or-no, and-no-l}
 use Rattle.sets.proofs.Laws.{mem-zero, set-ext, mem-mask, mask-of, mask-lt, all-at, all-i, all-cong, mem-above, mem-mask-above, below-or-not}
 use Rattle.sets.proofs.Masks.{mem-and, mem-or, mem-not, mem-power, mem-shift}
 
@@ -61,6 +61,22 @@ unfolding with
 mem-with-any w s i j h k =
     ⊎-elim (mem-with w s i j)
     (λ l. mem-mask-above w j (λ j. mem j s or eqb j i) l ∙ sym (or-no _ _ (mem-above w j s h l) (ne-eqb j i (λ e. omega arith))))
+    (below-or-not j w)
+
+-- a set with one less
+pub and-without : (w s i : ℕ) → s < 2 ^ w → bitAnd s (2 ^ w - 1 - singleton w i) ≡ without w s i
+unfolding singleton without
+and-without w s i p =
+    mask-of w (bitAnd s (2 ^ w - 1 - mask w (λ j. eqb j i))) (λ j. mem j s and not (eqb j i)) (lt-of-le-of-lt (and-le-l s _) p)
+    (λ j k.
+    mem-and j s (2 ^ w - 1 - mask w (λ j. eqb j i))
+    ∙ ap (λ (t : Bool). mem j s and t) (mem-not w j (mask w (λ j. eqb j i)) (mask-lt w (λ j. eqb j i)) k ∙ ap not (mem-mask w j (λ j. eqb j i) k)))
+
+pub mem-without : (w s i j : ℕ) → s < 2 ^ w → mem j (without w s i) ≡ mem j s and not (eqb j i)
+unfolding without
+mem-without w s i j h =
+    ⊎-elim (mem-mask w j (λ j. mem j s and not (eqb j i)))
+    (λ l. mem-mask-above w j (λ j. mem j s and not (eqb j i)) l ∙ sym (and-no-l _ _ (mem-above w j s h l)))
     (below-or-not j w)
 
 -- a test of one word: two sets share no terminal; one lies within the other

@@ -52,6 +52,9 @@ singleton w i = mask w (λ j. eqb j i)
 unfoldable pub with : (w : ℕ) (s : Set) (i : Terminal) → Set
 with w s i = mask w (λ j. mem j s or eqb j i)
 
+unfoldable pub without : (w : ℕ) (s : Set) (i : Terminal) → Set
+without w s i = mask w (λ j. mem j s and not (eqb j i))
+
 -- the terminals below n that are in neither of two sets
 abbrev pub outside : (n : ℕ) (a b : Set) → Set
 outside n a b = mask n (λ i. not (mem i a) and not (mem i b))

@@ -1,7 +1,7 @@
 // Sets of terminals as u32 masks: bit i stands for terminal i. Every function takes any arguments;
 // a terminal from 32 up is in no set.
 ghost use mathlib.Core.Path.{_≡_};
-ghost use Rattle.sets.specs.Sets.{mem, within, singleton, with};
+ghost use Rattle.sets.specs.Sets.{mem, within, singleton, with, without};
 
 pub fn member(s: u32, i: usize) -> bool
     ensures { λ r. ⌜ r ≡ mem i s ⌝ }
@@ -35,4 +35,10 @@ pub fn with(s: u32, i: usize) -> u32
     ensures { λ r. ⌜ r ≡ with 32 s i ⌝ }
 {
     s | singleton(i)
+}
+
+pub fn without(s: u32, i: usize) -> u32
+    ensures { λ r. ⌜ r ≡ without 32 s i ⌝ }
+{
+    s & !singleton(i)
 }
