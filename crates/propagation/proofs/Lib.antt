@@ -6,4 +6,6 @@ pub mod Safety
 pub mod Liveness
 pub mod Silence
 pub mod Demand3
+pub mod SharedRounds
+pub mod Agreement
 pub mod Drawings

@@ -14,8 +14,9 @@ use Rattle.sets.specs.Sets.{mem}
 use Rattle.quorum.specs.declared.Bound.{Bound}
 use Rattle.quorum.specs.Quorum.{enough, inRange, others, groupsSound}
 use Rattle.quorum.specs.Notice.{editionOf, layoutOf, silent}
+use Rattle.quorum.proofs.Laws.{enough-none}
 use Rattle.quorum.proofs.Notices.{same-notice, edition-zero, said-layout}
-use Rattle.sets.proofs.Bools.{clash, and-i, and-no-l, and-no-r, not-i, not-yes, implies-i, pick-yes, pick-no}
+use Rattle.sets.proofs.Bools.{clash, no-by, and-i, and-no-l, and-no-r, not-i, not-yes, implies-i, pick-yes, pick-no}
 use Rattle.sets.proofs.Laws.{all-i, equal-or-not, below-or-not}
 use Rattle.sets.proofs.Causes.{cause-here, cause-later, cause-last}
 use Rattle.terminal.specs.declared.State.{State}
@@ -26,8 +27,8 @@ use Rattle.terminal.specs.Regular.{Regular}
 use Rattle.terminal.specs.Shown.{noteOf, shownOver, shown, says}
 use Rattle.terminal.specs.Answer.{stateSound, countsSound, recordSound, causeOf, recordAfter, issueCause, recordIssued}
 use Rattle.terminal.proofs.Values.{in-by, unheard-word, word-length, word-longer, word-edition, word-why, word-said, word-stays, word-noted, word-clean, word-small}
-use Rattle.terminal.proofs.Notes.{noted-length, noted-at, noted-by, nothing-noted}
-use Rattle.terminal.proofs.Newest.{holds-i, holds-said, holds-among, Reason, chosen-why, chosen-source, chosen-votes}
+use Rattle.terminal.proofs.Notes.{noted-length, noted-at, noted-by, noted-agree, nothing-noted}
+use Rattle.terminal.proofs.Newest.{holds-i, holds-said, holds-among, holds-edition, Reason, chosen-why, chosen-source, chosen-votes}
 use Rattle.terminal.proofs.Shown.{shown-state, shown-round, shown-count, view-shown, shown-over}
 
 pub taking-none : (round : ℕ) (state : State) (x : ℕ) → x ≡ 0 → taking round state x ≡ state
@@ -143,6 +144,12 @@ module _ (n source : ℕ) (bound : Bound) (own heard : ℕ) (said : ℕ → ℕ)
       step-by (λ (x : Spoken). notedEdition r j ≡ x .edition → length (spokenBy (r .notes) j .layouts) ≤ length (x .layouts)) r j (λ e. omega arith)
       (λ e. word-longer (mem j heard) (spokenBy (r .notes) j) (said j) (sym e))
 
+  -- of a terminal of which two records have the same, and which says the same to both if it is heard, they then have the same
+  pub step-agree : (other : ℕ → ℕ) (r s : View) → length (r .notes) ≡ length (s .notes) → (j : ℕ) → spokenBy (r .notes) j ≡ spokenBy (s .notes) j
+      → (mem j heard ≡ true → said j ≡ other j) → spokenBy (after r .notes) j ≡ spokenBy (step n source bound own heard other s .notes) j
+  unfolding step
+  step-agree other r s l j e w = noted-agree n (λ j. mem j heard) said other (r .notes) (s .notes) l j e w
+
   -- ---- the notes
 
   -- what is noted of a neighbour was noted before, or it said it now
@@ -234,6 +241,18 @@ module _ (n source : ℕ) (bound : Bound) (own heard : ℕ) (said : ℕ → ℕ)
       ))
       (equal-or-not (choose r) 0))
       (equal-or-not own source)
+
+  -- where no neighbour is noted with an edition above the one that is held, the state stays
+  pub held-stays : (r : View) → Regular r → ((j : ℕ) → notedEdition (after r) j ≤ heldBy (r .state)) → after r .state ≡ r .state
+  unfolding Why
+  held-stays r g low =
+      ⊎-elim (λ e. e)
+      (λ t.
+      let not-held : (j : ℕ) → holds (after r) (t .0) j ≡ true → ⊥ = λ j h. omega (arith, holds-edition (after r) (t .0) j h, low j, t .1 .above) in
+      ⊎-elim (λ w. absurd (not-held source (w .1)))
+      (λ w. clash w (enough-none n bound (λ j. mem j heard and holds (after r) (t .0) j) (λ j k. and-no-r (mem j heard) _ (no-by (not-held j)))))
+      (t .1 .reason))
+      (step-state r g)
 
   -- the edition that a terminal holds never falls
   pub held-grows : (r : View) → Regular r → heldBy (r .state) ≤ heldBy (after r .state)

@@ -11,3 +11,4 @@ mod Noting
 mod Refused
 pub mod Unheard
 pub mod SaidCounts
+pub mod SharedChannel

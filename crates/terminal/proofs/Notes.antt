@@ -60,6 +60,23 @@ noted-unheard n hears said notes j h =
     noted-by (λ (spoken : Spoken). spoken ≡ spokenBy notes j) n hears said notes j refl
     (ap (λ (b : Bool). withWord b (spokenBy notes j) (said j)) h ∙ unheard-word (spokenBy notes j) (said j))
 
+-- what is noted of one terminal, in two lists that have the same of it
+pub noted-agree : (n : ℕ) (hears : ℕ → Bool) (said other : ℕ → ℕ) (a b : List Spoken) → length a ≡ length b → (j : ℕ) → spokenBy a j ≡ spokenBy b j
+    → (hears j ≡ true → said j ≡ other j) → spokenBy (noted n hears said a) j ≡ spokenBy (noted n hears other b) j
+unfolding noted spokenBy
+noted-agree zero hears said other a b l j e s = e
+noted-agree (suc n) hears said other [] [] l j e s = refl
+noted-agree (suc n) hears said other [] (y ∷ b) l j e s = absurd (omega arith)
+noted-agree (suc n) hears said other (x ∷ a) [] l j e s = absurd (omega arith)
+noted-agree (suc n) hears said other (x ∷ a) (y ∷ b) l zero e s =
+    ⊎-elim (λ h. (λ i. withWord (hears 0) (e i) (s h i)))
+    (λ h.
+    ap (λ (t : Bool). withWord t x (said 0)) h ∙ unheard-word x (said 0) ∙ e
+    ∙ sym (ap (λ (t : Bool). withWord t y (other 0)) h ∙ unheard-word y (other 0)))
+    (decide (hears 0))
+noted-agree (suc n) hears said other (x ∷ a) (y ∷ b) l (suc j) e s =
+    noted-agree n (λ j. hears (suc j)) (λ j. said (suc j)) (λ j. other (suc j)) a b (omega arith) j e s
+
 pub nothing-noted : (k j : ℕ) → spokenBy (replicate k nothingSaid) j ≡ nothingSaid
 unfolding spokenBy
 nothing-noted zero j = refl

@@ -34,11 +34,11 @@ use Rattle.terminal.proofs.Walks.{accepted-plays}
 
 -- ---- the rule: two records that have the same of every heard neighbour
 
-record SameView (heard : ℕ) (a b : View) : Type 0 where
-  state : a .state ≡ b .state
-  round : a .round ≡ b .round
-  long : length (a .notes) ≡ length (b .notes)
-  spoken : (j : ℕ) → mem j heard ≡ true → spokenBy (a .notes) j ≡ spokenBy (b .notes) j
+pub record SameView (heard : ℕ) (a b : View) : Type 0 where
+  pub state : a .state ≡ b .state
+  pub round : a .round ≡ b .round
+  pub long : length (a .notes) ≡ length (b .notes)
+  pub spoken : (j : ℕ) → mem j heard ≡ true → spokenBy (a .notes) j ≡ spokenBy (b .notes) j
 
 -- the notes after a round, place by place: both lists go down together
 noted-same : (n : ℕ) (hears : ℕ → Bool) (said other : ℕ → ℕ) (a b : List Spoken) → length a ≡ length b
@@ -83,7 +83,7 @@ module _ (n source : ℕ) (bound : Bound) (heard : ℕ) (a b : List Spoken) (e :
       (noticeOf (highest n (fun-ext (qualifying-same held) i)) (fun-ext layout-same i (highest n (fun-ext (qualifying-same held) i)))))
 
 module _ (n source : ℕ) (bound : Bound) (own heard : ℕ) (said other : ℕ → ℕ) (s : (j : ℕ) → mem j heard ≡ true → said j ≡ other j) where
-  step-view : (a b : View) → SameView heard a b → SameView heard (step n source bound own heard said a) (step n source bound own heard other b)
+  pub step-view : (a b : View) → SameView heard a b → SameView heard (step n source bound own heard said a) (step n source bound own heard other b)
   unfolding step
   step-view a b e =
       let spoken = noted-same n (λ j. mem j heard) said other (a .notes) (b .notes) (e .long) (e .spoken) s in record {

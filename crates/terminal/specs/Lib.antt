@@ -4,5 +4,6 @@ pub mod Regular
 pub mod Shown
 pub mod Votes
 pub mod Answer
+pub mod Channel
 pub mod Unheard
 pub mod SaidCounts

@@ -1,5 +1,6 @@
 // One terminal: its record, the step that plays one round of it, and what its office issues. All that the
 // firmware ships.
+mod channel;
 mod choice;
 mod choosing;
 
@@ -15,6 +16,7 @@ ghost use Rattle.terminal.specs.Rule.{start, sourceStart, among, inEditi
 ghost use Rattle.terminal.specs.Shown.{valuesIn, spokenIn, Whole, viewOf, writtenOver, noNote, notesOver, shownOver, shown, says};
 ghost use Rattle.terminal.specs.Votes.{HavePlaces, HaveRoom};
 ghost use Rattle.terminal.specs.Answer.{numberOf, stateSound, countsSound, recordSound, causeOf, recordAfter, issueCause, recordIssued};
+ghost use Rattle.terminal.specs.Channel.{sharedCauseOf, sharedRecordAfter};
 use quorum::Bound;
 
 // A terminal waits, or it has taken a notice in a round and keeps both. A notice is one number, its
@@ -344,7 +346,7 @@ fn first_cause(
 
 // The round of a record that can be stepped. It is raised first: a take keeps the raised number. The
 // source takes only what its office issues.
-fn play(
+pub(crate) fn play(
     n: usize,
     source: usize,
     bound: Bound,
@@ -381,6 +383,35 @@ pub fn step(
         return Stepped {
             outcome: Outcome::Accepted,
             after: play(n, source, bound, own, heard, before, said),
+        };
+    }
+    Stepped {
+        outcome: outcome,
+        after: before,
+    }
+}
+
+// The same on a shared channel, where the source may be bad too: said[j] is the layout that terminal j said
+// to all who hear it, 0 for nothing. Who waits in round 1 and hears the source takes its word, or the default
+// if it said none.
+pub fn shared_step(
+    n: usize,
+    source: usize,
+    bound: Bound,
+    own: usize,
+    heard: u32,
+    default: u16,
+    before: Record,
+    said: &[u16],
+) -> Stepped
+    ensures { λ r. ⌜ (numberOf (r .outcome) ≡ sharedCauseOf n source bound own heard default before (length (now (said .entry)))) × (r .after ≡ sharedRecordAfter n source bound own heard default before (now (said .entry))) ⌝ }
+{
+    let found = first_cause(n, source, bound, own, heard, before, said.len());
+    let outcome = channel::with_nine(found, default);
+    if let Outcome::Accepted = outcome {
+        return Stepped {
+            outcome: Outcome::Accepted,
+            after: channel::play_shared(n, source, bound, own, heard, default, before, said),
         };
     }
     Stepped {
