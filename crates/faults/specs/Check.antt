@@ -33,10 +33,4 @@ faultCauseOf p s =
 
 -- the same on a shared channel (document 02, P11): 7 only for a number at or above n, and 8 by the set without the source
 unfoldable pub sharedFaultCauseOf : Plan → Set → ℕ
-sharedFaultCauseOf p s =
-    firstCause (
-    given (causeOf p)
-    ∷ not (within (p .n) s) gives 7
-    ∷ not (isFaultSet p (besideSource p s)) gives 8
-    ∷ []
-    )
+sharedFaultCauseOf p s = firstCause (given (causeOf p) ∷ not (within (p .n) s) gives 7 ∷ not (isFaultSet p (besideSource p s)) gives 8 ∷ [])

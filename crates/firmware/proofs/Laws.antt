@@ -23,11 +23,12 @@ use Rattle.terminal.specs.declared.Note.{Note}
 use Rattle.terminal.specs.declared.Record.{Record}
 use Rattle.terminal.specs.Rule.{heldBy}
 use Rattle.terminal.specs.Shown.{noteOf}
+use Rattle.terminal.specs.Channel.{sharedCauseOf, sharedRecordAfter}
 use Rattle.terminal.specs.Answer.{stateSound, causeOf, recordAfter, issueCause, recordIssued}
 use Rattle.firmware.specs.declared.BoardRecord.{BoardRecord}
 use Rattle.firmware.specs.declared.BoardAnswer.{BoardAnswer}
 use Rattle.firmware.specs.declared.BoardGroups.{BoardGroups}
-use Rattle.firmware.specs.Board.{stateOf, recordOf, boardWith, boardOf, kindOf, boundOf, answerOf, boardAnswer, boardIssued}
+use Rattle.firmware.specs.Board.{stateOf, recordOf, boardWith, boardOf, kindOf, boundOf, answerOf, boardAnswer, boardShared, boardIssued}
 
 -- what a board keeps of a record stands for that record, so that the answer of one call is what the next is given
 state-again : (s : State) (round : ℕ) (notes : List Note) → recordOf (boardWith s round notes) ≡ record { state = s; round = round; notes = notes }
@@ -56,6 +57,17 @@ module _ (before : BoardRecord) (r : Record) (e : r ≡ recordOf before) (number
       ∙ ap (λ (x : Record). answerOf before (causeOf n source b own heard r (length said)) x) a
       ∙ ap (λ (x : Bound). answerOf before (causeOf n source x own heard r (length said)) (recordAfter n source x own heard r said)) q
       ∙ ap (λ (x : Record). answerOf before (causeOf n source bound own heard x (length said)) (recordAfter n source bound own heard x said)) e
+
+  pub shared-answered : (n source : ℕ) (bound : Bound) (own heard default : ℕ) (said : List ℕ) (b : Bound) → b ≡ bound
+      → number ≡ sharedCauseOf n source b own heard default r (length said)
+      → after ≡ sharedRecordAfter n source b own heard default r said
+      → answerOf before number after ≡ boardShared n source bound own heard default before said
+  unfolding boardShared
+  shared-answered n source bound own heard default said b q k a =
+      ap (λ (x : ℕ). answerOf before x after) k
+      ∙ ap (λ (x : Record). answerOf before (sharedCauseOf n source b own heard default r (length said)) x) a
+      ∙ ap (λ (x : Bound). answerOf before (sharedCauseOf n source x own heard default r (length said)) (sharedRecordAfter n source x own heard default r said)) q
+      ∙ ap (λ (x : Record). answerOf before (sharedCauseOf n source bound own heard default x (length said)) (sharedRecordAfter n source bound own heard default x said)) e
 
   pub issue-answered : (notice : Notice) → number ≡ issueCause r notice → after ≡ recordIssued r notice → answerOf before number after ≡ boardIssued before notice
   unfolding boardIssued

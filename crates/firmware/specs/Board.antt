@@ -9,7 +9,7 @@ use Rattle.quorum.specs.declared.BoundKind.{BoundKind}
 use Rattle.quorum.specs.declared.BoundKind.the-variants.{Most, Groups}
 use Rattle.quorum.specs.declared.Bound.{Bound}
 use Rattle.quorum.specs.Quorum.{mostTerminals}
-use Rattle.quorum.specs.Notice.{Notice}
+use Rattle.quorum.specs.Notice.{Layout, Notice}
 use Rattle.terminal.specs.declared.State.{State}
 use Rattle.terminal.specs.declared.State.the-variants.{Waiting, Taken}
 use Rattle.terminal.specs.declared.Note.{Note}
@@ -17,6 +17,7 @@ use Rattle.terminal.specs.declared.Record.{Record}
 use Rattle.terminal.specs.Rule.{Round}
 use Rattle.terminal.specs.Shown.{says}
 use Rattle.terminal.specs.Answer.{causeOf, recordAfter, issueCause, recordIssued}
+use Rattle.terminal.specs.Channel.{sharedCauseOf, sharedRecordAfter}
 use Rattle.firmware.specs.declared.BoardRecord.{BoardRecord}
 use Rattle.firmware.specs.declared.BoardAnswer.{BoardAnswer}
 use Rattle.firmware.specs.declared.BoardGroups.{BoardGroups}
@@ -59,6 +60,11 @@ unfoldable pub boardAnswer : (n : ℕ) (source : Terminal) (bound : Bound) (own 
 boardAnswer n source bound own heard before said =
     answerOf before (causeOf n source bound own heard (recordOf before) (length said)) (recordAfter n source bound own heard (recordOf before) said)
 
+-- the step of a shared channel, in the same way (document 02, P11)
+unfoldable pub boardShared : (n : ℕ) (source : Terminal) (bound : Bound) (own : Terminal) (heard : Set) (default : Layout) → BoardRecord → (said : List Layout) → BoardAnswer
+boardShared n source bound own heard default before said =
+    answerOf before (sharedCauseOf n source bound own heard default (recordOf before) (length said)) (sharedRecordAfter n source bound own heard default (recordOf before) said)
+
 -- the later notice of the office, in the same way
 unfoldable pub boardIssued : BoardRecord → Notice → BoardAnswer
 boardIssued before notice = answerOf before (issueCause (recordOf before) notice) (recordIssued (recordOf before) notice)
@@ -69,4 +75,4 @@ boardSays b = says (recordOf b)
 
 -- the version of the layout of a board's record and answer, and of the functions: it changes with any of them
 abbrev pub layoutVersion : ℕ
-layoutVersion = 4
+layoutVersion = 5

@@ -4,7 +4,7 @@ ghost use mathlib.Core.Path.{_≡_};
 ghost use Rattle.terminal.specs.Rule.{start, sourceStart};
 ghost use Rattle.terminal.specs.Shown.{shown};
 ghost use Rattle.terminal.specs.Answer.{numberOf};
-ghost use Rattle.firmware.specs.Board.{stateOf, recordOf, boardOf, kindOf, boundOf, answerOf, boardAnswer, boardIssued, boardSays, layoutVersion};
+ghost use Rattle.firmware.specs.Board.{stateOf, recordOf, boardOf, kindOf, boundOf, answerOf, boardAnswer, boardShared, boardIssued, boardSays, layoutVersion};
 use quorum::Bound;
 use quorum::BoundKind;
 use terminal::Note;
@@ -175,6 +175,28 @@ pub extern "C" fn hulmayek_bound_step(
     )
 }
 
+// The same on a shared channel: said[j] is the layout that terminal j said to all who hear it, 0 for nothing.
+#[no_mangle]
+pub extern "C" fn hulmayek_bound_shared_step(
+    n: usize,
+    source: usize,
+    kind: usize,
+    told: BoardGroups,
+    own: usize,
+    heard: u32,
+    default: u16,
+    before: BoardRecord,
+    said: &[u16],
+) -> BoardAnswer
+    ensures { λ r. ⌜ r ≡ boardShared n source (boundOf kind told) own heard default before (now (said .entry)) ⌝ }
+{
+    let bound = bound_of(kind, told);
+    answer_of(
+        before,
+        terminal::shared_step(n, source, bound, own, heard, default, record_of(before), said),
+    )
+}
+
 // A note again, its edition, its count and its layouts each by itself.
 fn note_apart(note: Note) -> Note
     ensures { λ r. ⌜ r ≡ note ⌝ }
@@ -251,5 +273,5 @@ pub extern "C" fn hulmayek_says(record: BoardRecord) -> u32
 pub extern "C" fn hulmayek_layout() -> u32
     ensures { λ r. ⌜ r ≡ layoutVersion ⌝ }
 {
-    4
+    5
 }

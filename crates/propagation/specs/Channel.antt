@@ -25,9 +25,9 @@ use Rattle.propagation.specs.Demand3.{Good}
 abbrev pub SharedScript : Type 0
 SharedScript = (round : Round) (sender : Terminal) → Layout
 
--- the script that a lent list of words stands for: round 1 first, then by sender; 0 past its end
+-- the script that a lent list of words stands for: round 1 first, then by sender; 0 past its end. An entry has two bytes: it is its layout
 unfoldable pub sharedScriptOf : (n : ℕ) (words : List Layout) → SharedScript
-sharedScriptOf n words round sender = getD words (sharedPlaceOf n round sender) 0
+sharedScriptOf n words round sender = layoutOf (getD words (sharedPlaceOf n round sender) 0)
 
 -- ---- the run
 

@@ -4,5 +4,8 @@ mod Places
 mod Lists
 mod Walk
 mod Meaning
+mod SharedMeaning
 pub mod Causes
+pub mod SharedCauses
 pub mod Promise
+pub mod SharedPromise

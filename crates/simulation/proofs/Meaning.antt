@@ -6,8 +6,8 @@ use mathlib.Core.Bool.{true, false, not}
 use mathlib.Core.List.{List, map}
 use native.Mathlib.Omega.{arith}
 use lib.Dec.{eqb}
-use lib.ListN.{length, getD, take, replicate, length-map, length-replicate, getD-replicate, List·getD-eq-default, List·getD-map}
-use lib.Seq.{ext-getD, getD-take, length-take-le}
+use lib.ListN.{length, getD, take, replicate, length-map, List·getD-eq-default, List·getD-map}
+use lib.Seq.{getD-take, length-take-le}
 use borrow.Author.Tests.{eq-eqb, ne-eqb, eqb-true}
 use Rattle.sets.specs.Tests.{_and_, pick}
 use Rattle.sets.specs.Sets.{mem}
@@ -34,7 +34,7 @@ use Rattle.propagation.proofs.Offices.{lastRound}
 use Rattle.propagation.proofs.Steps.{step-round, source-stays}
 use Rattle.propagation.proofs.Safety.{Safe, safe, source-taken, not-both}
 use Rattle.simulation.specs.declared.Turn.{Turn}
-use Rattle.simulation.proofs.Walk.{At, rounds-on, walk-at, placed-on}
+use Rattle.simulation.proofs.Walk.{At, placed-on, walk-list, walk-twenty}
 use Rattle.simulation.specs.Turns.{heardIn, issuedIn, recordOf, Played, playedAfter, firstTurn, Ready}
 
 module _ (p : Plan) (checked : plan.causeOf p ≡ 0) (faulty first : ℕ) (later words : List ℕ) (up : Rising (officeOf first later))
@@ -105,8 +105,8 @@ module _ (p : Plan) (checked : plan.causeOf p ≡ 0) (faulty first : ℕ) (later
           λ i. pick (hears (e i) (a i) j) (pick (mem j (f i)) (scriptOf (e i .n) words (r i) j (a i)) (says i)) 0
 
   -- the record that the turn makes is the one of the rules
-  made-record : (ys : List Record) (r b : ℕ) (s : Played) → At p faulty first later words here ys r b s → r ≤ 40 → b < p .n
-      → recordOf (s .turn) words (getD (s .records) (s .turn .at) nothingHeard) ≡ here r b
+  made-record : (ys : List Record) (r b : ℕ) (s : Played) → At p faulty first later 0 here ys r b s → r ≤ 40 → b < p .n
+      → recordOf words (s .turn) (getD (s .records) (s .turn .at) nothingHeard) ≡ here r b
   unfolding recordOf recordAfter issuedIn issued officeOf
   made-record ys zero b s a h k =
       pick-yes _ _ _ (eq-eqb (s .turn .round) 0 (a .round-is))
@@ -174,44 +174,22 @@ module _ (p : Plan) (checked : plan.causeOf p ≡ 0) (faulty first : ℕ) (later
 
   -- ---- the traversal, with these records
 
-  rounds : (ys : List Record) → p .n ≤ length ys → (r : ℕ) → r ≤ 41
-      → At p faulty first later words here ys r 0 (playedAfter words (record { turn = firstTurn p faulty first later; records = ys }) (r * p .n))
-  rounds = rounds-on p (sound p checked .two) (sound p checked .twenty) faulty first later words here made-record
-
-  there : (ys : List Record) → p .n ≤ length ys → (r : ℕ) → r ≤ 40 → (b : ℕ) → b < p .n
-      → getD (playedAfter words (record { turn = firstTurn p faulty first later; records = ys }) (suc r * p .n) .records) b nothingHeard ≡ here r b
-  there = walk-at p (sound p checked .two) (sound p checked .twenty) faulty first later words here made-record
-
   pub turn-placed : (ys : List Record) → p .n ≤ length ys → (r : ℕ) → r ≤ 40 → (k : ℕ) → k < suc r * p .n → (t : Turn)
-      → t ≡ playedAfter words (record { turn = firstTurn p faulty first later; records = ys }) k .turn → Ready t (length ys)
-  turn-placed = placed-on p (sound p checked .two) (sound p checked .twenty) faulty first later words here made-record
+      → t ≡ playedAfter (recordOf words) (record { turn = firstTurn p faulty first later 0; records = ys }) k .turn → Ready t (length ys)
+  turn-placed = placed-on p (sound p checked .two) (sound p checked .twenty) faulty first later 0 (recordOf words) here made-record
 
   pub walk-is : (ys : List Record) → length ys ≡ p .n → (r : ℕ) → r ≤ 40
-      → playedAfter words (record { turn = firstTurn p faulty first later; records = ys }) (suc r * p .n) .records ≡ map shown (sites p faulty office script r)
+      → playedAfter (recordOf words) (record { turn = firstTurn p faulty first later 0; records = ys }) (suc r * p .n) .records ≡ map shown (sites p faulty office script r)
   unfolding site
   walk-is ys e r h =
-      let l : p .n ≤ length ys = omega arith in
-      let a = rounds ys l (suc r) (omega arith) in
-      ext-getD nothingHeard (playedAfter words (record { turn = firstTurn p faulty first later; records = ys }) (suc r * p .n) .records) (map shown (sites p faulty office script r))
-      (a .records-room ∙ e ∙ sym (length-map (sites p faulty office script r) shown ∙ sites-length p faulty office script r))
-      (λ b k. there ys l r h b (let q = a .records-room in omega arith) ∙ sym (List·getD-map shown (sites p faulty office script r) b start))
+      walk-list p (sound p checked .two) (sound p checked .twenty) faulty first later 0 (recordOf words) here made-record ys e r h (map shown (sites p faulty office script r))
+      (length-map (sites p faulty office script r) shown ∙ sites-length p faulty office script r)
+      (λ b k. List·getD-map shown (sites p faulty office script r) b start)
 
   -- the records in an array of twenty
   pub walk-array : (r : ℕ) → r ≤ 40
-      → playedAfter words (record { turn = firstTurn p faulty first later; records = replicate 20 nothingHeard }) (suc r * p .n) .records ≡ table 20 (here r)
+      → playedAfter (recordOf words) (record { turn = firstTurn p faulty first later 0; records = replicate 20 nothingHeard }) (suc r * p .n) .records ≡ table 20 (here r)
   unfolding site
   walk-array r h =
-      let l : p .n ≤ length (replicate 20 nothingHeard) = let t = sound p checked .twenty in omega (arith, length-replicate 20 nothingHeard) in
-      let a = rounds (replicate 20 nothingHeard) l (suc r) (omega arith) in
-      let room : length (playedAfter words (record { turn = firstTurn p faulty first later; records = replicate 20 nothingHeard }) (suc r * p .n) .records) ≡ 20 =
-      a .records-room ∙ length-replicate 20 nothingHeard in
-      ext-getD nothingHeard (playedAfter words (record { turn = firstTurn p faulty first later; records = replicate 20 nothingHeard }) (suc r * p .n) .records)
-      (table 20 (here r)) (room ∙ sym (table-length 20 (here r)))
-      (λ b k.
-      let kb : b < 20 = subst (λ (x : ℕ). b < x) room k in
-      ⊎-elim (λ m. there (replicate 20 nothingHeard) l r h b m)
-      (λ m.
-      a .beyond b m ∙ getD-replicate 20 b nothingHeard nothingHeard kb
-      ∙ ap shown (sym (List·getD-eq-default (sites p faulty office script r) start (let e = sites-length p faulty office script r in omega arith))))
-      (below-or-not b (p .n))
-      ∙ sym (table-at 20 (here r) nothingHeard b kb))
+      walk-twenty p (sound p checked .two) (sound p checked .twenty) faulty first later 0 (recordOf words) here made-record r h
+      (λ b m. ap shown (List·getD-eq-default (sites p faulty office script r) start (let e = sites-length p faulty office script r in omega arith)))

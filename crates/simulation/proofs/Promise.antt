@@ -30,7 +30,7 @@ use Rattle.closure.proofs.Witness.{accepts-e}
 use Rattle.sets.proofs.Tables.{table-at}
 use Rattle.faults.proofs.Laws.{fault-is}
 use Rattle.simulation.specs.declared.Turn.{Turn}
-use Rattle.simulation.specs.Turns.{firstTurn, playedAfter, CanPlay, leftAfter}
+use Rattle.simulation.specs.Turns.{recordOf, firstTurn, playedAfter, CanPlay, leftAfter}
 use Rattle.simulation.specs.Answer.{officeSound, runCause, turnsOf, recordsAfter, arrayAfter, stateOf, Demand3Holds, Defeated, silentWords, nothingLater}
 use Rattle.quorum.specs.Notice.{editionOf, layoutOf, silent, rising}
 use Rattle.quorum.proofs.Notices.{said-edition, said-layout, silent-zero}
@@ -85,7 +85,7 @@ promised p faulty first later rounds words places records a same = record {
 
 module _ (p : Plan) (faulty first : ℕ) (later : List ℕ) (rounds : ℕ) (words : List ℕ) (places : ℕ) (ys : List Record)
     (room : runCause p faulty first later rounds (length words) places ≡ 0 → p .n ≤ length ys)
-    (t : Turn) (n : ℕ) (begins : t ≡ firstTurn p faulty first later) (turns : n ≡ turnsOf p faulty first later rounds (length words) places) where
+    (t : Turn) (n : ℕ) (begins : t ≡ firstTurn p faulty first later 0) (turns : n ≡ turnsOf p faulty first later rounds (length words) places) where
   abbrev cause : ℕ
   cause = runCause p faulty first later rounds (length words) places
 
@@ -96,7 +96,7 @@ module _ (p : Plan) (faulty first : ℕ) (later : List ℕ) (rounds : ℕ) (word
   no-turns z = turns ∙ sym (turns-refused p faulty first later rounds (length words) places cause refl z)
 
   -- each can be played
-  ready : CanPlay words t ys n
+  ready : CanPlay (recordOf words) t ys n
   ready k l =
       ⊎-elim
       (λ y.
@@ -104,18 +104,18 @@ module _ (p : Plan) (faulty first : ℕ) (later : List ℕ) (rounds : ℕ) (word
       let a = accepted-run p faulty first later rounds (length words) places e in
       turn-placed p (a .plan-sound) faulty first later words (list-rises first later (a .first-said) (a .rises)) (a .fault) ys (room e) rounds (a .forty) k
       (subst (λ (m : ℕ). k < m) (all-turns e) l) _
-      (λ i. playedAfter words (record { turn = begins i; records = ys }) k .turn))
+      (λ i. playedAfter (recordOf words) (record { turn = begins i; records = ys }) k .turn))
       (λ z. absurd (not-suc-le-zero (subst (λ (m : ℕ). k < m) (no-turns z) l)))
       (decide (eqb cause 0))
 
   -- they leave the records after the last round, or where the run is refused those that were there
-  left : (after : List Record) → (cause ≡ 0 → leftAfter words (firstTurn p faulty first later) ys (suc rounds * p .n) ≡ after)
-      → leftAfter words t ys n ≡ pick (eqb cause 0) after ys
+  left : (after : List Record) → (cause ≡ 0 → leftAfter (recordOf words) (firstTurn p faulty first later 0) ys (suc rounds * p .n) ≡ after)
+      → leftAfter (recordOf words) t ys n ≡ pick (eqb cause 0) after ys
   unfolding playedAfter
   left after walk =
       ⊎-elim
-      (λ y. let e = eqb-true cause 0 y in (λ i. leftAfter words (begins i) ys (all-turns e i)) ∙ walk e ∙ sym (pick-yes _ _ _ y))
-      (λ z. ap (leftAfter words t ys) (no-turns z) ∙ sym (pick-no _ _ _ z))
+      (λ y. let e = eqb-true cause 0 y in (λ i. leftAfter (recordOf words) (begins i) ys (all-turns e i)) ∙ walk e ∙ sym (pick-yes _ _ _ y))
+      (λ z. ap (leftAfter (recordOf words) t ys) (no-turns z) ∙ sym (pick-no _ _ _ z))
       (decide (eqb cause 0))
 
 -- ---- the array of twenty
@@ -124,17 +124,17 @@ module _ (p : Plan) (faulty first : ℕ) (later : List ℕ) (rounds : ℕ) (word
   array-room : runCause p faulty first later rounds (length words) (p .n) ≡ 0 → p .n ≤ length (replicate 20 nothingHeard)
   array-room e = let s = sound p (accepted-run p faulty first later rounds (length words) (p .n) e .plan-sound) .twenty in omega (arith, length-replicate 20 nothingHeard)
 
-  pub array-ready : (t : Turn) (n : ℕ) → t ≡ firstTurn p faulty first later → n ≡ turnsOf p faulty first later rounds (length words) (p .n) → (x : Record) → x ≡ nothingHeard
-      → CanPlay words t (replicate 20 x) n
+  pub array-ready : (t : Turn) (n : ℕ) → t ≡ firstTurn p faulty first later 0 → n ≡ turnsOf p faulty first later rounds (length words) (p .n) → (x : Record) → x ≡ nothingHeard
+      → CanPlay (recordOf words) t (replicate 20 x) n
   array-ready t n e f x q =
-      subst (λ (y : Record). CanPlay words t (replicate 20 y) n) (sym q) (ready p faulty first later rounds words (p .n) (replicate 20 nothingHeard) array-room t n e f)
+      subst (λ (y : Record). CanPlay (recordOf words) t (replicate 20 y) n) (sym q) (ready p faulty first later rounds words (p .n) (replicate 20 nothingHeard) array-room t n e f)
 
   -- the turns leave the records that the contract says
-  pub array-left : (t : Turn) (n : ℕ) → t ≡ firstTurn p faulty first later → n ≡ turnsOf p faulty first later rounds (length words) (p .n) → (x : Record) → x ≡ nothingHeard
-      → leftAfter words t (replicate 20 x) n ≡ arrayAfter p faulty first later rounds words
+  pub array-left : (t : Turn) (n : ℕ) → t ≡ firstTurn p faulty first later 0 → n ≡ turnsOf p faulty first later rounds (length words) (p .n) → (x : Record) → x ≡ nothingHeard
+      → leftAfter (recordOf words) t (replicate 20 x) n ≡ arrayAfter p faulty first later rounds words
   unfolding arrayAfter table
   array-left t n e f x q =
-      ap (λ (y : Record). leftAfter words t (replicate 20 y) n) q
+      ap (λ (y : Record). leftAfter (recordOf words) t (replicate 20 y) n) q
       ∙ left p faulty first later rounds words (p .n) (replicate 20 nothingHeard) array-room t n e f (table 20 (λ b. shown (site p faulty (officeOf first later) (scriptOf (p .n) words) rounds b)))
       (λ h.
       let a = accepted-run p faulty first later rounds (length words) (p .n) h in
@@ -161,12 +161,12 @@ module _ (p : Plan) (faulty first : ℕ) (later : List ℕ) (rounds : ℕ) (word
   lent-room : runCause p faulty first later rounds (length words) (length ys) ≡ 0 → p .n ≤ length ys
   lent-room e = let q = accepted-run p faulty first later rounds (length words) (length ys) e .places-fit in omega arith
 
-  pub lent-ready : (t : Turn) (n : ℕ) → t ≡ firstTurn p faulty first later → n ≡ turnsOf p faulty first later rounds (length words) (length ys) → CanPlay words t ys n
+  pub lent-ready : (t : Turn) (n : ℕ) → t ≡ firstTurn p faulty first later 0 → n ≡ turnsOf p faulty first later rounds (length words) (length ys) → CanPlay (recordOf words) t ys n
   lent-ready = ready p faulty first later rounds words (length ys) ys lent-room
 
   -- the turns leave the records that the contract says
-  pub lent-left : (t : Turn) (n : ℕ) → t ≡ firstTurn p faulty first later → n ≡ turnsOf p faulty first later rounds (length words) (length ys)
-      → leftAfter words t ys n ≡ recordsAfter p faulty first later rounds words ys
+  pub lent-left : (t : Turn) (n : ℕ) → t ≡ firstTurn p faulty first later 0 → n ≡ turnsOf p faulty first later rounds (length words) (length ys)
+      → leftAfter (recordOf words) t ys n ≡ recordsAfter p faulty first later rounds words ys
   unfolding recordsAfter
   lent-left t n e f =
       left p faulty first later rounds words (length ys) ys lent-room t n e f (map shown (sites p faulty (officeOf first later) (scriptOf (p .n) words) rounds))

@@ -54,7 +54,7 @@ fn heard(t: Turn, words: &[u32]) -> [u32; 20]
     said
 }
 
-fn start_record(t: Turn) -> Record
+pub(crate) fn start_record(t: Turn) -> Record
     ensures { λ r. ⌜ r ≡ shown (startRecord (t .plan) (t .first) (t .at)) ⌝ }
 {
     let plan = t.plan;
@@ -85,7 +85,7 @@ fn issued(t: Turn, stepped: Record) -> Record
 // The record after the turn. A bad terminal is not played.
 fn record_of(t: Turn, words: &[u32], before: Record) -> Record
     requires { ⌜ (t .plan .n ≤ 20) × (t .at < t .plan .n) × (t .round ≤ 40) ⌝ }
-    ensures { λ r. ⌜ r ≡ recordOf t (now (words .entry)) before ⌝ }
+    ensures { λ r. ⌜ r ≡ recordOf (now (words .entry)) t before ⌝ }
 {
     let plan = t.plan;
     let rows = plan.rows;
@@ -139,6 +139,7 @@ fn next_turn(t: Turn, word: u32) -> Turn
             at: at + 1,
             spoken: spoken,
             next: next,
+            default: t.default,
         };
     }
     Turn {
@@ -150,18 +151,27 @@ fn next_turn(t: Turn, word: u32) -> Turn
         at: 0,
         spoken: next,
         next: [0u32; 20],
+        default: t.default,
+    }
+}
+
+// The turn after one that made a record.
+pub(crate) fn made(t: Turn, after: Record) -> Made
+    requires { ⌜ (t .plan .n ≤ 20) × (t .at < t .plan .n) × (t .round ≤ 40) ⌝ }
+    ensures { λ r. ⌜ r ≡ record { turn = nextTurn t (saysIn (t .round + 1) (after .state)); after = after } ⌝ }
+{
+    let state = after.state;
+    Made {
+        turn: next_turn(t, says_in(t.round + 1, state)),
+        after: after,
     }
 }
 
 // One turn, by value.
 pub(crate) fn play(t: Turn, words: &[u32], before: Record) -> Made
     requires { ⌜ (t .plan .n ≤ 20) × (t .at < t .plan .n) × (t .round ≤ 40) ⌝ }
-    ensures { λ r. ⌜ r ≡ madeOf t (now (words .entry)) before ⌝ }
+    ensures { λ r. ⌜ r ≡ madeOf (recordOf (now (words .entry))) t before ⌝ }
 {
     let after = record_of(t, words, before);
-    let state = after.state;
-    Made {
-        turn: next_turn(t, says_in(t.round + 1, state)),
-        after: after,
-    }
+    made(t, after)
 }

@@ -15,7 +15,7 @@ returns c =
     let a = c .before .before .args in
     ap
     (λ (l : List ℕ).
-    record { plan = a .p; faulty = a .faulty; first = a .first; later = l; round = 0; at = 0; spoken = replicate 20 0; next = replicate 20 0 })
+    record { plan = a .p; faulty = a .faulty; first = a .first; later = l; round = 0; at = 0; spoken = replicate 20 0; next = replicate 20 0; default = 0 })
     (c .carried .ensures)
 
 pub first-turn-spec : {M : Type 1} → statement M

@@ -53,7 +53,7 @@ use Rattle.terminal.specs.declared.Record.{Record}
 use Rattle.terminal.proofs.Record as T
 use Rattle.terminal.proofs.Record.Laws as T′
 use Rattle.simulation.specs.declared.Turn.{Turn}
-use Rattle.simulation.specs.Turns.{CanPlay, leftAfter}
+use Rattle.simulation.specs.Turns.{recordOf, CanPlay, leftAfter}
 use Rattle.simulation.proofs.Turn as C
 use Rattle.simulation.proofs.Turn.Laws as C′
 use Rattle.simulation.proofs.play_turns as play-turns
@@ -117,7 +117,7 @@ module _ {M : Type 1} (𝓤 : URA M) (H : Heap 𝓤) (A : Atoms 𝓤) (W : Given
 abbrev PlayTurns : {M : Type 1} (𝓤 : URA M) (H : Heap 𝓤) (A : Atoms 𝓤) (mem : Memory → SProp 𝓤) (run : Routine → Fun 𝓤) → Contract 𝓤
 PlayTurns 𝓤 H A mem run = tripleOf 𝓤 H A play-turns.signature (play-turns.spec 𝓤 H A mem run)
 
-module _ {M : Type 1} (𝓤 : URA M) (H : Heap 𝓤) (A : Atoms 𝓤) (W : Given 𝓤 H A) (mem : Memory → SProp 𝓤) (run : Routine → Fun 𝓤) (κ : Lft) (q : Share) (c : Turn) (n : ℕ) (t : RefT (List ℕ)) (xs : List Record) (is-c : Is Q c (cval c ∷ [])) (n-fits : n < 2 ^ 64) (room₁ : Room u32 (length (t .now))) (is-xs : Is Rs xs (machs xs)) (can : CanPlay (t .now) c xs n) where
+module _ {M : Type 1} (𝓤 : URA M) (H : Heap 𝓤) (A : Atoms 𝓤) (W : Given 𝓤 H A) (mem : Memory → SProp 𝓤) (run : Routine → Fun 𝓤) (κ : Lft) (q : Share) (c : Turn) (n : ℕ) (t : RefT (List ℕ)) (xs : List Record) (is-c : Is Q c (cval c ∷ [])) (n-fits : n < 2 ^ 64) (room₁ : Room u32 (length (t .now))) (is-xs : Is Rs xs (machs xs)) (can : CanPlay (recordOf (t .now)) c xs n) where
   -- the words' slice: its machine value, and what it owns
   abbrev v : Val
   v = sliceVal (t .ptr) (length (t .now))
@@ -134,7 +134,7 @@ module _ {M : Type 1} (𝓤 : URA M) (H : Heap 𝓤) (A : Atoms 𝓤) (W : Given
   abbrev Post : Val → SProp 𝓤
   Post = walkOf 𝓤 H A play-array.ended stayed (play-array.clauses 𝓤 H A mem run) .post (((κ, tt), (q, tt), tt, a, at), tt)
 
-  exits : (ys : List Record) → ys ≡ leftAfter (t .now) c xs n → ent 𝓤 (sep 𝓤 (A .lft κ q) (sem 𝓤 H A (Rs .own ys (machs ys)))) (Post (mach ys))
+  exits : (ys : List Record) → ys ≡ leftAfter (recordOf (t .now)) c xs n → ent 𝓤 (sep 𝓤 (A .lft κ q) (sem 𝓤 H A (Rs .own ys (machs ys)))) (Post (mach ys))
   exits ys e =
       qed W (‵ (flft κ q) ∷ ‵ (Rs .own ys (machs ys)) ∷ []) ∵
       suffices ! _ (ends-at 𝓤 H A play-array.ended stayed (play-array.clauses 𝓤 H A mem run) W (((κ, tt), (q, tt), tt, a, at), tt) (mach ys) ys (tt, (tt, (tt, (tt, tt)))) (tt, (tt, (tt, (tt, tt))))) $ says ! e $
@@ -191,8 +191,8 @@ module _ {M : Type 1} (𝓤 : URA M) (H : Heap 𝓤) (A : Atoms 𝓤) (W : Given
         -- [what `play_turns` asks; the lender's part; true; _8; …; _7; …; _6; …; that _5 dies; _4; …; _0; …]
         calls-at ! fm (PlayTurns 𝓤 H A mem run) known (to-turns l₅ ν δ) (and-then ! (load ! (from ! (stop !)) (look ! 16 refl)) (and-then ! (load ! (from ! (stop !)) (look ! 14 refl)) (and-then ! (load ! (from ! (stop !)) (look ! 12 refl)) (and-then ! (load ! (from ! (stop !)) (look ! 3 refl)) (no-more !))))) (λ w.
         use1 W (later (some (λ (u : Unit {0}). ((‵ (flft κ q) ⊛ ‵ (flft (ν ∷ []) fullShare) ⊛ ‵ ftrue) ⊛ ‵ (unit .own u (w ∷ []))) ⊛ raw (ensured 𝓤 H A play-turns.ended (play-turns.clauses 𝓤 H A mem run) (κ, (ν ∷ [], tt)) (given l₅ ν δ) tt u)))) (id⊢ 𝓤 _) $ await ! tt $ pick ! (λ u.
-        split ! $ move ! (1 ∷ []) $ use1 W (some (λ (ws : Unit {0} × (Unit {0} × (Unit {0} × (List Record × Unit {0})))). ‵ (lasts play-turns.ended (κ, (ν ∷ [], tt)) (given l₅ ν δ) ws) ⊛ raw (fact 𝓤 (ws .1 .1 .1 .0 ≡ leftAfter (t .now) c xs n)))) (id⊢ 𝓤 _) $ pick ! (λ ws.
-        split ! $ move ! (1 ∷ []) $ heard ! (ws .1 .1 .1 .0 ≡ leftAfter (t .now) c xs n) (λ e. fsplit ! $ drop ! $ fsplit ! $ drop ! $ fsplit ! $ drop ! $ fsplit ! $ fsplit ! $ move ! (1 ∷ []) $ feqL ! (λ l.
+        split ! $ move ! (1 ∷ []) $ use1 W (some (λ (ws : Unit {0} × (Unit {0} × (Unit {0} × (List Record × Unit {0})))). ‵ (lasts play-turns.ended (κ, (ν ∷ [], tt)) (given l₅ ν δ) ws) ⊛ raw (fact 𝓤 (ws .1 .1 .1 .0 ≡ leftAfter (recordOf (t .now)) c xs n)))) (id⊢ 𝓤 _) $ pick ! (λ ws.
+        split ! $ move ! (1 ∷ []) $ heard ! (ws .1 .1 .1 .0 ≡ leftAfter (recordOf (t .now)) c xs n) (λ e. fsplit ! $ drop ! $ fsplit ! $ drop ! $ fsplit ! $ drop ! $ fsplit ! $ fsplit ! $ move ! (1 ∷ []) $ feqL ! (λ l.
         move ! (2 ∷ []) $ split ! $ move ! (1 ∷ []) $ peeks ! unit (Is unit) (shows 𝓤 H A unit) u (w ∷ []) (λ is.
         land ! (from ! (stop !)) (init ! 10 refl (nothing-lawful 𝓤 H A W .typed u _ is .0)) $
         -- the lifetime is ended, and the array comes back at the last list
@@ -211,7 +211,7 @@ module _ {M : Type 1} (𝓤 : URA M) (H : Heap 𝓤) (A : Atoms 𝓤) (W : Given
   play-array-walks : Walks 𝓤 H A play-array.ended stayed (WpFn 𝓤 H (𝓣 .C) (𝓣 .Λ) code.function) (play-array.clauses 𝓤 H A mem run)
   play-array-walks = walked 𝓤 H A play-array.ended stayed (play-array.clauses 𝓤 H A mem run) (WpFn 𝓤 H (𝓣 .C) (𝓣 .Λ) code.function)
       (λ κs. (LL.vals C.the-type C′.the-laws, (uint-vals w64, (slice-vals, (machs, tt))))) (λ κs. (LL.tells C.the-type C′.the-laws, (uint-tells w64, (shr-slice-tells (named 0) (κs .0) u32, (tells 𝓤 H A W, tt)))))
-      (λ κs qs bounds a g are. needs 𝓤 (CanPlay (a .1 .1 .0 .now) (a .0) (a .1 .1 .1 .0) (a .1 .0)) _ (λ can.
+      (λ κs qs bounds a g are. needs 𝓤 (CanPlay (recordOf (a .1 .1 .0 .now)) (a .0) (a .1 .1 .1 .0) (a .1 .0)) _ (λ can.
       goes 𝓤 H A W mem run (κs .0) (qs .0) (a .0) (a .1 .0) (a .1 .1 .0) (a .1 .1 .1 .0) (are .0) (are .1 .0 .1) (are .1 .1 .0 .0 .1) (are .1 .1 .1 .0) can (𝓣 .C) (𝓣 .Λ) (fmOf 𝓤 H (W .laws) 𝓣) known))
 
   play-array-meets : Meets 𝓤 H A play-array.signature (WpFn 𝓤 H (𝓣 .C) (𝓣 .Λ) code.function) (play-array.spec 𝓤 H A mem run)

@@ -56,7 +56,7 @@ use Rattle.terminal.proofs.Record as T
 use Rattle.terminal.proofs.Record.Laws as T′
 use Rattle.simulation.specs.declared.Turn.{Turn}
 use Rattle.simulation.specs.declared.Made.{Made}
-use Rattle.simulation.specs.Turns.{madeOf, Played, playedAfter, Ready, CanPlay}
+use Rattle.simulation.specs.Turns.{recordOf, madeOf, Played, playedAfter, Ready, CanPlay}
 use Rattle.simulation.proofs.Walk.{turn-on, played-length}
 use Rattle.simulation.proofs.Turn as C
 use Rattle.simulation.proofs.Turn.Laws as C′
@@ -108,10 +108,10 @@ module _ {M : Type 1} (𝓤 : URA M) (H : Heap 𝓤) (A : Atoms 𝓤) (mem : Mem
   abbrev Play : Contract 𝓤
   Play = tripleOf 𝓤 H A play.signature (play.spec 𝓤 H A mem run)
 
-  said : (κ : Lft) (d : Turn) (t : RefT (List ℕ)) (r : Record) (m : Made) → ent 𝓤 (ensured 𝓤 H A play.ended (play.clauses 𝓤 H A mem run) (κ, tt) (d, (t, (r, tt))) tt m) (fact 𝓤 (m ≡ madeOf d (t .now) r))
-  said κ d t r m = exE 𝓤 _ (λ ws. snd∗ 𝓤 (sem 𝓤 H A (lasts play.ended (κ, tt) (d, (t, (r, tt))) ws)) (fact 𝓤 (m ≡ madeOf d (t .now) r)))
+  said : (κ : Lft) (d : Turn) (t : RefT (List ℕ)) (r : Record) (m : Made) → ent 𝓤 (ensured 𝓤 H A play.ended (play.clauses 𝓤 H A mem run) (κ, tt) (d, (t, (r, tt))) tt m) (fact 𝓤 (m ≡ madeOf (recordOf (t .now)) d r))
+  said κ d t r m = exE 𝓤 _ (λ ws. snd∗ 𝓤 (sem 𝓤 H A (lasts play.ended (κ, tt) (d, (t, (r, tt))) ws)) (fact 𝓤 (m ≡ madeOf (recordOf (t .now)) d r)))
 
-module _ {M : Type 1} (𝓤 : URA M) (H : Heap 𝓤) (A : Atoms 𝓤) (W : Given 𝓤 H A) (mem : Memory → SProp 𝓤) (run : Routine → Fun 𝓤) (κ₁ κ : Lft) (q₁ q : Share) (c : Turn) (n : ℕ) (t : RefT (List ℕ)) (b o : ℕ) (γ : GName) (ys : List Record) (is-c : Is Q c (cval c ∷ [])) (n-fits : n < 2 ^ 64) (room₁ : Room u32 (length (t .now))) (room : Room R (length ys)) (ready : CanPlay (t .now) c ys n) where
+module _ {M : Type 1} (𝓤 : URA M) (H : Heap 𝓤) (A : Atoms 𝓤) (W : Given 𝓤 H A) (mem : Memory → SProp 𝓤) (run : Routine → Fun 𝓤) (κ₁ κ : Lft) (q₁ q : Share) (c : Turn) (n : ℕ) (t : RefT (List ℕ)) (b o : ℕ) (γ : GName) (ys : List Record) (is-c : Is Q c (cval c ∷ [])) (n-fits : n < 2 ^ 64) (room₁ : Room u32 (length (t .now))) (room : Room R (length ys)) (ready : CanPlay (recordOf (t .now)) c ys n) where
   abbrev bs : List ℕ
   bs = t .now
 
@@ -145,16 +145,16 @@ module _ {M : Type 1} (𝓤 : URA M) (H : Heap 𝓤) (A : Atoms 𝓤) (W : Given
   from-here = record { turn = c; records = ys }
 
   abbrev zs : ℕ → List Record
-  zs k = playedAfter bs from-here k .records
+  zs k = playedAfter (recordOf bs) from-here k .records
 
   abbrev ds : ℕ → Turn
-  ds k = playedAfter bs from-here k .turn
+  ds k = playedAfter (recordOf bs) from-here k .turn
 
   abbrev elem : ℕ → Record
   elem k = getD (zs k) (ds k .at) nothingHeard
 
   lengths : (k : ℕ) → length (zs k) ≡ length ys
-  lengths k = played-length bs from-here k
+  lengths k = played-length (recordOf bs) from-here k
 
   exits : (k : ℕ) → k ≡ n → ent 𝓤 (⋆ 𝓤 H A (‵ (fobs γ (codedHoleys R .code (heres R (zs k)))) ∷ ‵ (fbor κ (Held R (length (zs k)) b o γ)) ∷ ‵ (flft κ q) ∷ ‵ (flft κ₁ q₁) ∷ ‵ Own ∷ [])) (Post vunit)
   exits k e =
@@ -190,11 +190,11 @@ module _ {M : Type 1} (𝓤 : URA M) (H : Heap 𝓤) (A : Atoms 𝓤) (W : Given
   fields m w is = (LL.owed D.the-type D′.the-laws m (w ∷ []) is .0, LL.owed D.the-type D′.the-laws m (w ∷ []) is .1 .0)
 
   -- one turn on
-  on-records : (k : ℕ) (m : Made) → m ≡ madeOf (ds k) bs (elem k) → set (zs k) (ds k .at) (m .after) ≡ zs (k + 1)
-  on-records k m e = ap (λ (z : Played). z .records) (turn-on bs from-here k (ds k) (zs k) m refl e)
+  on-records : (k : ℕ) (m : Made) → m ≡ madeOf (recordOf bs) (ds k) (elem k) → set (zs k) (ds k .at) (m .after) ≡ zs (k + 1)
+  on-records k m e = ap (λ (z : Played). z .records) (turn-on (recordOf bs) from-here k (ds k) (zs k) m refl e)
 
-  on-turn : (k : ℕ) (m : Made) → m ≡ madeOf (ds k) bs (elem k) → m .turn ≡ ds (k + 1)
-  on-turn k m e = ap (λ (z : Played). z .turn) (turn-on bs from-here k (ds k) (zs k) m refl e)
+  on-turn : (k : ℕ) (m : Made) → m ≡ madeOf (recordOf bs) (ds k) (elem k) → m .turn ≡ ds (k + 1)
+  on-turn k m e = ap (λ (z : Played). z .turn) (turn-on (recordOf bs) from-here k (ds k) (zs k) m refl e)
 
   abbrev Upto : Type 0
   Upto = (k : ℕ) × ((k ≤ n) × Is Q (ds k) (cval (ds k) ∷ []))
@@ -251,7 +251,7 @@ module _ {M : Type 1} (𝓤 : URA M) (H : Heap 𝓤) (A : Atoms 𝓤) (W : Given
         use2 W (raw (Play 𝓤 H A mem run .pre (to-play (ds (k .0)) (elem (k .0))))) (goes-play (ds (k .0)) (elem (k .0)) (can .twenty, can .within, can .early) (k .1 .1) g) $
         calls-at ! fm (Play 𝓤 H A mem run) known (to-play (ds (k .0)) (elem (k .0))) (and-then ! (load ! (from ! (stop !)) (look ! 22 refl)) (and-then ! (load ! (from ! (stop !)) (look ! 26 refl)) (and-then ! (load ! (from ! (stop !)) (look ! 10 refl)) (no-more !)))) (λ w.
         use1 W (later (some (λ (m : Made). ((‵ (flft κ₁ q₁) ⊛ ‵ ftrue) ⊛ ‵ (D.the-row .own m (w ∷ []))) ⊛ raw (ensured 𝓤 H A play.ended (play.clauses 𝓤 H A mem run) (κ₁, tt) (ds (k .0), (t, (elem (k .0), tt))) tt m)))) (id⊢ 𝓤 _) $ await ! tt $ pick ! (λ m.
-        split ! $ move ! (1 ∷ []) $ use1 W (raw (fact 𝓤 (m ≡ madeOf (ds (k .0)) bs (elem (k .0))))) (said 𝓤 H A mem run κ₁ (ds (k .0)) t (elem (k .0)) m) $ heard ! (m ≡ madeOf (ds (k .0)) bs (elem (k .0))) (λ e. split ! $ split ! $
+        split ! $ move ! (1 ∷ []) $ use1 W (raw (fact 𝓤 (m ≡ madeOf (recordOf bs) (ds (k .0)) (elem (k .0))))) (said 𝓤 H A mem run κ₁ (ds (k .0)) t (elem (k .0)) m) $ heard ! (m ≡ madeOf (recordOf bs) (ds (k .0)) (elem (k .0))) (λ e. split ! $ split ! $
         move ! (2 ∷ 4 ∷ 5 ∷ 6 ∷ 7 ∷ 8 ∷ 9 ∷ 10 ∷ 11 ∷ 12 ∷ 13 ∷ 14 ∷ 15 ∷ 16 ∷ 17 ∷ 18 ∷ 19 ∷ 20 ∷ 21 ∷ 22 ∷ 23 ∷ 24 ∷ 25 ∷ 26 ∷ 27 ∷ 28 ∷ 29 ∷ 30 ∷ 31 ∷ 32 ∷ 33 ∷ 34 ∷ 35 ∷ []) $
         peeks ! D.the-row (Is D.the-row) (shows 𝓤 H A D.the-row) m (w ∷ []) (λ is.
         land ! (from ! (stop !)) (init ! 17 refl (typed-m m w is)) $ rewrite ! 17 (λ (u : Val). ‵ (fat fullShare D′.mir l₇ 0 u)) (ap only (LL.tells D.the-type D′.the-laws m (w ∷ []) is)) refl $ drop ! $
@@ -324,7 +324,7 @@ module _ {M : Type 1} (𝓤 : URA M) (H : Heap 𝓤) (A : Atoms 𝓤) (W : Given
   play-turns-walks : Walks 𝓤 H A play-turns.ended stayed (WpFn 𝓤 H (𝓣 .C) (𝓣 .Λ) code.function) (play-turns.clauses 𝓤 H A mem run)
   play-turns-walks = walked 𝓤 H A play-turns.ended stayed (play-turns.clauses 𝓤 H A mem run) (WpFn 𝓤 H (𝓣 .C) (𝓣 .Λ) code.function)
       (λ κs. (LL.vals C.the-type C′.the-laws, (uint-vals w64, (slice-vals, (slice-vals, tt))))) (λ κs. (LL.tells C.the-type C′.the-laws, (uint-tells w64, (shr-slice-tells (named 0) (κs .0) u32, (mut-slice-tells (named 1) (κs .1 .0) R, tt)))))
-      (λ κs qs bounds a g are. needs 𝓤 (CanPlay (a .1 .1 .0 .now) (a .0) (a .1 .1 .1 .0 .now) (a .1 .0)) _ (λ ready.
+      (λ κs qs bounds a g are. needs 𝓤 (CanPlay (recordOf (a .1 .1 .0 .now)) (a .0) (a .1 .1 .1 .0 .now) (a .1 .0)) _ (λ ready.
       goes 𝓤 H A W mem run (κs .0) (κs .1 .0) (qs .0) (qs .1 .0) (a .0) (a .1 .0) (a .1 .1 .0) (a .1 .1 .1 .0 .ptr .0) (a .1 .1 .1 .0 .ptr .1) (a .1 .1 .1 .0 .name) (a .1 .1 .1 .0 .now)
       (are .0) (are .1 .0 .1) (are .1 .1 .0 .0 .1) (are .1 .1 .1 .0 .0 .1) ready 𝓣 (fmOf 𝓤 H (W .laws) 𝓣) known))
 

@@ -47,7 +47,7 @@ use Rattle.plan.proofs.Plan.Laws as P′
 use Rattle.simulation.specs.declared.Outcome.{Outcome}
 use Rattle.simulation.specs.declared.Turn.{Turn}
 use Rattle.simulation.specs.declared.Begun.{Begun}
-use Rattle.simulation.specs.Turns.{firstTurn, CanPlay, leftAfter}
+use Rattle.simulation.specs.Turns.{recordOf, firstTurn, CanPlay, leftAfter}
 use Rattle.simulation.specs.Answer.{numberOf, runCause, turnsOf, recordsAfter, Demand3Holds}
 use Rattle.simulation.proofs.Promise.{lent-left, lent-ready, lent-promised}
 use Rattle.simulation.proofs.Outcome as O
@@ -99,7 +99,7 @@ three 𝓤 P E F G = via 𝓤 _ (assoc∗ 𝓤 (sep 𝓤 P E) F G) (assoc∗ �
 
 -- what `begin` ensures
 abbrev Judged : Plan → ℕ → ℕ → List ℕ → ℕ → ℕ → ℕ → Begun → Type 0
-Judged p f v ls r words places m = (numberOf (m .outcome) ≡ runCause p f v ls r words places) × (m .turn ≡ firstTurn p f v ls) × (m .turns ≡ turnsOf p f v ls r words places)
+Judged p f v ls r words places m = (numberOf (m .outcome) ≡ runCause p f v ls r words places) × (m .turn ≡ firstTurn p f v ls 0) × (m .turns ≡ turnsOf p f v ls r words places)
 
 -- what `run` ensures
 abbrev Ended : Plan → ℕ → ℕ → List ℕ → ℕ → List ℕ → List Record → Outcome → List Record → Type 0
@@ -179,7 +179,7 @@ module _ {M : Type 1} (𝓤 : URA M) (H : Heap 𝓤) (A : Atoms 𝓤) (W : Given
   abbrev to-turns : Begun → PlayTurns 𝓤 H A mem run .Ghost
   to-turns m = (((κ₁, (κ, tt)), (q₁, (q, tt)), tt, given-turns m, (cval (m .turn) ∷ [], (vint w64 (m .turns) ∷ [], (wv ∷ [], (s ∷ [], tt))))), tt)
 
-  goes-turns : (m : Begun) → CanPlay bs (m .turn) ys (m .turns) → Is C.the-row (m .turn) (cval (m .turn) ∷ []) → m .turns < 2 ^ 64
+  goes-turns : (m : Begun) → CanPlay (recordOf bs) (m .turn) ys (m .turns) → Is C.the-row (m .turn) (cval (m .turn) ∷ []) → m .turns < 2 ^ 64
       → ent 𝓤 (sep 𝓤 (sep 𝓤 (A .lft κ₁ q₁) (sep 𝓤 (A .lft κ q) (sem 𝓤 H A ftrue))) (sep 𝓤 (sem 𝓤 H A Own) (sem 𝓤 H A OwnM))) (PlayTurns 𝓤 H A mem run .pre (to-turns m))
   goes-turns m can is fits =
       qed W ((‵ (flft κ₁ q₁) ⊛ ‵ (flft κ q) ⊛ ‵ ftrue) ∷ ‵ Own ∷ ‵ OwnM ∷ []) ∵ says ! can $ frame ! $
@@ -196,7 +196,7 @@ module _ {M : Type 1} (𝓤 : URA M) (H : Heap 𝓤) (A : Atoms 𝓤) (W : Given
   fields : (m : Begun) (w : Val) → Is B.the-row m (w ∷ []) → Is O.the-row (m .outcome) (oval (m .outcome) ∷ []) × Is C.the-row (m .turn) (cval (m .turn) ∷ []) × (m .turns < 2 ^ 64)
   fields m w is = let g = LL.owed B.the-type B′.the-laws m (w ∷ []) is in (g .0, g .1 .0, g .1 .1 .0 .1)
 
-  ended : (m : Begun) (zs : List Record) → Judged p f v ls r (length bs) (length ys) m → zs ≡ leftAfter bs (m .turn) ys (m .turns) → Ended p f v ls r bs ys (m .outcome) zs
+  ended : (m : Begun) (zs : List Record) → Judged p f v ls r (length bs) (length ys) m → zs ≡ leftAfter (recordOf bs) (m .turn) ys (m .turns) → Ended p f v ls r bs ys (m .outcome) zs
   ended m zs e z =
       let left : zs ≡ recordsAfter p f v ls r bs ys = z ∙ lent-left p f v ls r bs ys (m .turn) (m .turns) (e .1) (e .2) in
       (e .0, left, λ h. lent-promised p f v ls r bs ys (sym (e .0) ∙ h) zs left)
@@ -231,8 +231,8 @@ module _ {M : Type 1} (𝓤 : URA M) (H : Heap 𝓤) (A : Atoms 𝓤) (W : Given
         -- [what `play_turns` asks; true; what the words own; _13; …; _0; …; the notices' token]
         calls-at ! fm (PlayTurns 𝓤 H A mem run) known-t (to-turns m) (and-then ! (load ! (from ! (fld ! refl (stop !))) (look-in ! 13 (sub ! 1 refl (whole !)))) (and-then ! (load ! (from ! (fld ! refl (stop !))) (look-in ! 13 (sub ! 2 refl (whole !)))) (and-then ! (load ! (from ! (stop !)) (look ! 17 refl)) (and-then ! (load ! (from ! (stop !)) (look ! 3 refl)) (no-more !))))) (λ w₂.
         use1 W (later (some (λ (u : Unit {0}). ((‵ (flft κ₁ q₁) ⊛ ‵ (flft κ q) ⊛ ‵ ftrue) ⊛ ‵ (unit .own u (w₂ ∷ []))) ⊛ raw (ensured 𝓤 H A play-turns.ended (play-turns.clauses 𝓤 H A mem run) (κ₁, (κ, tt)) (given-turns m) tt u)))) (id⊢ 𝓤 _) $ await ! tt $ pick ! (λ u.
-        split ! $ move ! (1 ∷ []) $ use1 W (some (λ (ws : Unit {0} × (Unit {0} × (Unit {0} × (List Record × Unit {0})))). ‵ (lasts play-turns.ended (κ₁, (κ, tt)) (given-turns m) ws) ⊛ raw (fact 𝓤 (ws .1 .1 .1 .0 ≡ leftAfter bs (m .turn) ys (m .turns))))) (id⊢ 𝓤 _) $ pick ! (λ ws.
-        split ! $ move ! (1 ∷ []) $ heard ! (ws .1 .1 .1 .0 ≡ leftAfter bs (m .turn) ys (m .turns)) (λ z. fsplit ! $ drop ! $ fsplit ! $ drop ! $ fsplit ! $ drop ! $ fsplit ! $ fsplit ! $ move ! (1 ∷ []) $ feqL ! (λ l.
+        split ! $ move ! (1 ∷ []) $ use1 W (some (λ (ws : Unit {0} × (Unit {0} × (Unit {0} × (List Record × Unit {0})))). ‵ (lasts play-turns.ended (κ₁, (κ, tt)) (given-turns m) ws) ⊛ raw (fact 𝓤 (ws .1 .1 .1 .0 ≡ leftAfter (recordOf bs) (m .turn) ys (m .turns))))) (id⊢ 𝓤 _) $ pick ! (λ ws.
+        split ! $ move ! (1 ∷ []) $ heard ! (ws .1 .1 .1 .0 ≡ leftAfter (recordOf bs) (m .turn) ys (m .turns)) (λ z. fsplit ! $ drop ! $ fsplit ! $ drop ! $ fsplit ! $ drop ! $ fsplit ! $ fsplit ! $ move ! (1 ∷ []) $ feqL ! (λ l.
         -- [the last list; true; the tokens and the result; true; what the words own; _13; …; _0; …; the notices' token]
         move ! (2 ∷ []) $ split ! $ move ! (1 ∷ []) $ peeks ! unit (Is unit) (shows 𝓤 H A unit) u (w₂ ∷ []) (λ is₂.
         land ! (from ! (stop !)) (init ! 10 refl (nothing-lawful 𝓤 H A W .typed u _ is₂ .0)) $
