@@ -91,8 +91,8 @@ otherForm p form = isStarted p and not (eqb (formOf form) (formOf (p .form)))
 unfoldable pub isShared : Progress → Bool
 isShared p = not (eqb (p .default) 0)
 
--- a frame of this form gets 2: the start was of the other one, or the channel is shared, from which frames with an edition and words that name a hearer are
--- barred
+-- a frame of this form is refused by 2: the start was of the other one; or the channel is shared and the frame is barred from it, as one with an edition
+-- is, and a word that names a hearer
 unfoldable pub wrongForm : Progress → Form → (barred : Bool) → Bool
 wrongForm p form barred = otherForm p form or (isShared p and barred)
 
@@ -174,7 +174,7 @@ groupCause p s =
 unfoldable pub channelCause : Progress → Layout → ℕ
 channelCause p layout = firstCause (not (inPlan p) gives 3 ∷ eqb layout 0 gives 9 ∷ [])
 
--- 7 and 8 are those of a library call: on a shared channel that for a source that may be bad
+-- 7 and 8 are those of a library call; on a shared channel, of the one by which the source may be bad too
 unfoldable pub badSetCause : Progress → (s : Set) → ℕ
 badSetCause p s = pick (isShared p) (sharedFaultCauseOf (p .plan) s) (faultCauseOf (p .plan) s)
 
@@ -217,7 +217,7 @@ messageCause p words form round from to edition layout =
     ∷ not (eqb (getD words (placeOf (p .plan .n) round from to) 0) 0) gives 11
     ∷ [])
 
--- on a shared channel a word names no hearer: a bad sender says it in a round that is played, to all who hear it or to nobody
+-- on a shared channel a word names no hearer: one in a round that is played, from a bad sender, whoever hears it, and not silence
 unfoldable pub isBroadcast : Progress → (round : ℕ) (from : Terminal) → Layout → Bool
 isBroadcast p round from layout =
     leb 1 round and leb round (p .rounds) and ltb from (p .plan .n) and mem from (p .faulty) and not (eqb layout 0)

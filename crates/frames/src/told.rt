@@ -199,7 +199,7 @@ fn group(p: Progress, s: u32) -> Told
     }
 }
 
-// The default layout of a shared channel.
+// The default layout of a shared channel: it comes once, where links and groups end.
 fn channel(p: Progress, layout: u16) -> Told
     ensures { λ r. ⌜ (r .cause ≡ channelCause p layout) × (r .cause ≡ 0 → r .progress ≡ after p (Channel layout)) ⌝ }
 {
@@ -234,7 +234,7 @@ fn bad_set_cause(p: Progress, s: u32) -> u8
     faults::number(faults::check_fault_set(plan, s))
 }
 
-// After links, groups and a default layout, and before all else.
+// The same for a bad set in its place, which is after links, groups and a default layout.
 fn fault_set_cause(p: Progress, s: u32) -> u8
     ensures { λ r. ⌜ r ≡ faultSetCause p s ⌝ }
 {
