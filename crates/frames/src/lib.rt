@@ -146,8 +146,8 @@ pub(crate) fn has_edition(form: Form) -> bool
     }
 }
 
-// One channel is shared by all.
-pub(crate) fn is_shared(p: Progress) -> bool
+// One channel is shared by all: a default layout was given.
+pub fn is_shared(p: Progress) -> bool
     ensures { λ r. ⌜ r ≡ isShared p ⌝ }
 {
     p.default != 0
