@@ -9,14 +9,14 @@ use Rattle.quorum.specs.Notice.{noticeOf}
 use Rattle.lines.specs.declared.Form.{Form}
 use Rattle.lines.specs.declared.Rounds.{Rounds}
 use Rattle.lines.specs.declared.Frame.{Frame}
-use Rattle.lines.specs.declared.Frame.the-variants.{Foreign, Unknown, Head, Link, Group, FaultSet, Start, Later, Message}
+use Rattle.lines.specs.declared.Frame.the-variants.{Foreign, Unknown, Head, Link, Group, Channel, FaultSet, Start, Later, Message, Broadcast}
 use Rattle.lines.specs.Frames.{frameOf}
 use Rattle.frames.specs.declared.Progress.{Progress}
 use Rattle.frames.specs.declared.Reader.{Reader}
 use Rattle.frames.specs.Lines.{Line, ended, cut, linesFrom}
 use Rattle.frames.specs.Reading.{runKinds, runReader, stageOf, roundsOf, nothingRead, Lists, noLater, nothingSaid, causeIn, after, saidAfter, Reading, told, reading, runReading}
 use Rattle.frames.specs.Tells.{Tells, NoLater}
-use Rattle.frames.proofs.Keeps.{head-accepted, link-accepted, group-accepted, fault-set-accepted, start-accepted, line-read, end-read, told-keeps, text-read}
+use Rattle.frames.proofs.Keeps.{head-accepted, link-accepted, group-accepted, channel-accepted, fault-set-accepted, start-accepted, line-read, end-read, told-keeps, text-read}
 use Rattle.frames.proofs.Accepted.{run-is}
 
 -- ---- the start
@@ -27,7 +27,7 @@ Started form edition layout rounds p = (p .notice ≡ noticeOf edition layout) �
 
 module _ (reader : Reader) (form : Form) (edition layout : ℕ) (rounds : Rounds) where
   abbrev Known : Progress → Type 0
-  Known p = (4 ≤ stageOf (p .stage)) × Started form edition layout rounds p
+  Known p = (5 ≤ stageOf (p .stage)) × Started form edition layout rounds p
 
   -- after it only later notices and words are accepted, and it stays
   frame-stays : (p : Progress) (said : Lists) (frame : Frame) → Known p → causeIn p said frame ≡ 0 → Known (after p frame)
@@ -37,10 +37,12 @@ module _ (reader : Reader) (form : Form) (edition layout : ℕ) (rounds : Rounds
   frame-stays p said (Head n source f) s h = absurd (omega (arith, s .0, head-accepted p said n source f h .0))
   frame-stays p said (Link from to) s h = absurd (omega (arith, s .0, link-accepted p said from to h .0))
   frame-stays p said (Group x) s h = absurd (omega (arith, s .0, group-accepted p said x h .1))
+  frame-stays p said (Channel l) s h = absurd (omega (arith, s .0, channel-accepted p said l h .1))
   frame-stays p said (FaultSet x) s h = absurd (omega (arith, s .0, fault-set-accepted p said x h .1))
   frame-stays p said (Start f e l r) s h = absurd (omega (arith, s .0, start-accepted p said f e l r h .0))
   frame-stays p said (Later r e l) s h = (omega arith, s .1)
   frame-stays p said (Message f r from to e l) s h = (omega arith, s .1)
+  frame-stays p said (Broadcast r from l) s h = (omega arith, s .1)
 
   -- the rest is told after it
   start-here : (p : Progress) (said : Lists) (k : ℕ) (frame : Frame) (rest : List Line) → frame ≡ Start form edition layout rounds
@@ -83,10 +85,12 @@ same-later p said Unknown n = refl
 same-later p said (Head t source f) n = refl
 same-later p said (Link from to) n = refl
 same-later p said (Group x) n = refl
+same-later p said (Channel layout) n = refl
 same-later p said (FaultSet x) n = refl
 same-later p said (Start form edition layout rounds) n = refl
 same-later p said (Later round edition layout) n = absurd (n round edition layout refl)
 same-later p said (Message form round from to edition layout) n = refl
+same-later p said (Broadcast round from layout) n = refl
 
 told-no-later : (reader : Reader) (p : Progress) (said : Lists) (k : ℕ) (lines : List Line) → NoLater (reader .kinds) lines
     → told reader p said k lines .number ≡ 0 → told reader p said k lines .said .later ≡ said .later
