@@ -371,13 +371,13 @@ fn begin_shared(
         return Begun {
             outcome: Outcome::Played,
             turn: turn,
-            turns: ((rounds as usize) + 1) * p.n,
+            turns: ((rounds as usize) + 1usize) * p.n,
         };
     }
     Begun {
         outcome: outcome,
         turn: turn,
-        turns: 0,
+        turns: 0usize,
     }
 }
 
