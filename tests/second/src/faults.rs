@@ -12,7 +12,7 @@ use crate::run::issue;
 use crate::sites::{site_case, Site};
 use crate::step::{step, Record, Row, State};
 use crate::steps::{step_case, StepCase};
-use crate::{planted, planted_notices};
+use crate::{planted, planted_notices, planted_shared};
 
 /// The place that is broken. Normal use is `None`.
 #[derive(Clone, Copy, Debug, PartialEq, Eq)]
@@ -220,12 +220,94 @@ pub enum Fault {
     IssueRaisesRound,
     IssueClearsNotes,
     IssueLooksAtNotes,
+    ModeKnownAtStart,
+    NoticeInModeAccepted,
+    DefaultLengthNotChecked,
+    DefaultAfterStartUnknown,
+    EditionStartInMode,
+    SecondStartInModeUnknown,
+    HearerInModeAccepted,
+    EditionWordInModeAccepted,
+    NoHearerAccepted,
+    NoHearerInNewRunAccepted,
+    NoHearerBeforeModeUnknown,
+    DefaultUnknown,
+    DefaultKnownInPlans,
+    DefaultNoPlace,
+    LinkAfterDefaultAccepted,
+    GroupAfterDefaultAccepted,
+    SecondDefaultAccepted,
+    DefaultAfterBadSetAccepted,
+    DefaultAfterStartAccepted,
+    DefaultZeroAccepted,
+    DefaultZeroBeforeOrder,
+    BadSourceMayNotSpeak,
+    SharedGoodSenderAccepted,
+    SharedSenderOutsideAccepted,
+    SharedTwiceAccepted,
+    SharedTwiceInAnyRound,
+    SharedTwiceByAnySender,
+    SharedPastLastAccepted,
+    SharedTwiceBeforeWord,
+    UnheardSenderRefused,
+    SharedZeroAccepted,
+    FirstRoundNotNoted,
+    CarriedInRoundZero,
+    DefaultNoted,
+    SourceWordInAnyRound,
+    DefaultInSecondRound,
+    TakenTakesCarried,
+    CarriedToAll,
+    DefaultWhereSourceSpoke,
+    DefaultNeverTaken,
+    VotesBeforeDefault,
+    VotesBeforeSourceWord,
+    SmallerOfDefault,
+    NotedWordOfSource,
+    DefaultToAll,
+    DefaultInLaterRound,
+    LaterNeverTaken,
+    UnheardNeverTake,
+    SourceWordToAll,
+    SharedCountsAsTwo,
+    StepDefaultZeroAccepted,
+    DefaultBeforeHead,
+    DefaultBeforeGroups,
+    DefaultAfterRecord,
+    DefaultAfterLength,
+    SourceStillBarred,
+    OutsideAbove19Accepted,
+    SourceCountedAsBad,
+    BadSourceUnbounded,
+    SourceUnboundedInMode,
+    BoundNotAskedInMode,
+    BoundNotAskedOfBadSource,
+    BadSourceRecordTaken,
+    BadSourceValueNotAsked,
+    RunDefaultZeroAccepted,
+    SharedWordsByHearer,
+    LongerWordsAccepted,
+    StartBeforeSet,
+    LengthBeforeStart,
+    BadSourceTrusted,
+    BadSourceUnheard,
+    GoodEntriesFirst,
+    GoodEntriesLookedAt,
+    SharedWordsBySender,
+    SharedWordsOfRoundBefore,
+    SharedPrintedNew,
+    BadSourceLineWaiting,
+    SharedListedByHearer,
+    SharedListedAsLayouts,
+    DefaultNotAnswered,
 }
 
 /// All planted faults, and what is wrong in each.
 pub fn planted() -> impl Iterator<Item = (Fault, &'static str)> {
     let older = planted::PLANTED.iter().copied();
-    older.chain(planted_notices::PLANTED.iter().copied())
+    let notices = planted_notices::PLANTED.iter().copied();
+    let shared = planted_shared::PLANTED.iter().copied();
+    older.chain(notices).chain(shared)
 }
 
 /// Larger sites cost time in the verdict and show no fault that smaller ones hide.

@@ -1,5 +1,6 @@
 //! The seeded cases: valid files of many sorts, and damaged ones.
 
+use crate::channel::some_channel;
 use crate::damage::{
     causes, change_byte, change_lines, change_text, noise, plant, sized, spoil_line,
 };
@@ -18,6 +19,7 @@ use crate::plans::{
     random_plan, strong_plan, thin_plan, weak_plan,
 };
 use crate::rng::Rng;
+use crate::shared_files::{plan_with_default, shared_file, WAYS as SHARED_WAYS};
 use std::fs;
 use std::io;
 use std::path::Path;
@@ -50,8 +52,10 @@ impl Kind {
     }
 }
 
-/// Sorts of cases; they take turns by index. The first ones are of valid files.
-pub const SORTS: u64 = 21;
+/// Sorts of cases; they take turns by index. The first ones are of valid files, the last ones of files
+/// about one radio for all, valid or not.
+pub const SORTS: u64 = 26;
+const SHARED_SORTS: u64 = 21;
 pub const VALID_SORTS: u64 = 8;
 
 /// Of a hundred valid files so many have a deaf terminal, and of those that get damaged.
@@ -62,6 +66,9 @@ const DEAF_AND_DAMAGED: u32 = 20;
 pub fn case(kind: Kind, seed: u64, index: u64) -> Vec<u8> {
     let mut rng = Rng::for_case(seed, kind as u64 + 1, index);
     let turn = index / SORTS;
+    if index % SORTS >= SHARED_SORTS {
+        return shared_case(&mut rng, kind, index % SORTS - SHARED_SORTS, turn);
+    }
     if index % SORTS >= VALID_SORTS {
         return damaged(&mut rng, kind, index % SORTS, turn);
     }
@@ -79,6 +86,58 @@ pub fn write_cases(kind: Kind, seed: u64, count: u64, folder: &Path) -> io::Resu
         fs::write(folder.join(name), case(kind, seed, index))?;
     }
     Ok(())
+}
+
+/// One radio for all: two sorts of valid runs, one of damaged ones, and two of those with one wrong
+/// line. Whoever reads plans alone lacks the default.
+fn shared_case(rng: &mut Rng, kind: Kind, sort: u64, turn: u64) -> Vec<u8> {
+    if kind == Kind::Verdict {
+        return match sort {
+            0 => plan_with_default(rng),
+            _ => join(&plan_case(rng, sort, turn).lines),
+        };
+    }
+    let (way, _) = SHARED_WAYS[((2 * turn + sort % 2) % SHARED_WAYS.len() as u64) as usize];
+    match sort {
+        0 => some_channel(rng, terminals(turn, 2, 20)).text(),
+        1 => shuffled_channel(rng),
+        2 => {
+            let n = rng.between(2, 7);
+            let lines = some_channel(rng, n).lines();
+            damage_any(rng, lines)
+        }
+        _ => shared_file(rng, way),
+    }
+}
+
+/// A small one, with its links and its words in any order.
+fn shuffled_channel(rng: &mut Rng) -> Vec<u8> {
+    let n = rng.between(2, 7);
+    let channel = some_channel(rng, n);
+    let mut lines = channel.lines();
+    let links = channel.plan.links.len();
+    let words = lines.len() - channel.words.len();
+    rng.shuffle(&mut lines[1..=links]);
+    rng.shuffle(&mut lines[words..]);
+    join(&lines)
+}
+
+/// A byte, a line, the line ends or a field of a line.
+fn damage_any(rng: &mut Rng, mut lines: Vec<Vec<u8>>) -> Vec<u8> {
+    match rng.below(4) {
+        0 => {
+            let mut text = join(&lines);
+            change_byte(rng, &mut text);
+            return text;
+        }
+        1 => change_lines(rng, &mut lines),
+        2 => return change_text(rng, &lines),
+        _ => {
+            let at = rng.below(lines.len());
+            spoil_line(rng, &mut lines, at);
+        }
+    }
+    join(&lines)
 }
 
 /// A number of terminals that goes through `low` to `high` as the turns go on.

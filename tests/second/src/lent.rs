@@ -6,6 +6,7 @@ use crate::plan::Cause;
 use crate::reader::{read_run, Refusal, RunFile};
 use crate::rng::Rng;
 use crate::run::{later_of, words_of};
+use crate::shared::shared_words_of;
 
 /// Places in the list of words that the reader of run files is lent.
 pub const WORD_PLACES: usize = 16_000;
@@ -33,11 +34,33 @@ pub fn read_lent(
         let cause = Cause::Length;
         return Err(Refusal { cause, line: 0 });
     }
-    fill(words, &words_of(&file), fault);
+    fill(words, &listed(&file, fault), fault);
     if fault != Fault::LaterNotWritten {
         fill(later, &later_of(&file), fault);
     }
-    Ok(file)
+    match fault {
+        Fault::DefaultNotAnswered => Ok(RunFile {
+            default: None,
+            ..file
+        }),
+        _ => Ok(file),
+    }
+}
+
+/// The words in their places; other places or numbers under two faults about words without hearer.
+fn listed(file: &RunFile, fault: Fault) -> Vec<u32> {
+    let shared = file.default.is_some();
+    match fault {
+        Fault::SharedListedByHearer if shared => {
+            let n = file.plan.n as usize;
+            let one_of_n = |word: u32| [word].into_iter().chain(vec![0; n - 1]);
+            words_of(file).into_iter().flat_map(one_of_n).collect()
+        }
+        Fault::SharedListedAsLayouts if shared => {
+            shared_words_of(file).into_iter().map(u32::from).collect()
+        }
+        _ => words_of(file),
+    }
 }
 
 /// Zeros where nothing is said.
