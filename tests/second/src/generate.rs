@@ -52,10 +52,8 @@ impl Kind {
     }
 }
 
-/// Sorts of cases; they take turns by index. The first ones are of valid files, the last ones of files
-/// about one radio for all, valid or not.
-pub const SORTS: u64 = 26;
-const SHARED_SORTS: u64 = 21;
+/// Sorts of cases; they take turns by index. The first ones are of valid files.
+pub const SORTS: u64 = 21;
 pub const VALID_SORTS: u64 = 8;
 
 /// Of a hundred valid files so many have a deaf terminal, and of those that get damaged.
@@ -66,9 +64,6 @@ const DEAF_AND_DAMAGED: u32 = 20;
 pub fn case(kind: Kind, seed: u64, index: u64) -> Vec<u8> {
     let mut rng = Rng::for_case(seed, kind as u64 + 1, index);
     let turn = index / SORTS;
-    if index % SORTS >= SHARED_SORTS {
-        return shared_case(&mut rng, kind, index % SORTS - SHARED_SORTS, turn);
-    }
     if index % SORTS >= VALID_SORTS {
         return damaged(&mut rng, kind, index % SORTS, turn);
     }
@@ -83,14 +78,31 @@ pub fn write_cases(kind: Kind, seed: u64, count: u64, folder: &Path) -> io::Resu
     fs::create_dir_all(folder)?;
     for index in 0..count {
         let name = format!("{}-{}-{:06}.txt", kind.name(), seed, index);
-        fs::write(folder.join(name), case(kind, seed, index))?;
+        fs::write(folder.join(name), fresh_case(kind, seed, index))?;
     }
     Ok(())
 }
 
-/// One radio for all: two sorts of valid runs, one of damaged ones, and two of those with one wrong
-/// line. Whoever reads plans alone lacks the default.
-fn shared_case(rng: &mut Rng, kind: Kind, sort: u64, turn: u64) -> Vec<u8> {
+/// Of files that are made anew one in so many is about one radio for all.
+const SHARED_EVERY: u64 = 5;
+
+/// All cases, those about one radio for all among the others.
+pub fn fresh_case(kind: Kind, seed: u64, index: u64) -> Vec<u8> {
+    let turn = index / SHARED_EVERY;
+    match index % SHARED_EVERY {
+        4 => shared_case(kind, seed, turn),
+        _ => case(kind, seed, index - turn),
+    }
+}
+
+/// Sorts of cases about one radio for all: two of valid runs, one of damaged ones, and two of those
+/// with one wrong line.
+pub const SHARED_SORTS: u64 = 5;
+
+pub fn shared_case(kind: Kind, seed: u64, index: u64) -> Vec<u8> {
+    let rng = &mut Rng::for_case(seed, kind as u64 + 11, index);
+    let (sort, turn) = (index % SHARED_SORTS, index / SHARED_SORTS);
+    // Whoever reads plans alone lacks the default.
     if kind == Kind::Verdict {
         return match sort {
             0 => plan_with_default(rng),

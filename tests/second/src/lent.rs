@@ -1,7 +1,7 @@
 //! The library's reader of run files, which is lent two lists.
 
 use crate::faults::Fault;
-use crate::generate::{case, Kind, SORTS, VALID_SORTS};
+use crate::generate::{case, shared_case, Kind, SORTS, VALID_SORTS};
 use crate::plan::Cause;
 use crate::reader::{read_run, Refusal, RunFile};
 use crate::rng::Rng;
@@ -104,6 +104,16 @@ pub fn read_case(seed: u64, index: u64) -> ReadCase {
     let (words, later) = rooms(&mut rng);
     ReadCase {
         text: case(Kind::Run, seed, place),
+        words,
+        later,
+    }
+}
+
+/// Files about one radio for all, with lists of the right length or not.
+pub fn shared_read_case(seed: u64, index: u64) -> ReadCase {
+    let (words, later) = rooms(&mut Rng::for_case(seed, 12, index));
+    ReadCase {
+        text: shared_case(Kind::Run, seed, 10_000 + index),
         words,
         later,
     }

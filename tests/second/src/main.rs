@@ -3,7 +3,7 @@
 use second::faults::Fault;
 use second::generate::Kind;
 use second::reader::LONGEST_FILE;
-use second::{compare, exhaust, faults, generate, kept, record};
+use second::{compare, exhaust, faults, generate, kept, record, record_shared};
 use std::io::{self, Read, Write};
 use std::path::Path;
 use std::process::ExitCode;
@@ -19,6 +19,7 @@ const USAGE: &str = "usage:
   second record CALLS LINES
   second boards SEED COUNT CALLS LINES
   second issues SEED COUNT CALLS LINES
+  second shared SEED COUNT CALLS LINES
   second keep PROGRAM_VERDICT PROGRAM_RUN FILE
   second kept PROGRAM_VERDICT PROGRAM_RUN FILE";
 
@@ -70,6 +71,12 @@ fn dispatch(words: &[&str]) -> Option<bool> {
             Path::new(lines),
         ))),
         ["issues", seed, count, calls, lines] => Some(told(record::write_issues(
+            number(seed)?,
+            number(count)?,
+            Path::new(calls),
+            Path::new(lines),
+        ))),
+        ["shared", seed, count, calls, lines] => Some(told(record_shared::write_shared_boards(
             number(seed)?,
             number(count)?,
             Path::new(calls),
