@@ -19,7 +19,7 @@ use crate::plans::{
     random_plan, strong_plan, thin_plan, weak_plan,
 };
 use crate::rng::Rng;
-use crate::shared_files::{plan_with_default, shared_file, WAYS as SHARED_WAYS};
+use crate::shared_files::{any_order, plan_with_default, shared_file, WAYS as SHARED_WAYS};
 use std::fs;
 use std::io;
 use std::path::Path;
@@ -113,6 +113,7 @@ pub fn shared_case(kind: Kind, seed: u64, index: u64) -> Vec<u8> {
     match sort {
         0 => some_channel(rng, terminals(turn, 2, 20)).text(),
         1 => shuffled_channel(rng),
+        2 if turn.is_multiple_of(2) => any_order(rng),
         2 => {
             let n = rng.between(2, 7);
             let lines = some_channel(rng, n).lines();

@@ -16,6 +16,7 @@ pub mod damage;
 pub mod draft;
 pub mod drawings;
 pub mod exhaust;
+pub mod exhaust_shared;
 pub mod faults;
 pub mod forms;
 pub mod frames;

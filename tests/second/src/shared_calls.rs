@@ -10,7 +10,7 @@ use crate::plans::{deafen, hear_at_source};
 use crate::records::{break_bound, break_plan, some_plan, some_set};
 use crate::rng::Rng;
 use crate::shared::{shared_run, SharedOrder};
-use crate::shared_files::proposed_set;
+use crate::shared_files::{over_at_source, proposed_set};
 use crate::step::{Place, Record, Row, State};
 use crate::steps::{step_case, StepCase};
 use std::ops::RangeInclusive;
@@ -34,9 +34,12 @@ pub fn shared_step_case(seed: u64, index: u64) -> SharedStep {
     if rng.chance(75) {
         lower_editions(&mut case);
     }
-    let first = rng.chance(50);
-    if first {
-        to_the_start(&mut rng, &mut case);
+    let turn = rng.below(100);
+    let first = turn < 50;
+    match turn {
+        0..=49 => to_the_start(&mut rng, &mut case),
+        50..=69 => to_a_later_round(&mut rng, &mut case),
+        _ => {}
     }
     let layout = |&number: &u32| Notice::of(number).layout;
     let mut call = SharedStep {
@@ -51,7 +54,7 @@ pub fn shared_step_case(seed: u64, index: u64) -> SharedStep {
     if rng.chance(12) {
         call.default = 0;
     }
-    if rng.chance(8) {
+    if rng.chance(10) {
         break_beside_default(&mut rng, &mut call);
     }
     call
@@ -83,12 +86,44 @@ fn to_the_start(rng: &mut Rng, case: &mut StepCase) {
     if place.number == place.source {
         return;
     }
-    if rng.chance(85) {
-        case.record.state = State::Waiting;
-    }
+    case.record.state = match rng.chance(85) {
+        true => State::Waiting,
+        false => State::Taken(0, notice(1, 8)),
+    };
     if rng.chance(70) && place.source < place.n {
         place.heard.insert(place.source);
         *case.record.row_mut(place.source) = empty_row(rng);
+    }
+}
+
+/// Waiting after some rounds, and hearing the source, which has said something else before or nothing
+/// yet: the first rounds of a terminal that was handed in late.
+fn to_a_later_round(rng: &mut Rng, case: &mut StepCase) {
+    let place = &mut case.place;
+    if place.number == place.source || place.source >= place.n {
+        return;
+    }
+    let round = rng.pick(&[1, 1, 2, 39]);
+    case.record.round = round;
+    case.record.state = State::Waiting;
+    for &neighbour in place.heard.iter().filter(|&&neighbour| neighbour < 20) {
+        let row = &mut case.record.notes[neighbour as usize];
+        row.count = row.count.min(round);
+    }
+    place.heard.insert(place.source);
+    *case.record.row_mut(place.source) = match rng.below(3) {
+        0 => Row::of(1, &[rng.pick(&[3, 8])]),
+        _ => empty_row(rng),
+    };
+    let word = rng.pick(&[0, 0, 9]);
+    if let Some(said) = case.said.get_mut(place.source as usize) {
+        *said = notice(1, word).number();
+    }
+    if rng.chance(60) {
+        // Nobody else says anything, so that many wait on.
+        case.said
+            .iter_mut()
+            .for_each(|said| *said *= u32::from(rng.chance(15)));
     }
 }
 
@@ -108,9 +143,16 @@ fn source_says(rng: &mut Rng, call: &mut SharedStep) {
     if let Some(said) = call.said.get_mut(call.place.source as usize) {
         *said = word;
     }
-    if rng.chance(40) {
+    let source = call.place.source as usize;
+    if !call.place.heard.contains(&call.place.source) && rng.chance(40) {
+        // Only the source speaks, to one that does not hear it.
+        call.said.fill(0);
+        call.said
+            .get_mut(source)
+            .into_iter()
+            .for_each(|said| *said = 7);
+    } else if rng.chance(40) {
         let others = rng.pick(&[1, 5, 65_534]);
-        let source = call.place.source as usize;
         for (sender, said) in call.said.iter_mut().enumerate() {
             if sender != source && rng.chance(80) {
                 *said = others;
@@ -119,11 +161,14 @@ fn source_says(rng: &mut Rng, call: &mut SharedStep) {
     }
 }
 
-/// No default, beside each of the other causes.
+/// No default, beside each of the other causes; or a wrong record beside a wrong list.
 fn break_beside_default(rng: &mut Rng, call: &mut SharedStep) {
-    call.default = 0;
+    let way = rng.below(8);
+    if way < 6 {
+        call.default = 0;
+    }
     let place = &mut call.place;
-    match rng.below(6) {
+    match way {
         0 => place.n = rng.pick(&[0, 1, 21]),
         1 => drop(place.heard.insert(place.number)),
         2 => break_bound(rng, &mut place.bound, place.n, place.source),
@@ -221,7 +266,7 @@ fn add_noise(rng: &mut Rng, of: &mut SharedSite) {
 
 fn break_channel(rng: &mut Rng, of: &mut SharedSite) {
     let length = of.words.len();
-    match rng.below(12) {
+    match rng.below(13) {
         0 | 1 => break_plan(rng, &mut of.plan),
         2 => drop(of.bad.insert(rng.between(of.plan.n.min(31), 31))),
         3 | 4 => {
@@ -238,9 +283,9 @@ fn break_channel(rng: &mut Rng, of: &mut SharedSite) {
         }
         8 => of.default = 0,
         9 => of.rounds = rng.pick(&[41, 255]),
+        10 => of.words.resize(length * of.plan.n as usize, 1),
         _ => {
-            let (short, by_hearer) = (length.saturating_sub(1), length * of.plan.n as usize);
-            let wanted = rng.pick(&[0, short, length + 1, by_hearer.min(200)]);
+            let wanted = rng.pick(&[0, length.saturating_sub(1), length + 1]);
             of.words.resize(wanted, 1);
         }
     }
@@ -251,6 +296,9 @@ fn break_channel(rng: &mut Rng, of: &mut SharedSite) {
 /// A plan record, right or wrong, and a set that is proposed.
 pub fn shared_set_case(seed: u64, index: u64) -> (Plan, Set) {
     let mut rng = Rng::for_case(seed, 10, index);
+    if index % 8 == 7 {
+        return over_at_source(&mut rng);
+    }
     let mut plan = some_plan(&mut rng, if index.is_multiple_of(8) { 20 } else { 8 });
     if rng.chance(40) && plan.n >= 2 && plan.source < plan.n.min(20) {
         hear_at_source(&mut rng, &mut plan);

@@ -10,7 +10,7 @@ use crate::groups::Bound;
 use crate::notice::{notice, Form};
 use crate::output::digits;
 use crate::plan::{bound_holds, number_of, Plan, Set};
-use crate::plans::{deafen, random_bad_set, source_first};
+use crate::plans::{any_plan, deafen, hear_at_source, random_bad_set, source_first};
 use crate::rng::Rng;
 
 type Lines = Vec<Vec<u8>>;
@@ -575,6 +575,53 @@ fn spoil_word(rng: &mut Rng, file: &mut Pieces, way: Way) {
     file.later(rng, line);
 }
 
+/// A right file into which lines of all kinds come by chance, and from which one may be lost. What is
+/// right then depends on all that stands before it.
+pub fn any_order(rng: &mut Rng) -> Vec<u8> {
+    let channel = base(rng, Way::Nothing);
+    let mut lines = channel.lines();
+    if rng.chance(30) {
+        lines = channel.old_lines();
+    }
+    let after_links = 1 + channel.plan.links.len();
+    if rng.chance(40) {
+        let at = rng
+            .between(0, lines.len() as u32 - 1)
+            .max(after_links as u32 - 1);
+        lines.remove(at as usize);
+    }
+    for _ in 0..rng.between(1, 3) {
+        let line = any_line(rng, &channel);
+        let early = rng.below(lines.len() + 1);
+        let late = after_links.min(lines.len());
+        let late = late + rng.below(lines.len() - late + 1);
+        lines.insert(rng.pick(&[late, late, late, early]), line);
+    }
+    join(&lines)
+}
+
+/// A line of any kind and form, right in itself for the most part.
+fn any_line(rng: &mut Rng, channel: &Channel) -> Vec<u8> {
+    let plan = &channel.plan;
+    let (from, to) = (rng.between(0, plan.n - 1), rng.between(0, plan.n - 1));
+    let round = rng.between(1, channel.played());
+    let layout = rng.pick(&[0, 5, 7, 9]);
+    let said = notice(1, layout);
+    match rng.below(12) {
+        0 => head_line(plan),
+        1 => link_line(from, to),
+        2 => group_line(2u32.pow(from)),
+        3 | 4 => default_line(layout),
+        5 => channel.bad_line(),
+        6 => start_line(layout, channel.rounds),
+        7 => start_in(Form::New, said, channel.rounds),
+        8 => notice_line(round, notice(2, layout)),
+        9 => word_in(Form::Old, (round, from, to), said),
+        10 => word_in(Form::New, (round, from, to), said),
+        _ => shared_word_line(round, from, layout),
+    }
+}
+
 /// A plan with a default at any place but the first, for the readers that lack it.
 pub fn plan_with_default(rng: &mut Rng) -> Vec<u8> {
     let n = rng.between(2, 7);
@@ -590,20 +637,33 @@ pub fn plan_with_default(rng: &mut Rng) -> Vec<u8> {
     join(&lines)
 }
 
+/// A plan, and a set that is over the bound at the source alone, which is bad or good.
+pub fn over_at_source(rng: &mut Rng) -> (Plan, Set) {
+    loop {
+        let n = rng.between(3, 8);
+        let mut plan = any_plan(rng, n);
+        hear_at_source(rng, &mut plan);
+        if let Some(mut bad) = over_bound(&plan, plan.source) {
+            bad.extend(rng.pick(&[None, Some(plan.source)]));
+            return (plan, bad);
+        }
+    }
+}
+
 /// A set for the check of this mode: a bad set with the source or without it, or one that breaks the
 /// bound at the source alone.
 pub fn proposed_set(rng: &mut Rng, plan: &Plan) -> Set {
-    let mut bad = match rng.below(4) {
+    let mut bad = match rng.below(6) {
         0 => source_first(rng, plan)
             .split_off(1)
             .into_iter()
             .take(2)
             .collect(),
-        1 if !plan.bound.has_groups() => {
-            let hearer = rng.pick(&[plan.source, plan.n]);
+        1..=3 if !plan.bound.has_groups() => {
+            let hearer = rng.pick(&[plan.source, plan.source, plan.n]);
             over_bound(plan, hearer).unwrap_or_default()
         }
-        2 if !plan.bound.has_groups() => just_bound(plan).unwrap_or_default(),
+        4 if !plan.bound.has_groups() => just_bound(plan).unwrap_or_default(),
         _ => random_bad_set(rng, plan, 100),
     };
     if rng.chance(60) {

@@ -6,6 +6,7 @@ mod common;
 use common::{archive, first, place, refused, run, set, verdict, WAITS};
 use second::channel::{some_channel, Channel};
 use second::drawings::DRAWINGS;
+use second::exhaust_shared::exhaust_shared;
 use second::faults::Fault;
 use second::groups::Bound;
 use second::lent::{read_lent, LATER_PLACES, WORD_PLACES};
@@ -708,6 +709,25 @@ fn good_terminals_agree() {
     }
     let counts = [passed, bad_source, by_default, grouped, lied];
     assert!(counts.iter().all(|&count| count > 300), "{counts:?}");
+}
+
+/// Every plan of three terminals, and what shows there where a rule is broken.
+#[test]
+fn small_sites_agree() {
+    let totals = exhaust_shared(Fault::None).expect("no violation");
+    assert_eq!(totals.plans, 19 * 64);
+    let broken = [
+        Fault::VotesWithoutOne,
+        Fault::DefaultNeverTaken,
+        Fault::DefaultWhereSourceSpoke,
+        Fault::DefaultToAll,
+        Fault::BadSourceTrusted,
+        Fault::BoundNotAskedOfBadSource,
+        Fault::VotesBeforeSourceWord,
+    ];
+    for fault in broken {
+        assert!(exhaust_shared(fault).is_err(), "{fault:?}");
+    }
 }
 
 /// What the program prints of a run of the mode is what the run leaves.
