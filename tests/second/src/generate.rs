@@ -95,8 +95,8 @@ pub fn fresh_case(kind: Kind, seed: u64, index: u64) -> Vec<u8> {
     }
 }
 
-/// Sorts of cases about one radio for all: two of valid runs, one of damaged ones, and two of those
-/// with one wrong line.
+/// Sorts of cases about one radio for all: first two of valid runs, then one of damaged ones, and two
+/// of those with one wrong line.
 pub const SHARED_SORTS: u64 = 5;
 
 pub fn shared_case(kind: Kind, seed: u64, index: u64) -> Vec<u8> {

@@ -1,7 +1,7 @@
 //! The library's reader of run files, which is lent two lists.
 
 use crate::faults::Fault;
-use crate::generate::{case, shared_case, Kind, SORTS, VALID_SORTS};
+use crate::generate::{case, shared_case, Kind, SHARED_SORTS, SORTS, VALID_SORTS};
 use crate::plan::Cause;
 use crate::reader::{read_run, Refusal, RunFile};
 use crate::rng::Rng;
@@ -109,11 +109,14 @@ pub fn read_case(seed: u64, index: u64) -> ReadCase {
     }
 }
 
-/// Files about one radio for all, with lists of the right length or not.
+/// Files about one radio for all, half of them right, with lists of the right length or not.
 pub fn shared_read_case(seed: u64, index: u64) -> ReadCase {
-    let (words, later) = rooms(&mut Rng::for_case(seed, 12, index));
+    let mut rng = Rng::for_case(seed, 12, index);
+    let sorts = rng.pick(&[2, SHARED_SORTS]);
+    let place = (10_000 + index) * SHARED_SORTS + rng.below(sorts as usize) as u64;
+    let (words, later) = rooms(&mut rng);
     ReadCase {
-        text: shared_case(Kind::Run, seed, 10_000 + index),
+        text: shared_case(Kind::Run, seed, place),
         words,
         later,
     }

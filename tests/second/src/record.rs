@@ -44,8 +44,8 @@ use crate::plan::{number_of, set_of, write_plan, Cause, Plan, Set};
 use crate::plans::{deaf_plan, deep_plan, mend, strong_plan, thin_plan, weak_plan};
 use crate::reader::{read_archive, read_run, Refusal, RunFile};
 use crate::record_shared::{
-    channel_call, channel_read_call, shared_file_call, shared_file_read_call, shared_lent_call,
-    shared_set_call, shared_site_call, shared_step_call, small_shared_call,
+    channel_call, channel_read_call, flooded_call, shared_file_call, shared_file_read_call,
+    shared_lent_call, shared_set_call, shared_site_call, shared_step_call, small_shared_call,
 };
 use crate::records::{break_groups, some_bad_set, some_plan, some_sets, WAYS};
 use crate::rng::Rng;
@@ -101,7 +101,7 @@ pub fn write(calls_file: &Path, lines_file: &Path) -> io::Result<()> {
 type Maker = fn(u64, u64) -> Call;
 
 /// Every kind of call, and how many of it.
-const KINDS: [(Maker, u64); 39] = [
+const KINDS: [(Maker, u64); 40] = [
     (verdict_call, 600),
     (run_call, 600),
     (edge_call, 150),
@@ -135,6 +135,7 @@ const KINDS: [(Maker, u64); 39] = [
     (shared_step_call, 500),
     (shared_site_call, 150),
     (small_shared_call, 100),
+    (flooded_call, 8),
     (shared_lent_call, 100),
     (shared_set_call, 150),
     (channel_call, 162),

@@ -1,7 +1,7 @@
 //! Recorded calls of a site with one radio for all, and the steps that a board of such a site is
 //! asked for.
 
-use crate::channel::some_channel;
+use crate::channel::{flooded_channel, some_channel};
 use crate::faults::Fault;
 use crate::groups::{Bound, Sort};
 use crate::lent::{shared_read_case, ReadCase, LATER_PLACES, WORD_PLACES};
@@ -134,6 +134,13 @@ pub(crate) fn small_shared_call(seed: u64, index: u64) -> Call {
         rounds: 2,
         words: (0..6).map(|_| rng.pick(&[0, 5, 7, 3])).collect(),
     })
+}
+
+/// A new lie in each of 39 or 40 rounds.
+pub(crate) fn flooded_call(seed: u64, index: u64) -> Call {
+    let mut rng = rng_for(seed, b'O', index);
+    let rounds = 39 + (index % 2) as u32;
+    site(SharedSite::of(&flooded_channel(&mut rng, rounds)))
 }
 
 /// Five places that hold noise, lent to the run of four to six terminals.

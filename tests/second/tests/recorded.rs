@@ -669,15 +669,25 @@ fn shared_site_of(call: &Call) -> (SharedSite, Vec<Record>) {
 fn shared_runs_are_read_back() {
     let calls = calls_of(b'N');
     assert!(calls.len() > 230, "{}", calls.len());
+    let mut fullest = 0;
     for call in &calls {
         let mut line = Bytes(&call.line);
         let (answer, records) = shared_site_of(call).0.played(Fault::None);
         assert_eq!(line.byte(), answer.map_or_else(Cause::number, |()| 0));
         for record in records.iter().take(20) {
+            fullest = fullest.max(
+                record
+                    .notes
+                    .iter()
+                    .map(|row| row.count)
+                    .max()
+                    .expect("rows"),
+            );
             assert_eq!(line.record(), *record);
         }
         assert!(line.0.is_empty());
     }
+    assert_eq!(fullest, 40);
     let calls = calls_of(b'L');
     assert!(calls.len() > 90, "{}", calls.len());
     for call in &calls {

@@ -723,7 +723,6 @@ fn small_sites_agree() {
         Fault::DefaultToAll,
         Fault::BadSourceTrusted,
         Fault::BoundNotAskedOfBadSource,
-        Fault::VotesBeforeSourceWord,
     ];
     for fault in broken {
         assert!(exhaust_shared(fault).is_err(), "{fault:?}");
