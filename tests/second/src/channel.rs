@@ -220,10 +220,16 @@ fn speak(rng: &mut Rng, channel: &mut Channel) {
 
 /// Every bad terminal says a new layout in each of so many rounds, until rows are full.
 pub fn flooded_channel(rng: &mut Rng, rounds: u32) -> Channel {
-    let n = rng.between(4, 6);
-    let plan = thin_plan(rng, n);
-    let mut bad = random_bad_set(rng, &plan, 100);
-    bad.extend(rng.pick(&[None, Some(plan.source)]));
+    let (plan, bad) = loop {
+        let n = rng.between(4, 6);
+        let plan = thin_plan(rng, n);
+        let mut bad = random_bad_set(rng, &plan, 100);
+        bad.extend(rng.pick(&[None, Some(plan.source)]));
+        let mut links = plan.links.iter();
+        if links.any(|(from, to)| bad.contains(from) && !bad.contains(to)) {
+            break (plan, bad);
+        }
+    };
     let mut channel = channel_of(rng, plan, bad, Some(rounds));
     for from in channel.bad.clone() {
         let layout = |round: u32| 10_000 + 100 * from as u16 + round as u16;

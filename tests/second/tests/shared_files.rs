@@ -35,7 +35,7 @@ fn every_way_gets_its_number() {
 fn frame(line: &str) -> Option<Vec<u8>> {
     let right = line.chars().all(|c| "0123456789abcdef".contains(c));
     let pairs = (0..line.len() / 2).map(|at| u8::from_str_radix(&line[2 * at..2 * at + 2], 16));
-    (right && !line.is_empty() && line.len() % 2 == 0).then(|| pairs.flatten().collect())
+    (right && !line.is_empty() && line.len().is_multiple_of(2)).then(|| pairs.flatten().collect())
 }
 
 /// What stands before a line: frames that were all accepted.
