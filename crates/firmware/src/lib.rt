@@ -193,7 +193,16 @@ pub extern "C" fn hulmayek_bound_shared_step(
     let bound = bound_of(kind, told);
     answer_of(
         before,
-        terminal::shared_step(n, source, bound, own, heard, default, record_of(before), said),
+        terminal::shared_step(
+            n,
+            source,
+            bound,
+            own,
+            heard,
+            default,
+            record_of(before),
+            said,
+        ),
     )
 }
 

@@ -8,13 +8,7 @@ use super::say;
 use plan::Plan;
 use terminal::Record;
 
-fn step_on(
-    body: &[u8],
-    default: u16,
-    before: Record,
-    said_to: &[u16],
-    line: &mut [u8],
-) -> usize {
+fn step_on(body: &[u8], default: u16, before: Record, said_to: &[u16], line: &mut [u8]) -> usize {
     let placed = said::bound(body, 2);
     let bound = placed.bound;
     let at = placed.next;
@@ -43,7 +37,13 @@ pub(crate) fn step(count: usize, body: &[u8], line: &mut [u8]) -> usize {
     let mut words = [0u16; 64];
     said::pairs(body, placed.next + 2, &mut words);
     if count <= 64 {
-        return step_on(body, said::pair(body, placed.next), before, &words[..count], line);
+        return step_on(
+            body,
+            said::pair(body, placed.next),
+            before,
+            &words[..count],
+            line,
+        );
     }
     0
 }

@@ -12,12 +12,12 @@ ghost use Rattle.terminal.specs.Shown.{Whole, viewOf, shownOver};
 ghost use Rattle.terminal.specs.Votes.{HaveRoom};
 ghost use Rattle.terminal.specs.Answer.{numberOf};
 ghost use Rattle.terminal.specs.Channel.{firstHearing, wordOr, sharedStep};
-use quorum::Bound;
 use super::Outcome;
 use super::Record;
 use super::State;
 use super::number;
 use super::play;
+use quorum::Bound;
 
 // What terminal j said, as a notice; silence past the list's end.
 fn notice_at(said: &[u16], j: usize) -> u32
