@@ -1,10 +1,13 @@
 -- The start of an accepted file, and its later notices: where a line tells a start, the run has its notice, its form, and the rounds that it means;
--- where no line tells a later notice, there is none. Assumes nothing.
+-- where no line tells a later notice, there is none, and where none tells a default layout, the channel is not shared. Assumes nothing.
 use Prim.Native.Nat.{ℕ, _+_, _≤_}
 use mathlib.Core.Path.{_≡_, refl, sym, ap, _∙_, subst}
 use mathlib.Core.Logic.{inl, inr, ⊎-elim}
+use mathlib.Core.Bool.{false}
 use mathlib.Core.List.{List, [], _∷_}
 use native.Mathlib.Omega.{arith}
+use borrow.Author.Tests.{eq-eqb}
+use Rattle.sets.proofs.Bools.{not-yes}
 use Rattle.quorum.specs.Notice.{noticeOf}
 use Rattle.lines.specs.declared.Form.{Form}
 use Rattle.lines.specs.declared.Rounds.{Rounds}
@@ -14,8 +17,8 @@ use Rattle.lines.specs.Frames.{frameOf}
 use Rattle.frames.specs.declared.Progress.{Progress}
 use Rattle.frames.specs.declared.Reader.{Reader}
 use Rattle.frames.specs.Lines.{Line, ended, cut, linesFrom}
-use Rattle.frames.specs.Reading.{runKinds, runReader, stageOf, roundsOf, nothingRead, Lists, noLater, nothingSaid, causeIn, after, saidAfter, Reading, told, reading, runReading}
-use Rattle.frames.specs.Tells.{Tells, NoLater}
+use Rattle.frames.specs.Reading.{runKinds, runReader, isShared, stageOf, roundsOf, nothingRead, Lists, noLater, nothingSaid, causeIn, after, saidAfter, Reading, told, reading, runReading}
+use Rattle.frames.specs.Tells.{Tells, NoLater, NoChannel}
 use Rattle.frames.proofs.Keeps.{head-accepted, link-accepted, group-accepted, channel-accepted, fault-set-accepted, start-accepted, line-read, end-read, told-keeps, text-read}
 use Rattle.frames.proofs.Accepted.{run-is}
 
@@ -110,3 +113,41 @@ run-no-later text h n =
     ap (λ (r : Reading). r .said .later) e
     ∙ text-read runReader text (λ (r : Reading). r .said .later ≡ noLater) (λ one. told-no-later runReader nothingRead nothingSaid 1 (linesFrom [] text) n)
     (sym (ap (λ (r : Reading). r .number) e) ∙ h)
+
+-- ---- a shared channel
+
+same-default : (p : Progress) (frame : Frame) → ((layout : ℕ) → frame ≡ Channel layout → ⊥) → p .default ≡ 0 → after p frame .default ≡ 0
+unfolding after
+same-default p Foreign n e = e
+same-default p Unknown n e = e
+same-default p (Head t source f) n e = refl
+same-default p (Link from to) n e = refl
+same-default p (Group x) n e = refl
+same-default p (Channel layout) n e = absurd (n layout refl)
+same-default p (FaultSet x) n e = e
+same-default p (Start form edition layout rounds) n e = e
+same-default p (Later round edition layout) n e = e
+same-default p (Message form round from to edition layout) n e = e
+same-default p (Broadcast round from layout) n e = e
+
+told-no-channel : (reader : Reader) (p : Progress) (said : Lists) (k : ℕ) (lines : List Line) → NoChannel (reader .kinds) lines → p .default ≡ 0
+    → told reader p said k lines .number ≡ 0 → told reader p said k lines .progress .default ≡ 0
+unfolding told
+told-no-channel reader p said k [] n e = end-read reader p said k (λ (r : Reading). r .progress .default ≡ 0) (λ c. e)
+told-no-channel reader p said k (cut line ∷ rest) n e = λ z. absurd (omega arith)
+told-no-channel reader p said k (ended line ∷ rest) n e =
+    line-read reader p said k line rest (λ (r : Reading). r .progress .default ≡ 0)
+    (λ c.
+    told-no-channel reader (after p (frameOf (reader .kinds) line)) (saidAfter p said (frameOf (reader .kinds) line)) (k + 1) rest
+    (λ l t. n l (inr t)) (same-default p (frameOf (reader .kinds) line) (λ l q. n l (inl q)) e))
+
+-- without a default layout the channel is not shared
+pub run-no-channel : (text : List ℕ) → runReading text .number ≡ 0 → NoChannel runKinds (linesFrom [] text) → isShared (runReading text .progress) ≡ false
+unfolding isShared
+run-no-channel text h n =
+    let e = run-is text h in
+    let z : runReading text .progress .default ≡ 0 =
+    ap (λ (r : Reading). r .progress .default) e
+    ∙ text-read runReader text (λ (r : Reading). r .progress .default ≡ 0) (λ one. told-no-channel runReader nothingRead nothingSaid 1 (linesFrom [] text) n refl)
+    (sym (ap (λ (r : Reading). r .number) e) ∙ h) in
+    not-yes (eq-eqb (runReading text .progress .default) 0 z)

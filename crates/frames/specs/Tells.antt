@@ -19,6 +19,10 @@ Tells kinds frame (ended line ∷ rest) = (frameOf kinds line ≡ frame) ⊎ Tel
 abbrev pub NoLater : (kinds : Set) → List Line → Type 0
 NoLater kinds lines = (round edition layout : ℕ) → Tells kinds (Later round edition layout) lines → ⊥
 
+-- nor the default layout of a shared channel
+abbrev pub NoChannel : (kinds : Set) → List Line → Type 0
+NoChannel kinds lines = (layout : ℕ) → Tells kinds (Channel layout) lines → ⊥
+
 -- the groups that the lines tell, in their order
 abbrev pub groupBefore : Frame → List Set → List Set
 groupBefore Foreign rest = rest

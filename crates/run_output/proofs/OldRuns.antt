@@ -15,6 +15,7 @@ use Rattle.lines.specs.declared.Form.the-variants.{Old}
 use Rattle.frames.specs.declared.Progress.{Progress}
 use Rattle.frames.specs.Reading.{isShared, noLater, runReading, fileRead}
 use Rattle.frames.proofs.Accepted.{run-accepted}
+use Rattle.frames.proofs.Starts.{run-no-channel}
 use Rattle.output.proofs.Laws.{answered-is}
 use Rattle.run_output.specs.Site.{siteLines, scriptRead, officeRead, stateLinked, stateRan, ranText, ranOn, runText}
 use Rattle.run_output.specs.OldRuns.{OldRuns}
@@ -57,6 +58,6 @@ module _ (file : List ℕ) (h : runReading file .number ≡ 0) (old : runReading
 
 pub old-runs : (file : List ℕ) → OldRuns file
 old-runs file = record {
-  one-edition = λ h old apart. one-edition file h old apart;
+  one-edition = λ h old n. one-edition file h old (run-no-channel file h n);
   thirteen = λ h old. ap length (in-old-form file h old) ∙ old-length (runReading file .progress .plan .n) (runReading file .progress .faulty) _;
 }
