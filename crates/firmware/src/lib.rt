@@ -213,25 +213,6 @@ fn apart(number: u8, kept: BoardRecord) -> BoardAnswer
     }
 }
 
-// The step on a board's record. Both of C's steps go through here, so that the compiler writes the round
-// once, with its copies of records in line.
-fn board_step(
-    n: usize,
-    source: usize,
-    bound: Bound,
-    own: usize,
-    heard: u32,
-    before: BoardRecord,
-    said: &[u32],
-) -> BoardAnswer
-    ensures { λ r. ⌜ r ≡ boardAnswer n source bound own heard before (now (said .entry)) ⌝ }
-{
-    answer_of(
-        before,
-        terminal::step(n, source, bound, own, heard, record_of(before), said),
-    )
-}
-
 // One round of terminal `own`, which hears the set `heard`; said[j] is what terminal j said, 0 for
 // nothing. C lends the list by its address and its length. Kind 0 has at most told.count bad ones among
 // those that a terminal hears, kind 1 some of one of told.count groups.
@@ -249,8 +230,10 @@ pub extern "C" fn hulmayek_bound_step(
     ensures { λ r. ⌜ r ≡ boardAnswer n source (boundOf kind told) own heard before (now (said .entry)) ⌝ }
 {
     let bound = bound_of(kind, told);
-    let answer = board_step(n, source, bound, own, heard, before, said);
-    apart(answer.number, answer.after)
+    answer_of(
+        before,
+        terminal::step(n, source, bound, own, heard, record_of(before), said),
+    )
 }
 
 // ---- On a shared channel, where what is said are layouts, which count as edition 1.
@@ -338,7 +321,8 @@ fn played(first: bool, layout: u16, after: BoardRecord) -> BoardAnswer
 }
 
 // One round on a shared channel: said[j] is the layout that terminal j said to all who hear it, 0 for nothing.
-// It is the step on these as notices, but for a default that is 0 and for who hears the source in round 1.
+// It is the step above on these as notices, but for a default that is 0 and for who hears the source in round 1.
+// Over terminal::shared_step the compiler would write no round in line, and copy records by calls of memcpy.
 #[no_mangle]
 pub extern "C" fn hulmayek_bound_shared_step(
     n: usize,
@@ -353,10 +337,9 @@ pub extern "C" fn hulmayek_bound_shared_step(
 ) -> BoardAnswer
     ensures { λ r. ⌜ r ≡ boardShared n source (boundOf kind told) own heard default before (now (said .entry)) ⌝ }
 {
-    let bound = bound_of(kind, told);
     let all = terminal::channel::notices(said);
     let words = fitting(said.len());
-    let answer = board_step(n, source, bound, own, heard, before, &all[..words]);
+    let answer = hulmayek_bound_step(n, source, kind, told, own, heard, before, &all[..words]);
     let refused = with_nine(answer.number, default);
     if refused == 0 {
         let state = state_of(before.taken, before.at, before.notice);

@@ -6,7 +6,6 @@ use native.Mathlib.Omega.{arith}
 use lib.ListN.{length, take}
 use lib.Seq.{length-take-le}
 use Rattle.sets.proofs.Tables.{table-length}
-use Rattle.quorum.specs.declared.Bound.{Bound}
 use Rattle.terminal.specs.declared.State.{State}
 use Rattle.terminal.specs.Channel.{firstHearing, wordOr}
 use Rattle.firmware.specs.declared.BoardAnswer.{BoardAnswer}
@@ -16,9 +15,6 @@ use borrow.Author.Needs.{needs}
 use Rattle.firmware.proofs.hulmayek_bound_shared_step.Statement.{statement}
 use Rattle.firmware.proofs.hulmayek_bound_shared_step.Tie as tie
 
-bound-of-requires : tie.Need-bound-of-requires
-bound-of-requires c κs = search needs
-
 notices-requires : tie.Need-notices-requires
 notices-requires c κs = search needs
 
@@ -27,32 +23,30 @@ fitting-requires c κs = search needs
 
 array-share-prefix-all : tie.Need-array-share-prefix-all
 array-share-prefix-all c =
-    let l = fitting-le (length (c .before .before .before .before .args .said .now)) in
+    let l = fitting-le (length (c .before .before .before .args .said .now)) in
     let e = c .fitting .ensures in
     omega arith
 
-slice-aggregate-board-step : tie.Need-slice-aggregate-board-step
-slice-aggregate-board-step c =
+slice-aggregate-hulmayek-bound-step : tie.Need-slice-aggregate-hulmayek-bound-step
+slice-aggregate-hulmayek-bound-step c =
     let all = c .before .before .notices in
-    let l = fitting-le (length (c .before .before .before .before .before .args .said .now)) in
+    let l = fitting-le (length (c .before .before .before .before .args .said .now)) in
     let f = c .before .fitting .ensures in
     let e : length (all .result) ≡ 20 = ap length (all .ensures) ∙ table-length 20 _ in
     sym (length-take-le (c .before .fitting .result) (all .result) (omega arith))
 
-board-step-requires : tie.Need-board-step-requires
-board-step-requires c κs = search needs
+hulmayek-bound-step-requires : tie.Need-hulmayek-bound-step-requires
+hulmayek-bound-step-requires c κs = search needs
 
 -- what the step on the notices answers
-stepped : (c : tie.After-board-step)
-    → let a = c .before .before .before .before .before .before .args in
-    c .board-step .result ≡ boardAnswer (a .n) (a .source) (boundOf (a .kind) (a .told)) (a .own) (a .heard) (a .before) (notices (a .said .now))
+stepped : (c : tie.After-hulmayek-bound-step)
+    → let a = c .before .before .before .before .before .args in
+    c .hulmayek-bound-step .result ≡ boardAnswer (a .n) (a .source) (boundOf (a .kind) (a .told)) (a .own) (a .heard) (a .before) (notices (a .said .now))
 stepped c =
-    let a = c .before .before .before .before .before .before .args in
+    let a = c .before .before .before .before .before .args in
     let all = c .before .before .before .notices in
     let fit = c .before .before .fitting in
-    let bound = c .before .before .before .before .bound-of in
-    c .board-step .ensures
-    ∙ ap (λ (b : Bound). boardAnswer (a .n) (a .source) b (a .own) (a .heard) (a .before) (take (fit .result) (all .result))) (bound .ensures)
+    c .hulmayek-bound-step .ensures
     ∙ ap (λ (k : ℕ). boardAnswer (a .n) (a .source) (boundOf (a .kind) (a .told)) (a .own) (a .heard) (a .before) (take k (all .result))) (fit .ensures)
     ∙ ap (λ (l : List ℕ). boardAnswer (a .n) (a .source) (boundOf (a .kind) (a .told)) (a .own) (a .heard) (a .before) (take (fitting (length (a .said .now))) l)) (all .ensures)
 
@@ -82,7 +76,7 @@ unfolding recordOf
 returns c =
     let nine = c .before .before .before .before .before .before .before in
     let s = nine .before in
-    let a = s .before .before .before .before .before .before .args in
+    let a = s .before .before .before .before .before .args in
     c .played .ensures
     ∙ played-is (a .n) (a .source) (boundOf (a .kind) (a .told)) (a .own) (a .heard) (a .default) (a .before) (a .said .now)
     (sym (nine .with-nine .ensures ∙ number-is (a .n) (a .source) (boundOf (a .kind) (a .told)) (a .own) (a .heard) (a .default) (a .before) (a .said .now) _ (ap (λ (x : BoardAnswer). x .number) (stepped s)))
@@ -100,7 +94,7 @@ returns-2 : tie.Need-returns-2
 returns-2 c =
     let nine = c .before .before in
     let s = nine .before in
-    let a = s .before .before .before .before .before .before .args in
+    let a = s .before .before .before .before .before .args in
     c .apart .ensures
     ∙ refused-is (a .n) (a .source) (boundOf (a .kind) (a .told)) (a .own) (a .heard) (a .default) (a .before) (a .said .now) _
     (nine .with-nine .ensures ∙ number-is (a .n) (a .source) (boundOf (a .kind) (a .told)) (a .own) (a .heard) (a .default) (a .before) (a .said .now) _ (ap (λ (x : BoardAnswer). x .number) (stepped s)))
@@ -110,12 +104,11 @@ pub hulmayek-bound-shared-step-spec : {M : Type 1} → statement M
 hulmayek-bound-shared-step-spec =
     tie.close
     (tie.spec
-    bound-of-requires
     notices-requires
     fitting-requires
     array-share-prefix-all
-    slice-aggregate-board-step
-    board-step-requires
+    slice-aggregate-hulmayek-bound-step
+    hulmayek-bound-step-requires
     with-nine-requires
     state-of-requires
     member-requires
