@@ -16,8 +16,9 @@ const SOURCE_RING: f64 = 6.0;
 const MARGIN: f64 = 75.0;
 const LETTER: f64 = 7.5;
 const NARROWEST: f64 = 800.0;
-/// Above and below, for a frame around all terminals, which says that they share one channel.
+/// More room around them, for a frame that says that all share one channel; and where it stands.
 const FRAME_ROOM: f64 = 16.0;
+const FRAME: f64 = 12.0;
 
 /// What the heading, the shapes and the legend say.
 pub struct Told {
@@ -60,7 +61,7 @@ impl<'a> Sheet<'a> {
         let labels = (0..plan.terminals).filter_map(|terminal| sheet.beside(terminal));
         let longest = labels.map(|words| words.chars().count()).max().unwrap_or(0);
         let words = f64::max(longest as f64 * LETTER, tags::widest(plan));
-        let side = f64::max(MARGIN + 35.0, words + 50.0);
+        let side = f64::max(MARGIN + 35.0, words + 50.0) + sheet.frame_room();
         sheet.width = f64::max(sheet.layout.width + 2.0 * side, NARROWEST);
         sheet.corner.x = (sheet.width - sheet.layout.width) / 2.0;
         sheet.corner.y += sheet.frame_room();
@@ -140,8 +141,11 @@ impl<'a> Sheet<'a> {
         if self.told.default.is_none() {
             return String::new();
         }
-        let (x, y) = (LEFT / 2.0, HEADING);
-        shared_channel([x, y], [self.width - LEFT, bottom - 2.0 * FRAME_ROOM - y]) + "\n"
+        let size = [
+            self.width - 2.0 * FRAME,
+            bottom - 2.0 * FRAME_ROOM - HEADING,
+        ];
+        shared_channel([FRAME, HEADING], size) + "\n"
     }
 
     fn spot(&self, terminal: u8) -> Point {
