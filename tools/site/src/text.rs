@@ -203,14 +203,22 @@ impl Draft {
         Ok(())
     }
 
+    /// An error where all share one channel, on which there is no such thing.
+    fn not_on_shared(&self, what: &str, rule: &str) -> Result<(), String> {
+        match self.shared {
+            Some(given) => Err(format!(
+                "{what}, and line {given} has a shared channel: {rule}"
+            )),
+            None => Ok(()),
+        }
+    }
+
     /// A line's notice; whether it has an edition is as in the lines before.
     fn notice(&mut self, line: usize, word: &str, text: &str) -> Result<Notice, String> {
         let notice = notice(word, text)?;
         let has = notice.edition.is_some();
-        if let (Some(given), true) = (self.shared, has) {
-            return Err(format!(
-                "an edition, and line {given} has a shared channel: {NO_EDITION}"
-            ));
+        if has {
+            self.not_on_shared("an edition", NO_EDITION)?;
         }
         match *self.form.get_or_insert((line, has)) {
             (given, false) if has => Err(format!(
@@ -230,11 +238,7 @@ impl Draft {
 
     /// After 'round': `2: source issues 8 edition 2`.
     fn take_later(&mut self, line: usize, text: &str) -> Result<(), String> {
-        if let Some(given) = self.shared {
-            return Err(format!(
-                "a later notice, and line {given} has a shared channel: {NO_EDITION}"
-            ));
-        }
+        self.not_on_shared("a later notice", NO_EDITION)?;
         let form = "expected 'round NUMBER: source issues LAYOUT edition NUMBER'";
         let (round, rest) = text.split_once(':').ok_or(form)?;
         let (who, rest) = rest.split_once("issues").ok_or(form)?;
@@ -261,14 +265,15 @@ impl Draft {
         let (round, rest) = text.split_once(':').ok_or(form)?;
         let (from, rest) = rest.split_once("says").ok_or(form)?;
         let (round, from) = (round.trim(), from.trim());
-        let (said, hearers) = match (rest.split_once("to"), self.shared) {
-            (Some(_), Some(given)) => {
-                return Err(format!(
-                    "a hearer, and line {given} has a shared channel: {NO_HEARER}"
-                ))
+        let (said, hearers) = match rest.split_once("to") {
+            Some(parts) => {
+                self.not_on_shared("a hearer", NO_HEARER)?;
+                parts
             }
-            (None, Some(_)) => return self.take_word(line, [round, from, rest.trim()], None),
-            (parts, None) => parts.ok_or(form)?,
+            None if self.shared.is_some() => {
+                return self.take_word(line, [round, from, rest.trim()], None)
+            }
+            None => return Err(form.into()),
         };
         if hearers.trim().is_empty() {
             return Err("expected a terminal after 'to', found nothing".into());
@@ -377,8 +382,8 @@ impl Draft {
         )
     }
 
-    /// Without a 'bad' line nobody is bad. A default layout stands before the bad set. Later notices stand in the order of their rounds, and
-    /// those of one round in the order given.
+    /// Without a 'bad' line nobody is bad. A default layout stands before the bad set. Later notices
+    /// stand in the order of their rounds, and those of one round in the order given.
     fn run_frames(&self, start: &Part<Notice>) -> Vec<(String, Vec<Place>)> {
         let (set, place) = match &self.bad {
             Some(bad) => (bad.is, &bad.place),
