@@ -4,9 +4,9 @@
  * The functions are in libfirmware.a ('rt staticlib firmware'), for x86-64 with the System V calling
  * convention. They are proved: for any bytes that are handed in they end, touch no memory but their
  * arguments, and answer as the words below say. They use no heap and no function from outside. Records and
- * answers go by value, so a step has several of them on the stack: just under 15 KiB in all, measured. The
- * caller's compiler may copy them by a call of memcpy, as clang does: a board without a C library then has to
- * supply that, for its own code and not for the archive.
+ * answers go by value, so a step has several of them on the stack: under 19 KiB in all, and under 23 KiB on a
+ * shared channel, measured. The caller's compiler may copy them by a call of memcpy, as clang does: a board
+ * without a C library then has to supply that, for its own code and not for the archive.
  *
  * A notice is one number: its edition, 1 to 65535, and its layout, 1 to 65535 (HULMAYEK_NOTICE). The edition says
  * which notice is the newer one: when the office changes its mind it issues a notice of a higher edition. A number
@@ -21,6 +21,16 @@
  *      record = hulmayek_issue(record, notice).after
  * So a terminal speaks once for each notice that it takes, in the round after the one that it took it in, and the
  * source in round 1. examples/board.c plays this.
+ *
+ * A site with one shared channel, where each word of a board reaches all who hear it alike, may play another way, in
+ * which the source itself may be bad. All its boards are given the same default layout, 1 to 65535, and what they say
+ * are layouts, 16 bits, each of which counts as edition 1. A round of a board is then:
+ *   1. transmit HULMAYEK_NOTICE_LAYOUT(hulmayek_says(record)) to all; 0 is silence, nothing is sent
+ *   2. collect said[j], the layout that terminal j transmitted in this round, 0 for nothing
+ *   3. record = hulmayek_shared_step(.., default_layout, record, said, n).after, or hulmayek_shared_group_step(..)
+ *      where the plan has groups
+ * Records are the same, and so is their start; the source's is hulmayek_source_start(HULMAYEK_NOTICE(1, layout)). There
+ * are no later notices: nobody calls hulmayek_issue. All boards of a site play the same way, in every round.
  *
  * Threads: nothing is kept between calls and nothing is shared, so any number of threads may call any
  * of the functions at the same time. Each record is a value of its caller's.
@@ -44,7 +54,7 @@ extern "C" {
 /* The layout in memory of the types below, and the meaning of the functions. An archive of another layout returns
  * another number from hulmayek_layout(): compare once, at the start. It has nothing to do with the layout that a
  * notice names. */
-#define HULMAYEK_LAYOUT 4
+#define HULMAYEK_LAYOUT 5
 
 /* A notice by its edition and its layout, and these two of a notice. */
 #define HULMAYEK_NOTICE(edition, layout) ((uint32_t)(uint16_t)(edition) << 16 | (uint16_t)(layout))
@@ -60,7 +70,7 @@ extern "C" {
 #define HULMAYEK_WAITING 0
 #define HULMAYEK_TAKEN 1
 
-/* `kind` of hulmayek_bound_step. */
+/* `kind` of hulmayek_bound_step and hulmayek_bound_shared_step. */
 #define HULMAYEK_KIND_F 0
 #define HULMAYEK_KIND_GROUPS 1
 
@@ -107,11 +117,12 @@ typedef struct {
  *            HULMAYEK_WRONG_LINK    `heard` has a bit at or above n, or the terminal's own
  *            HULMAYEK_WRONG_GROUPS  only with groups: count is not 1 to 16, a group has a bit at or above n or
  *                                   the source's, or a place from count on is not 0
+ *            HULMAYEK_WRONG_LAYOUT  only on a shared channel: the default layout is 0
  *            HULMAYEK_WRONG_RECORD  the record cannot be stepped: 40 rounds played, own not below n, the
  *                                   source waiting, taken later than its round, taken with edition 0 or
  *                                   layout 0, more layouts of a terminal that it hears than rounds played
  *                                   (notes[j].count above round), or no record at all
- *            HULMAYEK_WRONG_LENGTH  the list is not n words long
+ *            HULMAYEK_WRONG_LENGTH  the list is not n words long; on a shared channel not n layouts
  *
  * HULMAYEK_WRONG_RECORD with before.round == HULMAYEK_ROUNDS is the end of the play: a record that was only
  * ever made by the functions below reaches that round and no later one, and keeps its notice. With any other
@@ -184,6 +195,42 @@ static inline hulmayek_answer hulmayek_group_step(size_t n, size_t source, hulma
     return hulmayek_bound_step(n, source, HULMAYEK_KIND_GROUPS, groups, own, heard, before, said, said_len);
 }
 
+/* One round of terminal `own` on a shared channel, where the source may be bad too: said[j] is the layout that terminal
+ * j said to all who hear it, 0 for nothing, and `default_layout` is the site's. The other arguments are those of
+ * hulmayek_bound_step, and so is the round, on the notices HULMAYEK_NOTICE(1, said[j]), and 0 where said[j] is 0, but
+ * for this:
+ *   A terminal that waits, with no round played, and hears the source takes in this round, its first: the layout
+ *   said[source], or default_layout if the source said nothing, whatever the others say. `notice` is then
+ *   HULMAYEK_NOTICE(1, that layout) and `at` is 1. What each neighbour said is noted as always.
+ * Who does not hear the source, or waits in a later round, takes by the old rules alone, in which there is no default;
+ * who holds a notice keeps it, or one of a higher edition, since all that is said counts as edition 1; and the source
+ * takes nothing. default_layout 0 is refused, HULMAYEK_WRONG_LAYOUT, after the groups and before the record, in every
+ * round and to every terminal.
+ *
+ * The two functions below call this one, for a board that knows which bound it has. */
+hulmayek_answer hulmayek_bound_shared_step(size_t n, size_t source, size_t kind, hulmayek_groups bound, size_t own,
+                                           uint32_t heard, uint16_t default_layout, hulmayek_record before,
+                                           const uint16_t *said, size_t said_len);
+
+/* The step on a shared channel of a site of which at most f terminals that a terminal hears may lie, the source not
+ * counted. */
+static inline hulmayek_answer hulmayek_shared_step(size_t n, size_t source, size_t f, size_t own, uint32_t heard,
+                                                   uint16_t default_layout, hulmayek_record before,
+                                                   const uint16_t *said, size_t said_len) {
+    hulmayek_groups bound = {f, {0}};
+    return hulmayek_bound_shared_step(n, source, HULMAYEK_KIND_F, bound, own, heard, default_layout, before, said,
+                                      said_len);
+}
+
+/* The step on a shared channel of a site whose plan lists groups. */
+static inline hulmayek_answer hulmayek_shared_group_step(size_t n, size_t source, hulmayek_groups groups, size_t own,
+                                                         uint32_t heard, uint16_t default_layout,
+                                                         hulmayek_record before, const uint16_t *said,
+                                                         size_t said_len) {
+    return hulmayek_bound_shared_step(n, source, HULMAYEK_KIND_GROUPS, groups, own, heard, default_layout, before, said,
+                                      said_len);
+}
+
 /* The source's board takes a later notice of its office: `after` holds it, taken in the round that the record shows,
  * and all else is as it was. Call it after the step of a round and before hulmayek_says of the next one, which then
  * gives the notice; between hulmayek_says and the step it would never be said. Of two notices between the same two
@@ -196,12 +243,13 @@ static inline hulmayek_answer hulmayek_group_step(size_t n, size_t source, hulma
  *                           waiting record does, so edition 0 alone is refused as HULMAYEK_WRONG_EDITION before this
  * `after` is then the record that went in, byte for byte but for its padding. The notes are not looked at. Only the
  * source's board calls it: nothing in a record shows whose it is, and that of another board that has taken would take
- * the notice too. */
+ * the notice too. On a shared channel it has no place: a layout of a later edition would be heard as one of edition 1. */
 hulmayek_answer hulmayek_issue(hulmayek_record before, uint32_t notice);
 
 /* What the terminal transmits to all its neighbours in the round after record.round: its notice if it took it in
  * that round (record.at == record.round), else 0, which is silence. It is asked of the record before the step of
- * the round that the word is for. A record whose bytes are no state says 0. */
+ * the round that the word is for. On a shared channel its layout alone is transmitted. A record whose bytes are no
+ * state says 0. */
 uint32_t hulmayek_says(hulmayek_record record);
 
 /* HULMAYEK_LAYOUT of the header that the archive was built for. */

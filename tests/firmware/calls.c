@@ -4,6 +4,8 @@
  * places hold 0. With f there is none, since hulmayek_step is told none. A record is taken, at, the notice (4), round,
  * and 20 rows: the edition (2), the count, how many places follow, and these, two bytes each; all other places hold 0.
  * An answer is the number and the record, in each row the places up to the last that is not 0.
+ *   calls shared   for the step on a shared channel: after the record the default layout (2), then what was said, two
+ *                  bytes each
  *   calls issues   lines of a record and a later notice (4), for hulmayek_issue
  *   calls stack    prints instead how many bytes of stack a step takes that looks at as many values as a record can
  *                  hold, or a later notice, the most of the functions */
@@ -102,6 +104,11 @@ static hulmayek_answer step(place p, hulmayek_record r, const uint32_t *said, si
     return hulmayek_group_step(p.n, p.source, p.bound, p.own, p.heard, r, said, count);
 }
 
+static hulmayek_answer shared_step(place p, uint16_t none, hulmayek_record r, const uint16_t *said, size_t count) {
+    if (p.kind == 0) return hulmayek_shared_step(p.n, p.source, p.bound.count, p.own, p.heard, none, r, said, count);
+    return hulmayek_shared_group_step(p.n, p.source, p.bound, p.own, p.heard, none, r, said, count);
+}
+
 /* Whether a line is a call; it is then played and answered. */
 static int call(void) {
     place p;
@@ -113,6 +120,22 @@ static int call(void) {
     for (size_t j = 0; j < count; j++) said[j] = take(4);
     if (hulmayek_says(r) != (r.taken == 1 && r.at == r.round ? r.notice : 0)) wrong_words++;
     hulmayek_answer a = step(p, r, said, count);
+    print(&a);
+    return 1;
+}
+
+/* The same on a shared channel. */
+static int shared_call(void) {
+    place p;
+    hulmayek_record r;
+    uint16_t said[MOST];
+    if (!read_place(&p) || !read_record(&r)) return 0;
+    uint16_t none = (uint16_t)take(2);
+    if (at > length) return 0;
+    size_t count = (length - at) / 2;
+    if (count > MOST) return 0;
+    for (size_t j = 0; j < count; j++) said[j] = (uint16_t)take(2);
+    hulmayek_answer a = shared_step(p, none, r, said, count);
     print(&a);
     return 1;
 }
@@ -133,6 +156,7 @@ static ucontext_t here, there;
 static unsigned char stack[1 << 18];
 static hulmayek_record full;
 static uint32_t words[20];
+static uint16_t layouts[20];
 
 static void nothing(void) {
 }
@@ -147,22 +171,28 @@ static void one_group_step(void) {
     full = a.after;
 }
 
+static void one_shared_step(void) {
+    hulmayek_answer a = hulmayek_shared_step(20, 0, 1, 19, 0x7fffe, 7, full, layouts, 20);
+    full = a.after;
+}
+
 static void one_issue(void) {
     hulmayek_answer a = hulmayek_issue(full, 3 << 16 | 7);
     full = a.after;
 }
 
-/* A record before its last round, with as many values as it can have, no two of them the same, and a new word
- * of each neighbour. */
-static void fill(void) {
+/* A record before its last round, with as many values of an edition as it can have, no two of them the same, and a new
+ * word of each neighbour. */
+static void fill(uint16_t edition) {
     uint16_t next = 1;
     full = hulmayek_start();
     full.round = HULMAYEK_ROUNDS - 1;
     for (size_t j = 1; j < 19; j++) {
-        full.notes[j].edition = 2;
+        full.notes[j].edition = edition;
         full.notes[j].count = HULMAYEK_ROUNDS - 1;
         for (size_t i = 0; i < HULMAYEK_ROUNDS - 1; i++) full.notes[j].values[i] = next++;
-        words[j] = 2 << 16 | next++;
+        layouts[j] = next++;
+        words[j] = HULMAYEK_NOTICE(edition, layouts[j]);
     }
 }
 
@@ -181,15 +211,15 @@ static size_t depth(void (*run)(void)) {
 }
 
 /* The same of a step, 0 where the round was not played. */
-static size_t stepped(void (*run)(void)) {
-    fill();
+static size_t stepped(void (*run)(void), uint16_t edition) {
+    fill(edition);
     size_t deep = depth(run);
     return full.round == HULMAYEK_ROUNDS && full.notes[18].count == HULMAYEK_ROUNDS ? deep : 0;
 }
 
 /* The same of a later notice, 0 where it was not taken. */
 static size_t issued(void) {
-    fill();
+    fill(2);
     full.taken = 1;
     full.notice = 1 << 16 | 7;
     size_t deep = depth(one_issue);
@@ -198,7 +228,7 @@ static size_t issued(void) {
 
 /* The most of the functions; whether all were played. */
 static int print_stack(void) {
-    size_t deep[] = {stepped(one_step), stepped(one_group_step), issued()};
+    size_t deep[] = {stepped(one_step, 2), stepped(one_group_step, 2), stepped(one_shared_step, 1), issued()};
     size_t none = depth(nothing), most = 0, played = 1;
     for (size_t i = 0; i < sizeof deep / sizeof *deep; i++) {
         if (deep[i] > most) most = deep[i];
@@ -210,7 +240,7 @@ static int print_stack(void) {
 
 int main(int count, char **arguments) {
     const char *what = count == 2 ? arguments[1] : "steps";
-    int (*answer)(void) = strcmp(what, "issues") == 0 ? issue : call;
+    int (*answer)(void) = strcmp(what, "issues") == 0 ? issue : strcmp(what, "shared") == 0 ? shared_call : call;
     if (strcmp(what, "stack") == 0) return !print_stack();
     while (read_line()) {
         if (!answer()) {

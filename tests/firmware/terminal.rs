@@ -53,13 +53,25 @@ extern "C" {
         said: *const u32,
         said_len: usize,
     ) -> Answer;
+    fn hulmayek_bound_shared_step(
+        n: usize,
+        source: usize,
+        kind: usize,
+        bound: Groups,
+        own: usize,
+        heard: u32,
+        default_layout: u16,
+        before: Record,
+        said: *const u16,
+        said_len: usize,
+    ) -> Answer;
     fn hulmayek_issue(before: Record, notice: u32) -> Answer;
     fn hulmayek_says(record: Record) -> u32;
     fn hulmayek_layout() -> u32;
 }
 
 /// What this wrapper was written for; another archive is not to be used with it.
-pub const LAYOUT: u32 = 4;
+pub const LAYOUT: u32 = 5;
 
 /// A notice is one number; 0 in either half is silence.
 pub const fn notice(edition: u16, layout: u16) -> u32 {
@@ -136,6 +148,40 @@ pub fn step(place: Place, before: Record, said: &[u32]) -> Result<Record, u8> {
     result(unsafe { hulmayek_bound_step(n, source, kind, bound, own, heard, before, words, len) })
 }
 
+/// The same on a shared channel, of the layouts that were said to all: who waits in its first round and
+/// hears the source takes the source's, or the default if that said none.
+pub fn shared_step(
+    place: Place,
+    default_layout: u16,
+    before: Record,
+    said: &[u16],
+) -> Result<Record, u8> {
+    let Place {
+        n,
+        source,
+        bound,
+        own,
+        heard,
+    } = place;
+    let (kind, bound) = bound.told();
+    let (words, len) = (said.as_ptr(), said.len());
+    // SAFETY: a slice's pointer and length are true, and nobody writes while it is lent.
+    result(unsafe {
+        hulmayek_bound_shared_step(
+            n,
+            source,
+            kind,
+            bound,
+            own,
+            heard,
+            default_layout,
+            before,
+            words,
+            len,
+        )
+    })
+}
+
 /// The source's board takes a later notice of its office; or the number of the refusal.
 pub fn issue(before: Record, notice: u32) -> Result<Record, u8> {
     // SAFETY: takes values, any bytes of them.
@@ -188,7 +234,8 @@ fn main() {
     every_value_counts();
     shared_supply();
     newer_notice(third);
-    println!("drawing C, a spoiled first word in drawing E, groups in F and a newer notice from Rust: as the documents have it");
+    one_radio(second);
+    println!("drawing C, a spoiled first word in drawing E, groups in F, a newer notice and one radio for all from Rust: as the documents have it");
 }
 
 /// Terminal 3 of drawing E hears a spoiled word of 1 first, and the good one a round later.
@@ -254,4 +301,28 @@ fn newer_notice(third: Place) {
     let after = step(third, first, &[0, 131_080, 0]).expect("round 2 of terminal 2");
     assert_eq!((after.taken, after.at, after.notice), (1, 2, 131_080));
     assert_eq!((after.notes[1].edition, after.notes[1].values[0]), (2, 8));
+}
+
+/// Terminals 1 and 2 of drawing C, where a bad source says 9, or nothing and then 9.
+fn one_radio(second: Place) {
+    let spoken = shared_step(second, 5, start(), &[9, 0, 0]).expect("round 1 of terminal 1");
+    assert_eq!((spoken.taken, spoken.at, spoken.notice), (1, 1, NINE));
+    let silent = shared_step(second, 7, start(), &[0; 3]).expect("round 1 of terminal 1");
+    assert_eq!((silent.taken, silent.at, silent.notice), (1, 1, SEVEN));
+    let later = shared_step(second, 7, silent, &[9, 0, 0]).expect("round 2 of terminal 1");
+    assert_eq!(
+        (later.at, later.notice, later.notes[0].values[0]),
+        (1, SEVEN, 9)
+    );
+    let third = Place {
+        own: 2,
+        heard: 2,
+        ..second
+    };
+    let waits = shared_step(third, 7, start(), &[9, 0, 0]).expect("round 1 of terminal 2");
+    assert_eq!((waits.taken, waits.round), (0, 1));
+    let after = shared_step(third, 7, waits, &[0, 7, 0]).expect("round 2 of terminal 2");
+    assert_eq!((after.taken, after.at, after.notice), (1, 2, SEVEN));
+    assert_eq!(shared_step(second, 0, start(), &[0; 2]), Err(9));
+    assert_eq!(shared_step(second, 7, start(), &[0; 2]), Err(12));
 }

@@ -23,12 +23,11 @@ use Rattle.terminal.specs.declared.Note.{Note}
 use Rattle.terminal.specs.declared.Record.{Record}
 use Rattle.terminal.specs.Rule.{heldBy}
 use Rattle.terminal.specs.Shown.{noteOf}
-use Rattle.terminal.specs.Channel.{sharedCauseOf, sharedRecordAfter}
 use Rattle.terminal.specs.Answer.{stateSound, causeOf, recordAfter, issueCause, recordIssued}
 use Rattle.firmware.specs.declared.BoardRecord.{BoardRecord}
 use Rattle.firmware.specs.declared.BoardAnswer.{BoardAnswer}
 use Rattle.firmware.specs.declared.BoardGroups.{BoardGroups}
-use Rattle.firmware.specs.Board.{stateOf, recordOf, boardWith, boardOf, kindOf, boundOf, answerOf, boardAnswer, boardShared, boardIssued}
+use Rattle.firmware.specs.Board.{stateOf, recordOf, boardWith, boardOf, kindOf, boundOf, answerOf, boardAnswer, boardIssued}
 
 -- what a board keeps of a record stands for that record, so that the answer of one call is what the next is given
 state-again : (s : State) (round : ℕ) (notes : List Note) → recordOf (boardWith s round notes) ≡ record { state = s; round = round; notes = notes }
@@ -58,17 +57,6 @@ module _ (before : BoardRecord) (r : Record) (e : r ≡ recordOf before) (number
       ∙ ap (λ (x : Bound). answerOf before (causeOf n source x own heard r (length said)) (recordAfter n source x own heard r said)) q
       ∙ ap (λ (x : Record). answerOf before (causeOf n source bound own heard x (length said)) (recordAfter n source bound own heard x said)) e
 
-  pub shared-answered : (n source : ℕ) (bound : Bound) (own heard default : ℕ) (said : List ℕ) (b : Bound) → b ≡ bound
-      → number ≡ sharedCauseOf n source b own heard default r (length said)
-      → after ≡ sharedRecordAfter n source b own heard default r said
-      → answerOf before number after ≡ boardShared n source bound own heard default before said
-  unfolding boardShared
-  shared-answered n source bound own heard default said b q k a =
-      ap (λ (x : ℕ). answerOf before x after) k
-      ∙ ap (λ (x : Record). answerOf before (sharedCauseOf n source b own heard default r (length said)) x) a
-      ∙ ap (λ (x : Bound). answerOf before (sharedCauseOf n source x own heard default r (length said)) (sharedRecordAfter n source x own heard default r said)) q
-      ∙ ap (λ (x : Record). answerOf before (sharedCauseOf n source bound own heard default x (length said)) (sharedRecordAfter n source bound own heard default x said)) e
-
   pub issue-answered : (notice : Notice) → number ≡ issueCause r notice → after ≡ recordIssued r notice → answerOf before number after ≡ boardIssued before notice
   unfolding boardIssued
   issue-answered notice k a =
@@ -77,7 +65,7 @@ module _ (before : BoardRecord) (r : Record) (e : r ≡ recordOf before) (number
       ∙ ap (λ (x : Record). answerOf before (issueCause x notice) (recordIssued x notice)) e
 
 -- a refused record comes back as it went in, whatever the number
-refused : (before : BoardRecord) (number : ℕ) (after : Record) (k : ℕ) → number ≡ k → (k ≡ 0 → ⊥)
+pub refused : (before : BoardRecord) (number : ℕ) (after : Record) (k : ℕ) → number ≡ k → (k ≡ 0 → ⊥)
     → answerOf before number after ≡ record { number = k; after = before }
 unfolding answerOf
 refused before number after k e z =
@@ -85,7 +73,7 @@ refused before number after k e z =
 
 -- ---- a later notice changes no note
 
-board-notes : (s : State) (round : ℕ) (notes : List Note) → boardWith s round notes .notes ≡ notes
+pub board-notes : (s : State) (round : ℕ) (notes : List Note) → boardWith s round notes .notes ≡ notes
 unfolding boardWith
 board-notes Waiting round notes = refl
 board-notes (Taken at notice) round notes = refl

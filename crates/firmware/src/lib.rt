@@ -1,6 +1,10 @@
 // The step for C, by value, and the office's notice to its own board. include/terminal.h has the same in
 // C's words.
 ghost use mathlib.Core.Path.{_≡_};
+ghost use lib.Dec.{eqb, leb};
+ghost use lib.ListN.{getD};
+ghost use Rattle.sets.specs.Tests.{_or_, pick};
+ghost use Rattle.quorum.specs.Notice.{noticeOf};
 ghost use Rattle.terminal.specs.Rule.{start, sourceStart};
 ghost use Rattle.terminal.specs.Shown.{shown};
 ghost use Rattle.terminal.specs.Answer.{numberOf};
@@ -152,51 +156,6 @@ pub extern "C" fn hulmayek_source_start(notice: u32) -> BoardRecord
     board_of(terminal::source_start(notice))
 }
 
-// One round of terminal `own`, which hears the set `heard`; said[j] is what terminal j said, 0 for
-// nothing. C lends the list by its address and its length. Kind 0 has at most told.count bad ones among
-// those that a terminal hears, kind 1 some of one of told.count groups.
-#[no_mangle]
-pub extern "C" fn hulmayek_bound_step(
-    n: usize,
-    source: usize,
-    kind: usize,
-    told: BoardGroups,
-    own: usize,
-    heard: u32,
-    before: BoardRecord,
-    said: &[u32],
-) -> BoardAnswer
-    ensures { λ r. ⌜ r ≡ boardAnswer n source (boundOf kind told) own heard before (now (said .entry)) ⌝ }
-{
-    let bound = bound_of(kind, told);
-    answer_of(
-        before,
-        terminal::step(n, source, bound, own, heard, record_of(before), said),
-    )
-}
-
-// The same on a shared channel: said[j] is the layout that terminal j said to all who hear it, 0 for nothing.
-#[no_mangle]
-pub extern "C" fn hulmayek_bound_shared_step(
-    n: usize,
-    source: usize,
-    kind: usize,
-    told: BoardGroups,
-    own: usize,
-    heard: u32,
-    default: u16,
-    before: BoardRecord,
-    said: &[u16],
-) -> BoardAnswer
-    ensures { λ r. ⌜ r ≡ boardShared n source (boundOf kind told) own heard default before (now (said .entry)) ⌝ }
-{
-    let bound = bound_of(kind, told);
-    answer_of(
-        before,
-        terminal::shared_step(n, source, bound, own, heard, default, record_of(before), said),
-    )
-}
-
 // A note again, its edition, its count and its layouts each by itself.
 fn note_apart(note: Note) -> Note
     ensures { λ r. ⌜ r ≡ note ⌝ }
@@ -236,10 +195,167 @@ fn notes_apart(notes: [Note; 20]) -> [Note; 20]
     ]
 }
 
+// An answer again, note by note. All notes at once the compiler would copy by a call of memcpy, and the
+// archive must need nothing from outside, which tests/firmware/run looks at.
+fn apart(number: u8, kept: BoardRecord) -> BoardAnswer
+    ensures { λ r. ⌜ r ≡ record { number = number; after = kept } ⌝ }
+{
+    let notes = kept.notes;
+    BoardAnswer {
+        number: number,
+        after: BoardRecord {
+            taken: kept.taken,
+            at: kept.at,
+            round: kept.round,
+            notice: kept.notice,
+            notes: notes_apart(notes),
+        },
+    }
+}
+
+// One round of terminal `own`, which hears the set `heard`; said[j] is what terminal j said, 0 for
+// nothing. C lends the list by its address and its length. Kind 0 has at most told.count bad ones among
+// those that a terminal hears, kind 1 some of one of told.count groups.
+#[no_mangle]
+pub extern "C" fn hulmayek_bound_step(
+    n: usize,
+    source: usize,
+    kind: usize,
+    told: BoardGroups,
+    own: usize,
+    heard: u32,
+    before: BoardRecord,
+    said: &[u32],
+) -> BoardAnswer
+    ensures { λ r. ⌜ r ≡ boardAnswer n source (boundOf kind told) own heard before (now (said .entry)) ⌝ }
+{
+    let bound = bound_of(kind, told);
+    answer_of(
+        before,
+        terminal::step(n, source, bound, own, heard, record_of(before), said),
+    )
+}
+
+// ---- On a shared channel, where what is said are layouts, which count as edition 1.
+
+// What terminal j said; silence past the list's end.
+fn word_at(said: &[u16], j: usize) -> u16
+    ensures { λ r. ⌜ r ≡ getD (now (said .entry)) j 0 ⌝ }
+{
+    if j < said.len() {
+        return said[j];
+    }
+    0
+}
+
+// A list longer than any site's is taken for an empty one: no site fits either.
+fn fitting(words: usize) -> usize
+    ensures { λ r. ⌜ r ≡ pick (leb words 20) words 0 ⌝ }
+{
+    if words <= 20 {
+        return words;
+    }
+    0
+}
+
+// The number, from that of a step on the same notices: a default that is 0 comes after 4, 5 and 17.
+fn with_nine(number: u8, default: u16) -> u8
+    ensures { λ r. ⌜ r ≡ pick (eqb number 4 or eqb number 5 or eqb number 17) number (pick (eqb default 0) 9 number) ⌝ }
+{
+    if number == 4 {
+        return number;
+    }
+    if number == 5 {
+        return number;
+    }
+    if number == 17 {
+        return number;
+    }
+    if default == 0 {
+        return 9;
+    }
+    number
+}
+
+// The state of a record: its three fields.
+struct StateParts {
+    taken: u8,
+    at: u8,
+    notice: u32,
+}
+
+// Who hears the source in its first round has taken this layout in it.
+fn taking(first: bool, layout: u16, after: BoardRecord) -> StateParts
+    ensures { λ r. ⌜ r ≡ pick «first» (record { taken = 1; at = after .round; notice = noticeOf 1 layout }) (record { taken = after .taken; at = after .at; notice = after .notice }) ⌝ }
+{
+    if first {
+        return StateParts {
+            taken: 1,
+            at: after.round,
+            notice: quorum::notice_of(1, layout),
+        };
+    }
+    StateParts {
+        taken: after.taken,
+        at: after.at,
+        notice: after.notice,
+    }
+}
+
+// The answer of a round that was played.
+fn played(first: bool, layout: u16, after: BoardRecord) -> BoardAnswer
+    ensures { λ r. ⌜ r ≡ record { number = 0; after = pick «first» (record { taken = 1; at = after .round; round = after .round; notice = noticeOf 1 layout; notes = after .notes }) after } ⌝ }
+{
+    let state = taking(first, layout, after);
+    let notes = after.notes;
+    BoardAnswer {
+        number: 0,
+        after: BoardRecord {
+            taken: state.taken,
+            at: state.at,
+            round: after.round,
+            notice: state.notice,
+            notes: notes_apart(notes),
+        },
+    }
+}
+
+// One round on a shared channel: said[j] is the layout that terminal j said to all who hear it, 0 for nothing.
+// It is the step above on these as notices, but for a default that is 0 and for who hears the source in round 1.
+// Over terminal::shared_step the compiler would write no round in line, and copy records by calls of memcpy.
+#[no_mangle]
+pub extern "C" fn hulmayek_bound_shared_step(
+    n: usize,
+    source: usize,
+    kind: usize,
+    told: BoardGroups,
+    own: usize,
+    heard: u32,
+    default: u16,
+    before: BoardRecord,
+    said: &[u16],
+) -> BoardAnswer
+    ensures { λ r. ⌜ r ≡ boardShared n source (boundOf kind told) own heard default before (now (said .entry)) ⌝ }
+{
+    let all = terminal::channel::notices(said);
+    let words = fitting(said.len());
+    let answer = hulmayek_bound_step(n, source, kind, told, own, heard, before, &all[..words]);
+    let refused = with_nine(answer.number, default);
+    if refused == 0 {
+        let state = state_of(before.taken, before.at, before.notice);
+        let first = terminal::channel::first_hearing(
+            state,
+            before.round,
+            sets::member(heard, source),
+        );
+        let layout = terminal::channel::word_or(default, word_at(said, source));
+        return played(first, layout, answer.after);
+    }
+    apart(refused, before)
+}
+
 // The source's board takes a later notice of its office, in the round that its record shows. No note
-// changes, so they are copied from the record that went in, one by one: all at once the compiler would
-// copy them by a call of memcpy, and the archive must need nothing from outside, which
-// tests/firmware/run looks at.
+// changes, so they are copied from the record that went in, one by one.
 #[no_mangle]
 pub extern "C" fn hulmayek_issue(before: BoardRecord, notice: u32) -> BoardAnswer
     ensures { λ r. ⌜ r ≡ boardIssued before notice ⌝ }

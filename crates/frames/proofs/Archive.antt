@@ -13,7 +13,7 @@ use Rattle.sets.proofs.Bools.{clash, decide, no-by, not-yes, pick-yes, pick-no}
 use Rattle.sets.proofs.Laws.{equal-or-not}
 use Rattle.plan.specs.Deaf.{deafSet}
 use Rattle.lines.specs.declared.Frame.{Frame}
-use Rattle.lines.specs.declared.Frame.the-variants.{Foreign, Unknown, Head, Link, Group, FaultSet, Start, Later, Message}
+use Rattle.lines.specs.declared.Frame.the-variants.{Foreign, Unknown, Head, Link, Group, Channel, FaultSet, Start, Later, Message, Broadcast}
 use Rattle.lines.specs.Frames.{frameOf}
 use Rattle.frames.specs.declared.Progress.{Progress}
 use Rattle.frames.specs.declared.Reader.{Reader}
@@ -22,12 +22,12 @@ use Rattle.frames.specs.Reading.{mostBytes, planKinds, runKinds, stageOf
 use Rattle.frames.specs.Archive.{Beside}
 use Rattle.frames.proofs.Unless.{unless-none, unless-some, unless-read}
 use Rattle.frames.proofs.EndLaws.{links-elsewhere, links-none, links-archived, links-heard, links-deaf, end-here, end-later, end-none}
-use Rattle.frames.proofs.Keeps.{plan-stage, stage-plan, head-accepted, link-accepted, group-accepted, fault-set-accepted, start-accepted, later-accepted, message-accepted, frame-stage, line-read, told-keeps}
+use Rattle.frames.proofs.Keeps.{plan-stage, stage-plan, head-accepted, link-accepted, group-accepted, channel-accepted, fault-set-accepted, start-accepted, later-accepted, message-accepted, broadcast-accepted, frame-stage, line-read, told-keeps}
 use Rattle.frames.proofs.Accepted.{run-is}
 
 -- ---- what an accepted frame does to the stage
 
--- from the bad set on, the plan stays
+-- from the default layout or the bad set on, the plan stays
 later-frame : (p : Progress) (said : Lists) (frame : Frame) → 3 ≤ stageOf (p .stage) → causeIn p said frame ≡ 0
     → (3 ≤ stageOf (after p frame .stage)) × (after p frame .plan ≡ p .plan)
 unfolding causeIn after
@@ -36,16 +36,18 @@ later-frame p said Unknown s h = absurd (omega arith)
 later-frame p said (Head n source f) s h = absurd (omega (arith, head-accepted p said n source f h .0))
 later-frame p said (Link from to) s h = absurd (omega (arith, link-accepted p said from to h .0))
 later-frame p said (Group x) s h = absurd (omega (arith, group-accepted p said x h .1))
-later-frame p said (FaultSet x) s h = absurd (omega (arith, fault-set-accepted p said x h .1))
+later-frame p said (Channel layout) s h = absurd (omega (arith, channel-accepted p said layout h .1))
+later-frame p said (FaultSet x) s h = (omega arith, refl)
 later-frame p said (Start form edition layout rounds) s h = (omega arith, refl)
 later-frame p said (Later round edition layout) s h = (omega arith, refl)
 later-frame p said (Message form round from to edition layout) s h = (omega arith, refl)
+later-frame p said (Broadcast round from layout) s h = (omega arith, refl)
 
 -- the links end with this frame
 abbrev Ends : Progress → Frame → Type 0
 Ends p frame = (inPlan p ≡ true) × (endsLinks (p .plan .bound .kind) frame ≡ true)
 
--- before that, the frame is a head, a link or a group, or it is the bad set, and the links end with it
+-- before that, the frame is a head, a link or a group, or it is the default layout or the bad set, and the links end with it
 early-frame : (p : Progress) (said : Lists) (frame : Frame) → stageOf (p .stage) ≤ 2 → causeIn p said frame ≡ 0
     → (Ends p frame × (3 ≤ stageOf (after p frame .stage)) × (after p frame .plan ≡ p .plan)) ⊎ ((Ends p frame → ⊥) × (stageOf (after p frame .stage) ≤ 2))
 unfolding causeIn after endsLinks
@@ -55,11 +57,13 @@ early-frame p said (Head n source f) s h =
     let z = head-accepted p said n source f h .0 in inr (λ e. let o = plan-stage p (e .0) .0 in omega arith, omega arith)
 early-frame p said (Link from to) s h = inr (λ e. clash (e .1) refl, omega arith)
 early-frame p said (Group x) s h = inr (λ e. clash (e .1) (not-yes (group-accepted p said x h .2)), omega arith)
-early-frame p said (FaultSet x) s h =
-    let a = fault-set-accepted p said x h in inl ((stage-plan p (a .0) (a .1), refl), omega arith, refl)
+early-frame p said (Channel layout) s h =
+    let a = channel-accepted p said layout h in inl ((stage-plan p (a .0) (a .1), refl), omega arith, refl)
+early-frame p said (FaultSet x) s h = inl ((stage-plan p (fault-set-accepted p said x h .0) s, refl), omega arith, refl)
 early-frame p said (Start form edition layout rounds) s h = absurd (omega (arith, start-accepted p said form edition layout rounds h .0))
 early-frame p said (Later round edition layout) s h = absurd (omega (arith, later-accepted p said round edition layout h .0))
 early-frame p said (Message form round from to edition layout) s h = absurd (omega (arith, message-accepted p said form round from to edition layout h))
+early-frame p said (Broadcast round from layout) s h = absurd (omega (arith, broadcast-accepted p said round from layout h))
 
 -- ---- two readings of one file
 

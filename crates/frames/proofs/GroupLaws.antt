@@ -10,7 +10,7 @@ use Rattle.sets.specs.Sets.{Set}
 use Rattle.quorum.specs.Quorum.{noGroups, listed}
 use Rattle.plan.specs.declared.Plan.{Plan}
 use Rattle.lines.specs.declared.Frame.{Frame}
-use Rattle.lines.specs.declared.Frame.the-variants.{Foreign, Unknown, Head, Link, Group, FaultSet, Start, Later, Message}
+use Rattle.lines.specs.declared.Frame.the-variants.{Foreign, Unknown, Head, Link, Group, Channel, FaultSet, Start, Later, Message, Broadcast}
 use Rattle.lines.specs.Frames.{frameOf}
 use Rattle.frames.specs.declared.Progress.{Progress}
 use Rattle.frames.specs.declared.Reader.{Reader}
@@ -40,10 +40,12 @@ module _ (p : Progress) (said : Lists) (o : Open p) where
   frame-places (Head n source f) = length-replicate {A = ℕ} 16 0
   frame-places (Link from to) = o .places
   frame-places (Group s) = length-set (p .plan .bound .groups) (listed (p .plan .bound .kind)) s ∙ o .places
+  frame-places (Channel layout) = o .places
   frame-places (FaultSet s) = o .places
   frame-places (Start form edition layout rounds) = o .places
   frame-places (Later round edition layout) = o .places
   frame-places (Message form round from to edition layout) = o .places
+  frame-places (Broadcast round from layout) = o .places
 
   frame-open : (frame : Frame) → causeIn p said frame ≡ 0 → Open (after p frame)
   frame-open frame h = record { places = frame-places frame; empty = λ z. absurd (frame-stage p said frame h z) }
@@ -69,10 +71,12 @@ module _ (p : Progress) (said : Lists) (o : Open p) where
       (none-taken _ _ (o .empty (head-accepted p said n source f h .0)) ∙ sym (none-taken (listed (kindRead f)) noGroups (none-listed f)))
   frame-groups (Link from to) rest h = refl
   frame-groups (Group s) rest h = group-last s rest (group-accepted p said s h .3)
+  frame-groups (Channel layout) rest h = refl
   frame-groups (FaultSet s) rest h = refl
   frame-groups (Start form edition layout rounds) rest h = refl
   frame-groups (Later round edition layout) rest h = refl
   frame-groups (Message form round from to edition layout) rest h = refl
+  frame-groups (Broadcast round from layout) rest h = refl
 
 -- the groups known in the end are those known before, then those told
 pub told-groups : (reader : Reader) (p : Progress) (said : Lists) (k : ℕ) (lines : List Line) → Open p → told reader p said k lines .number ≡ 0

@@ -10,26 +10,25 @@ use lib.ListN.{length, length-append}
 use borrow.Author.Tests.{eq-eqb, ne-eqb, eqb-true, eqb-false, ltb-true, leb-true, leb-false}
 use Rattle.sets.specs.Tests.{_and_, _or_}
 use Rattle.sets.specs.Causes.{_gives_, firstCause}
-use Rattle.sets.proofs.Bools.{clash, and-l, and-r, and-yes, or-l, or-r, or-e, not-i, not-yes, not-no, pick-case}
+use Rattle.sets.proofs.Bools.{clash, and-l, and-r, and-i, and-yes, or-l, or-r, or-e, not-i, not-yes, not-no, pick-case}
 use Rattle.sets.proofs.Causes.{cause-here, cause-none}
 use Rattle.sets.proofs.Laws.{equal-or-not}
 use Rattle.quorum.specs.Quorum.{mostGroups, listed, inRange, others}
 use Rattle.quorum.specs.Words.{startSound}
 use Rattle.plan.specs.Plan.{hears}
-use Rattle.faults.specs.Check.{faultCauseOf}
 use Rattle.lines.specs.declared.Form.{Form}
 use Rattle.lines.specs.declared.Form.the-variants.{Old, New}
 use Rattle.lines.specs.declared.Rounds.{Rounds}
 use Rattle.lines.specs.declared.Frame.{Frame}
-use Rattle.lines.specs.declared.Frame.the-variants.{Foreign, Unknown, Head, Link, Group, FaultSet, Start, Later, Message}
+use Rattle.lines.specs.declared.Frame.the-variants.{Foreign, Unknown, Head, Link, Group, Channel, FaultSet, Start, Later, Message, Broadcast}
 use Rattle.lines.specs.Frames.{frameOf, fits}
 use Rattle.lines.proofs.Fits.{frame-fits}
 use Rattle.frames.specs.declared.Stage.{Stage}
-use Rattle.frames.specs.declared.Stage.the-variants.{Nothing, Links, Faults, Started}
+use Rattle.frames.specs.declared.Stage.the-variants.{Nothing, Links, Shared, Faults, Started}
 use Rattle.frames.specs.declared.Progress.{Progress}
 use Rattle.frames.specs.declared.Reader.{Reader}
 use Rattle.frames.specs.Lines.{Line, ended, cut, lastLine, linesFrom}
-use Rattle.frames.specs.Reading.{mostBytes, stageOf, isAt, inPlan, isStarted, formOf, otherForm, kindRead, lists, roundsOf, nothingRead, Lists, nothingSaid, headCause, linkCause, groupCause, faultSetCause, startCause, laterCause, messageCause, causeIn, linksCause, endCause, after, saidAfter, Reading, refusal, told, reading}
+use Rattle.frames.specs.Reading.{mostBytes, stageOf, isAt, inPlan, isStarted, formOf, otherForm, isShared, wrongForm, hasEdition, kindRead, lists, roundsOf, nothingRead, Lists, nothingSaid, headCause, linkCause, groupCause, channelCause, badSetCause, faultSetCause, startCause, laterCause, messageCause, broadcastCause, causeIn, linksCause, endCause, after, saidAfter, Reading, refusal, told, reading}
 use Rattle.frames.proofs.Unless.{unless-read}
 use Rattle.frames.proofs.Built.{Built, head-built, link-built, group-built}
 
@@ -54,15 +53,32 @@ module _ (p : Progress) where
       ⊎-elim (λ e. or-l _ _ (eq-eqb (stageOf (p .stage)) 1 e)) (λ n. or-r _ _ (eq-eqb (stageOf (p .stage)) 2 (omega arith)))
       (equal-or-not (stageOf (p .stage)) 1)
 
+  -- a bad set may follow them, or a default layout
+  set-stage : inPlan p or isAt Shared p ≡ true → (1 ≤ stageOf (p .stage)) × (stageOf (p .stage) ≤ 3)
+  unfolding isAt
+  set-stage h =
+      ⊎-elim (λ a. let b = plan-stage a in (b .0, omega (arith, b .1))) (λ a. let e = eqb-true (stageOf (p .stage)) 3 a in (omega arith, omega arith))
+      (or-e _ _ h)
+
   -- and the two from the start on, where all frames have its form
-  pub started-stage : isStarted p ≡ true → 4 ≤ stageOf (p .stage)
+  pub started-stage : isStarted p ≡ true → 5 ≤ stageOf (p .stage)
   unfolding isStarted isAt
   started-stage h =
-      ⊎-elim (λ a. let e = eqb-true (stageOf (p .stage)) 4 a in omega arith) (λ a. let e = eqb-true (stageOf (p .stage)) 5 a in omega arith) (or-e _ _ h)
+      ⊎-elim (λ a. let e = eqb-true (stageOf (p .stage)) 5 a in omega arith) (λ a. let e = eqb-true (stageOf (p .stage)) 6 a in omega arith) (or-e _ _ h)
 
   pub same-form : (form : Form) → isStarted p ≡ true → otherForm p form ≡ false → formOf form ≡ formOf (p .form)
   unfolding otherForm
   same-form form s h = eqb-true (formOf form) (formOf (p .form)) (not-no _ (sym (and-yes _ _ s) ∙ h))
+
+  -- a frame that is not of the wrong form is not barred from a shared channel
+  right-form : (form : Form) (barred : Bool) → wrongForm p form barred ≡ false → (otherForm p form ≡ false) × (isShared p and barred ≡ false)
+  unfolding wrongForm
+  right-form form barred h = or-none _ _ h
+
+-- on a shared channel it has no edition
+old-form : (form : Form) (shared : Bool) → shared and hasEdition form ≡ false → shared ≡ true → form ≡ Old
+old-form Old shared h s = refl
+old-form New shared h s = clash (and-i _ _ s refl) h
 
 -- a row whose number is a cause of its own
 row-none : (cause : ℕ) → firstCause (not (eqb cause 0) gives cause ∷ []) ≡ 0 → cause ≡ 0
@@ -103,26 +119,34 @@ module _ (p : Progress) (said : Lists) where
       let e = plan-stage p (and-l _ _ c) in
       (e .0, e .1, and-r _ _ c, ltb-true (listed (p .plan .bound .kind)) mostGroups (and-l _ _ d), and-r _ _ d)
 
+  pub channel-accepted : (layout : ℕ) → causeIn p said (Channel layout) ≡ 0 → (1 ≤ stageOf (p .stage)) × (stageOf (p .stage) ≤ 2) × (layout ≡ 0 → ⊥)
+  unfolding causeIn channelCause
+  channel-accepted layout h =
+      let a = cause-none _ 3 _ (λ z. omega arith) h in
+      let b = cause-none _ 9 _ (λ z. omega arith) (a .1) in
+      let e = plan-stage p (not-no _ (a .0)) in
+      (e .0, e .1, eqb-false layout 0 (b .0))
+
   pub fault-set-accepted : (s : ℕ) → causeIn p said (FaultSet s) ≡ 0
-      → (1 ≤ stageOf (p .stage)) × (stageOf (p .stage) ≤ 2) × (faultCauseOf (p .plan) s ≡ 0)
+      → (1 ≤ stageOf (p .stage)) × (stageOf (p .stage) ≤ 3) × (badSetCause p s ≡ 0)
   unfolding causeIn faultSetCause
   fault-set-accepted s h =
       let a = cause-none _ 3 _ (λ z. omega arith) h in
-      let e = plan-stage p (not-no _ (a .0)) in
-      (e .0, e .1, row-none (faultCauseOf (p .plan) s) (a .1))
+      let e = set-stage p (not-no _ (a .0)) in
+      (e .0, e .1, row-none (badSetCause p s) (a .1))
 
   pub start-accepted : (form : Form) (edition layout : ℕ) (rounds : Rounds) → causeIn p said (Start form edition layout rounds) ≡ 0
-      → (stageOf (p .stage) ≡ 3) × (startSound layout (roundsOf (p .plan .n) rounds) ≡ true) × (edition ≡ 0 → ⊥)
+      → (stageOf (p .stage) ≡ 4) × (startSound layout (roundsOf (p .plan .n) rounds) ≡ true) × (edition ≡ 0 → ⊥) × (isShared p ≡ true → form ≡ Old)
   unfolding causeIn startCause
   start-accepted form edition layout rounds h =
       let a = cause-none _ 2 _ (λ z. omega arith) h in
       let b = cause-none _ 3 _ (λ z. omega arith) (a .1) in
       let c = cause-none _ 9 _ (λ z. omega arith) (b .1) in
       let d = cause-none _ 16 _ (λ z. omega arith) (c .1) in
-      (at-stage Faults (b .0), not-no _ (c .0), eqb-false edition 0 (d .0))
+      (at-stage Faults (b .0), not-no _ (c .0), eqb-false edition 0 (d .0), old-form form (isShared p) (right-form p form (hasEdition form) (a .0) .1))
 
   pub later-accepted : (round edition layout : ℕ) → causeIn p said (Later round edition layout) ≡ 0
-      → (stageOf (p .stage) ≡ 4) × (p .issued < round) × (round ≤ p .rounds) × (layout ≡ 0 → ⊥) × (p .edition < edition) × (p .form ≡ Old → ⊥)
+      → (stageOf (p .stage) ≡ 5) × (p .issued < round) × (round ≤ p .rounds) × (layout ≡ 0 → ⊥) × (p .edition < edition) × (p .form ≡ Old → ⊥)
   unfolding causeIn laterCause isStarted
   later-accepted round edition layout h =
       let a = cause-none _ 2 _ (λ z. omega arith) h in
@@ -135,13 +159,20 @@ module _ (p : Progress) (said : Lists) where
         leb-true round (p .rounds) (and-r _ _ (and-r _ _ e)),
         eqb-false layout 0 (c .0),
         ltb-true (p .edition) edition (not-no _ (d .0)),
-        λ o. let f = same-form p New (or-l _ _ (and-l _ _ e)) (a .0) in omega (arith, ap formOf o),
+        λ o. let f = same-form p New (or-l _ _ (and-l _ _ e)) (right-form p New true (a .0) .0) in omega (arith, ap formOf o),
       )
 
   pub message-accepted : (form : Form) (round from to edition layout : ℕ) → causeIn p said (Message form round from to edition layout) ≡ 0
-      → 4 ≤ stageOf (p .stage)
+      → 5 ≤ stageOf (p .stage)
   unfolding causeIn messageCause
   message-accepted form round from to edition layout h =
+      let a = cause-none _ 2 _ (λ z. omega arith) h in
+      let b = cause-none _ 3 _ (λ z. omega arith) (a .1) in
+      started-stage p (not-no _ (b .0))
+
+  pub broadcast-accepted : (round from layout : ℕ) → causeIn p said (Broadcast round from layout) ≡ 0 → 5 ≤ stageOf (p .stage)
+  unfolding causeIn broadcastCause
+  broadcast-accepted round from layout h =
       let a = cause-none _ 2 _ (λ z. omega arith) h in
       let b = cause-none _ 3 _ (λ z. omega arith) (a .1) in
       started-stage p (not-no _ (b .0))
@@ -154,10 +185,12 @@ module _ (p : Progress) (said : Lists) where
   frame-stage (Head n source f) h z = omega arith
   frame-stage (Link from to) h z = omega arith
   frame-stage (Group s) h z = omega arith
+  frame-stage (Channel layout) h z = omega arith
   frame-stage (FaultSet s) h z = omega arith
   frame-stage (Start form edition layout rounds) h z = omega arith
   frame-stage (Later round edition layout) h z = omega arith
   frame-stage (Message form round from to edition layout) h z = omega arith
+  frame-stage (Broadcast round from layout) h z = omega arith
 
   -- what is known once something was read is a plan, but that a group may be missing
   pub frame-built : (frame : Frame) → ((stageOf (p .stage) ≡ 0 → ⊥) → Built (p .plan)) → causeIn p said frame ≡ 0 → Built (after p frame .plan)
@@ -171,10 +204,12 @@ module _ (p : Progress) (said : Lists) where
   frame-built (Group s) i h =
       let c = group-accepted s h in
       group-built (p .plan) (i (λ z. omega (arith, c .0))) s (c .3) (c .4)
+  frame-built (Channel layout) i h = i (λ z. omega (arith, channel-accepted layout h .0))
   frame-built (FaultSet s) i h = i (λ z. omega (arith, fault-set-accepted s h .0))
   frame-built (Start form edition layout rounds) i h = i (λ z. omega (arith, start-accepted form edition layout rounds h .0))
   frame-built (Later round edition layout) i h = i (λ z. omega (arith, later-accepted round edition layout h .0))
   frame-built (Message form round from to edition layout) i h = i (λ z. omega (arith, message-accepted form round from to edition layout h))
+  frame-built (Broadcast round from layout) i h = i (λ z. omega (arith, broadcast-accepted round from layout h))
 
 -- ---- the lines: what every accepted frame leaves, after the first and after a later one, an accepted file leaves
 
@@ -195,10 +230,14 @@ module _ (reader : Reader) (p : Progress) (said : Lists) (k : ℕ) (line : List 
   abbrev next : Reading
   next = told reader (after p frame) (saidAfter p said frame) (k + 1) rest
 
-  pub line-read : (Q : Reading → Type 0) → (causeIn p said frame ≡ 0 → next .number ≡ 0 → Q next)
+  pub line-ends : (Q : Reading → Type 0) → (endCause reader p frame ≡ 0 → causeIn p said frame ≡ 0 → next .number ≡ 0 → Q next)
       → told reader p said k (ended line ∷ rest) .number ≡ 0 → Q (told reader p said k (ended line ∷ rest))
   unfolding told
-  line-read Q f = unless-read (endCause reader p frame) 0 _ Q (λ a. unless-read (causeIn p said frame) k next Q f)
+  line-ends Q f = unless-read (endCause reader p frame) 0 _ Q (λ a. unless-read (causeIn p said frame) k next Q (f a))
+
+  pub line-read : (Q : Reading → Type 0) → (causeIn p said frame ≡ 0 → next .number ≡ 0 → Q next)
+      → told reader p said k (ended line ∷ rest) .number ≡ 0 → Q (told reader p said k (ended line ∷ rest))
+  line-read Q f = line-ends Q (λ a. f)
 
 -- at its end nothing refuses the links either
 pub end-read : (reader : Reader) (p : Progress) (said : Lists) (k : ℕ) (Q : Reading → Type 0)

@@ -1,4 +1,4 @@
--- What refuses a head, a link, a group, a bad set, a start, a later notice or a word, and what an accepted frame keeps. Assumes nothing.
+-- What refuses a head, a link, a group, a default layout, a bad set, a start, a later notice or a word, and what an accepted frame keeps. Assumes nothing.
 use Prim.Native.Nat.{ℕ, _-_, _≤_, _<_}
 use mathlib.Core.Path.{_≡_, refl, sym, ap, _∙_}
 use mathlib.Core.Logic.{⊎-elim}
@@ -11,27 +11,27 @@ use borrow.Author.Tests.{eq-eqb, ne-eqb, lt-ltb, le-ltb, le-leb, lt-leb, leb-tru
 use Rattle.sets.specs.Tests.{_or_, pick}
 use Rattle.sets.specs.Causes.{_gives_, firstCause}
 use Rattle.sets.specs.Sets.{mem}
-use Rattle.sets.proofs.Bools.{and-l, and-r, and-i, and-yes, and-no-l, and-no-r, or-l, or-r, or-no, or-none, not-i, not-yes}
+use Rattle.sets.proofs.Bools.{and-l, and-r, and-i, and-yes, and-no-l, and-no-r, or-l, or-r, or-no, or-none, not-i, not-yes, pick-yes, pick-no}
 use Rattle.sets.proofs.Causes.{cause-here, cause-later, cause-last, given-decides}
 use Rattle.sets.proofs.Laws.{equal-or-not}
 use Rattle.quorum.specs.declared.BoundKind.{BoundKind}
 use Rattle.quorum.specs.Quorum.{mostTerminals, mostGroups, noGroups, listed, inRange, others}
 use Rattle.quorum.specs.Notice.{noticeOf}
-use Rattle.quorum.specs.Words.{mostRounds, startSound, placeOf}
+use Rattle.quorum.specs.Words.{mostRounds, startSound, placeOf, sharedPlaceOf}
 use Rattle.quorum.proofs.Words.{start-parts}
 use Rattle.plan.specs.declared.Plan.{Plan}
 use Rattle.plan.specs.Plan.{hears}
-use Rattle.faults.specs.Check.{faultCauseOf}
+use Rattle.faults.specs.Check.{faultCauseOf, sharedFaultCauseOf}
 use Rattle.lines.specs.declared.Form.{Form}
 use Rattle.lines.specs.declared.Form.the-variants.{New}
 use Rattle.lines.specs.declared.Rounds.{Rounds}
 use Rattle.lines.specs.declared.Rounds.the-variants.{Left}
 use Rattle.lines.specs.declared.Frame.{Frame}
-use Rattle.lines.specs.declared.Frame.the-variants.{Foreign, Unknown, Head, Link, Group, FaultSet, Start, Later, Message}
-use Rattle.frames.specs.declared.Stage.the-variants.{Nothing, Links, Grouped, Faults, Started, Words}
+use Rattle.lines.specs.declared.Frame.the-variants.{Foreign, Unknown, Head, Link, Group, Channel, FaultSet, Start, Later, Message, Broadcast}
+use Rattle.frames.specs.declared.Stage.the-variants.{Nothing, Links, Grouped, Shared, Faults, Started, Words}
 use Rattle.frames.specs.declared.Progress.{Progress}
 use Rattle.frames.specs.declared.told.Told.{Told}
-use Rattle.frames.specs.Reading.{isAt, inPlan, isStarted, formOf, otherForm, noLinks, planned, Lists, both, nothingSaid, kindRead, lists, roundsOf, headCause, linkCause, groupCause, faultSetCause, startCause, laterCause, isWord, messageCause, causeIn, linked, grouped, after, saidAfter}
+use Rattle.frames.specs.Reading.{isAt, inPlan, isStarted, formOf, hasEdition, otherForm, isShared, wrongForm, noLinks, planned, Lists, both, nothingSaid, kindRead, lists, roundsOf, headCause, linkCause, groupCause, channelCause, badSetCause, faultSetCause, startCause, laterCause, isWord, messageCause, isBroadcast, broadcastCause, causeIn, linked, grouped, after, saidAfter}
 use Rattle.frames.proofs.Keeps.{head-accepted, link-accepted, group-accepted, start-accepted, later-accepted}
 
 -- ---- the stage and the form
@@ -50,6 +50,19 @@ module _ (p : Progress) (form : Form) where
   pub other-is : (a b : ℕ) → isStarted p ≡ true → a ≡ formOf form → b ≡ formOf (p .form) → not (eqb a b) ≡ otherForm p form
   unfolding otherForm
   other-is a b s e d = (λ i. not (eqb (e i) (d i))) ∙ sym (and-yes _ _ s)
+
+  -- on a shared channel it is wrong if it is barred
+  pub wrong-other : (barred : Bool) → otherForm p form ≡ true → wrongForm p form barred ≡ true
+  unfolding wrongForm
+  wrong-other barred o = or-l _ _ o
+
+  pub wrong-shared : (barred : Bool) → otherForm p form ≡ false → isShared p ≡ true → wrongForm p form barred ≡ barred
+  unfolding wrongForm
+  wrong-shared barred o s = or-none _ _ o ∙ and-yes _ _ s
+
+  pub wrong-none : (barred : Bool) → otherForm p form ≡ false → isShared p ≡ false → wrongForm p form barred ≡ false
+  unfolding wrongForm
+  wrong-none barred o s = or-none _ _ o ∙ and-no-l _ _ s
 
 -- ---- a head
 
@@ -144,13 +157,47 @@ module _ (p : Progress) (s : ℕ) where
         cause-later _ _ _ (not-yes (and-i _ _ stage l))
         ∙ cause-last _ _ (not-yes (and-i _ _ (lt-ltb (listed (p .plan .bound .kind)) mostGroups h) o))
 
+-- ---- a default layout
+
+module _ (p : Progress) (layout : ℕ) where
+  pub channel-late : inPlan p ≡ false → channelCause p layout ≡ 3
+  unfolding channelCause
+  channel-late h = cause-here _ _ _ (not-i h)
+
+  pub channel-none : inPlan p ≡ true → layout ≡ 0 → channelCause p layout ≡ 9
+  unfolding channelCause
+  channel-none h z = cause-later _ _ _ (not-yes h) ∙ cause-here _ _ _ (eq-eqb layout 0 z)
+
+  pub channel-right : inPlan p ≡ true → (layout ≡ 0 → ⊥) → channelCause p layout ≡ 0
+  unfolding channelCause
+  channel-right h n = cause-later _ _ _ (not-yes h) ∙ cause-last _ _ (ne-eqb layout 0 n)
+
 -- ---- a bad set
 
-pub fault-set-at : (p : Progress) (s : ℕ) → inPlan p ≡ true → faultSetCause p s ≡ faultCauseOf (p .plan) s
-unfolding faultSetCause
-fault-set-at p s stage =
-    cause-later _ _ _ (not-yes stage)
-    ∙ ⊎-elim (λ z. cause-last _ _ (not-yes (eq-eqb (faultCauseOf (p .plan) s) 0 z)) ∙ sym z) (given-decides (faultCauseOf (p .plan) s) []) (equal-or-not (faultCauseOf (p .plan) s) 0)
+module _ (p : Progress) (s : ℕ) where
+  pub set-shared : isShared p ≡ true → badSetCause p s ≡ sharedFaultCauseOf (p .plan) s
+  unfolding badSetCause
+  set-shared h = pick-yes _ _ _ h
+
+  pub set-unshared : isShared p ≡ false → badSetCause p s ≡ faultCauseOf (p .plan) s
+  unfolding badSetCause
+  set-unshared h = pick-no _ _ _ h
+
+  fault-set-at : inPlan p or isAt Shared p ≡ true → faultSetCause p s ≡ badSetCause p s
+  unfolding faultSetCause
+  fault-set-at stage =
+      cause-later _ _ _ (not-yes stage)
+      ∙ ⊎-elim (λ z. cause-last _ _ (not-yes (eq-eqb (badSetCause p s) 0 z)) ∙ sym z) (given-decides (badSetCause p s) []) (equal-or-not (badSetCause p s) 0)
+
+  pub fault-set-planned : inPlan p ≡ true → faultSetCause p s ≡ badSetCause p s
+  fault-set-planned h = fault-set-at (or-l _ _ h)
+
+  pub fault-set-shared : isAt Shared p ≡ true → faultSetCause p s ≡ badSetCause p s
+  fault-set-shared h = fault-set-at (or-r _ _ h)
+
+  pub fault-set-late : inPlan p ≡ false → isAt Shared p ≡ false → faultSetCause p s ≡ 3
+  unfolding faultSetCause
+  fault-set-late h k = cause-here _ _ _ (not-i (or-no _ _ h k))
 
 -- ---- a start
 
@@ -161,7 +208,7 @@ rounds-left n played rounds e h = h ∙ sym (ap (roundsOf n) e)
 -- what is known after one, by the notice and the rounds that it was found to mean
 pub start-next : (p : Progress) (form : Form) (edition layout : ℕ) (rounds : Rounds) (notice played : ℕ) → notice ≡ noticeOf edition layout
     → played ≡ roundsOf (p .plan .n) rounds
-    → record { stage = Started; plan = p .plan; faulty = p .faulty; form = form; notice = notice; rounds = played; issued = 0; edition = edition }
+    → record { stage = Started; plan = p .plan; faulty = p .faulty; form = form; notice = notice; rounds = played; issued = 0; edition = edition; default = p .default }
     ≡ after p (Start form edition layout rounds)
 unfolding after
 start-next p form edition layout rounds notice played e d i = record {
@@ -173,28 +220,32 @@ start-next p form edition layout rounds notice played e d i = record {
   rounds = d i;
   issued = 0;
   edition = edition;
+  default = p .default;
 }
 
 -- the tests in their order
-module _ (p : Progress) (form : Form) (edition layout : ℕ) (rounds : Rounds) where
-  pub start-other : otherForm p form ≡ true → startCause p form edition layout rounds ≡ 2
+module _ (p : Progress) (form : Form) (edition layout : ℕ) (rounds : Rounds) (barred : Bool) (v : barred ≡ hasEdition form) where
+  pub start-other : wrongForm p form barred ≡ true → startCause p form edition layout rounds ≡ 2
   unfolding startCause
-  start-other o = cause-here _ _ _ o
+  start-other o = cause-here _ _ _ (sym (ap (wrongForm p form) v) ∙ o)
 
-  module _ (o : otherForm p form ≡ false) where
+  module _ (o : wrongForm p form barred ≡ false) where
+    start-form : wrongForm p form (hasEdition form) ≡ false
+    start-form = sym (ap (wrongForm p form) v) ∙ o
+
     pub start-late : isAt Faults p ≡ false → startCause p form edition layout rounds ≡ 3
     unfolding startCause
-    start-late s = cause-later _ _ _ o ∙ cause-here _ _ _ (not-i s)
+    start-late s = cause-later _ _ _ start-form ∙ cause-here _ _ _ (not-i s)
 
     module _ (s : isAt Faults p ≡ true) (played : ℕ) (e : played ≡ roundsOf (p .plan .n) rounds) where
       pub start-wrong : startSound layout played ≡ false → startCause p form edition layout rounds ≡ 9
       unfolding startCause
-      start-wrong h = cause-later _ _ _ o ∙ cause-later _ _ _ (not-yes s) ∙ cause-here _ _ _ (not-i (sym (ap (startSound layout) e) ∙ h))
+      start-wrong h = cause-later _ _ _ start-form ∙ cause-later _ _ _ (not-yes s) ∙ cause-here _ _ _ (not-i (sym (ap (startSound layout) e) ∙ h))
 
       module _ (h : startSound layout played ≡ true) where
         start-last : startCause p form edition layout rounds ≡ firstCause (eqb edition 0 gives 16 ∷ [])
         unfolding startCause
-        start-last = cause-later _ _ _ o ∙ cause-later _ _ _ (not-yes s) ∙ cause-later _ _ _ (not-yes (sym (ap (startSound layout) e) ∙ h))
+        start-last = cause-later _ _ _ start-form ∙ cause-later _ _ _ (not-yes s) ∙ cause-later _ _ _ (not-yes (sym (ap (startSound layout) e) ∙ h))
 
         pub start-none : edition ≡ 0 → startCause p form edition layout rounds ≡ 16
         start-none z = start-last ∙ cause-here _ _ _ (eq-eqb edition 0 z)
@@ -211,11 +262,11 @@ later-round p round edition layout h = let a = later-accepted p nothingSaid roun
 
 -- the tests in their order
 module _ (p : Progress) (round edition layout : ℕ) where
-  pub later-other : otherForm p New ≡ true → laterCause p round edition layout ≡ 2
+  pub later-other : wrongForm p New true ≡ true → laterCause p round edition layout ≡ 2
   unfolding laterCause
   later-other o = cause-here _ _ _ o
 
-  module _ (o : otherForm p New ≡ false) where
+  module _ (o : wrongForm p New true ≡ false) where
     pub later-stage : isAt Started p ≡ false → laterCause p round edition layout ≡ 3
     unfolding laterCause
     later-stage s = cause-later _ _ _ o ∙ cause-here _ _ _ (not-i (and-no-l _ _ s))
@@ -301,11 +352,11 @@ module _ (p : Progress) (round from to edition layout : ℕ) where
 
 -- the tests in their order
 module _ (p : Progress) (words : List ℕ) (form : Form) (round from to edition layout : ℕ) where
-  pub word-other : otherForm p form ≡ true → messageCause p words form round from to edition layout ≡ 2
+  pub word-other : wrongForm p form true ≡ true → messageCause p words form round from to edition layout ≡ 2
   unfolding messageCause
   word-other o = cause-here _ _ _ o
 
-  module _ (o : otherForm p form ≡ false) where
+  module _ (o : wrongForm p form true ≡ false) where
     pub word-unstarted : isStarted p ≡ false → messageCause p words form round from to edition layout ≡ 3
     unfolding messageCause
     word-unstarted s = cause-later _ _ _ o ∙ cause-here _ _ _ (not-i s)
@@ -330,6 +381,74 @@ module _ (p : Progress) (words : List ℕ) (form : Form) (round from to edition 
 
         pub word-new : getD words k 0 ≡ 0 → messageCause p words form round from to edition layout ≡ 0
         word-new h = word-last ∙ cause-last _ _ (not-yes (eq-eqb _ 0 (sym at-place ∙ h)))
+
+-- ---- a word without a hearer
+
+module _ (p : Progress) (round from layout : ℕ) where
+  pub broadcast-early : round < 1 → isBroadcast p round from layout ≡ false
+  unfolding isBroadcast
+  broadcast-early h = and-no-l _ _ (lt-leb 1 round h)
+
+  pub broadcast-late : p .rounds < round → isBroadcast p round from layout ≡ false
+  unfolding isBroadcast
+  broadcast-late h = and-no-r _ _ (and-no-l _ _ (lt-leb round (p .rounds) h))
+
+  pub broadcast-from : p .plan .n ≤ from → isBroadcast p round from layout ≡ false
+  unfolding isBroadcast
+  broadcast-from h = and-no-r _ _ (and-no-r _ _ (and-no-l _ _ (le-ltb from (p .plan .n) h)))
+
+  pub broadcast-good : mem from (p .faulty) ≡ false → isBroadcast p round from layout ≡ false
+  unfolding isBroadcast
+  broadcast-good h = and-no-r _ _ (and-no-r _ _ (and-no-r _ _ (and-no-l _ _ h)))
+
+  pub broadcast-said : 1 ≤ round → round ≤ p .rounds → from < p .plan .n → mem from (p .faulty) ≡ true → isBroadcast p round from layout ≡ not (eqb layout 0)
+  unfolding isBroadcast
+  broadcast-said a b c d =
+      and-yes _ _ (le-leb 1 round a)
+      ∙ and-yes _ _ (le-leb round (p .rounds) b)
+      ∙ and-yes _ _ (lt-ltb from (p .plan .n) c)
+      ∙ and-yes _ _ d
+
+  pub broadcast-parts : isBroadcast p round from layout ≡ true → (1 ≤ round) × (round ≤ p .rounds) × (from < p .plan .n)
+  unfolding isBroadcast
+  broadcast-parts h = (
+    leb-true 1 round (and-l _ _ h),
+    leb-true round (p .rounds) (and-l _ _ (and-r _ _ h)),
+    ltb-true from (p .plan .n) (and-l _ _ (and-r _ _ (and-r _ _ h))),
+  )
+
+-- the tests in their order
+module _ (p : Progress) (words : List ℕ) (round from layout : ℕ) where
+  pub broadcast-unstarted : isStarted p ≡ false → broadcastCause p words round from layout ≡ 3
+  unfolding broadcastCause
+  broadcast-unstarted s = cause-later _ _ _ (and-no-l _ _ s) ∙ cause-here _ _ _ (not-i s)
+
+  module _ (s : isStarted p ≡ true) where
+    pub broadcast-unshared : isShared p ≡ false → broadcastCause p words round from layout ≡ 2
+    unfolding broadcastCause
+    broadcast-unshared c = cause-here _ _ _ (and-i _ _ s (not-i c))
+
+    module _ (c : isShared p ≡ true) where
+      pub no-broadcast : isBroadcast p round from layout ≡ false → broadcastCause p words round from layout ≡ 10
+      unfolding broadcastCause
+      no-broadcast w = cause-later _ _ _ (and-no-r _ _ (not-yes c)) ∙ cause-later _ _ _ (not-yes s) ∙ cause-here _ _ _ (not-i w)
+
+      -- one whose place is taken, or free
+      module _ (w : isBroadcast p round from layout ≡ true) (k : ℕ) (e : k ≡ sharedPlaceOf (p .plan .n) round from) where
+        at-shared : getD words k 0 ≡ getD words (sharedPlaceOf (p .plan .n) round from) 0
+        at-shared = ap (λ (j : ℕ). getD words j 0) e
+
+        broadcast-last : broadcastCause p words round from layout
+            ≡ firstCause (not (eqb (getD words (sharedPlaceOf (p .plan .n) round from) 0) 0) gives 11 ∷ [])
+        unfolding broadcastCause
+        broadcast-last =
+            cause-later _ _ _ (and-no-r _ _ (not-yes c)) ∙ cause-later _ _ _ (not-yes s) ∙ cause-later _ _ _ (not-yes w)
+
+        pub broadcast-again : (getD words k 0 ≡ 0 → ⊥) → broadcastCause p words round from layout ≡ 11
+        broadcast-again h = broadcast-last ∙ cause-here _ _ _ (not-i (ne-eqb _ 0 (λ z. h (at-shared ∙ z))))
+
+        pub broadcast-new : getD words k 0 ≡ 0 → broadcastCause p words round from layout ≡ 0
+        broadcast-new h = broadcast-last ∙ cause-last _ _ (not-yes (eq-eqb _ 0 (sym at-shared ∙ h)))
 
 -- ---- a frame
 
@@ -365,10 +484,12 @@ module _ (p : Progress) (said : Lists) (twenty : p .plan .n ≤ mostTerminals) (
   kept (Head n source f) h = (leb-true n 20 (and-l _ _ (and-r _ _ (head-accepted p said n source f h .1))), omega arith)
   kept (Link from to) h = (twenty, omega arith)
   kept (Group s) h = (twenty, omega arith)
+  kept (Channel layout) h = (twenty, omega arith)
   kept (FaultSet s) h = (twenty, omega arith)
   kept (Start form edition layout rounds) h = (twenty, start-parts _ _ (start-accepted p said form edition layout rounds h .1) .1)
   kept (Later round edition layout) h = (twenty, forty)
   kept (Message form round from to edition layout) h = (twenty, forty)
+  kept (Broadcast round from layout) h = (twenty, forty)
 
   pub kept-next : (frame : Frame) (cause : ℕ) (next : Progress) → cause ≡ causeIn p said frame → cause ≡ 0 → next ≡ after p frame
       → (next .plan .n ≤ mostTerminals) × (next .rounds ≤ mostRounds)

@@ -12,20 +12,20 @@ use Rattle.quorum.specs.declared.BoundKind.{BoundKind}
 use Rattle.quorum.specs.declared.BoundKind.the-variants.{Most, Groups}
 use Rattle.quorum.specs.Quorum.{mostTerminals, mostGroups, noGroups, atMost, listed, inRange, others}
 use Rattle.quorum.specs.Notice.{Edition, Layout, noticeOf}
-use Rattle.quorum.specs.Words.{mostRounds, mostWords, startSound, placeOf}
+use Rattle.quorum.specs.Words.{mostRounds, mostWords, startSound, placeOf, sharedPlaceOf}
 use Rattle.plan.specs.declared.Plan.{Plan}
 use Rattle.plan.specs.Plan.{heardBy, hears}
 use Rattle.plan.specs.Deaf.{deafSet}
-use Rattle.faults.specs.Check.{faultCauseOf}
+use Rattle.faults.specs.Check.{faultCauseOf, sharedFaultCauseOf}
 use Rattle.lines.specs.declared.Form.{Form}
 use Rattle.lines.specs.declared.Form.the-variants.{Old, New}
 use Rattle.lines.specs.declared.Rounds.{Rounds}
 use Rattle.lines.specs.declared.Rounds.the-variants.{Given, Left}
 use Rattle.lines.specs.declared.Frame.{Frame}
-use Rattle.lines.specs.declared.Frame.the-variants.{Foreign, Unknown, Head, Link, Group, FaultSet, Start, Later, Message}
+use Rattle.lines.specs.declared.Frame.the-variants.{Foreign, Unknown, Head, Link, Group, Channel, FaultSet, Start, Later, Message, Broadcast}
 use Rattle.lines.specs.Frames.{frameOf, numberOf}
 use Rattle.frames.specs.declared.Stage.{Stage}
-use Rattle.frames.specs.declared.Stage.the-variants.{Nothing, Links, Grouped, Faults, Started, Words}
+use Rattle.frames.specs.declared.Stage.the-variants.{Nothing, Links, Grouped, Shared, Faults, Started, Words}
 use Rattle.frames.specs.declared.Progress.{Progress}
 use Rattle.frames.specs.declared.FileRead.{FileRead}
 use Rattle.frames.specs.declared.ArchiveRead.{ArchiveRead}
@@ -38,12 +38,12 @@ use Rattle.frames.specs.Lines.{Line, ended, cut, linesFrom}
 abbrev pub mostBytes : ℕ
 mostBytes = 24576
 
--- plan files have the kinds 01, 02 and 07, run files 03 to 05 and 08 too
+-- plan files have the kinds 01, 02 and 07, run files 03 to 05, 08 and 09 too
 abbrev pub planKinds : Set
 planKinds = 2 ^ 1 + 2 ^ 2 + 2 ^ 7
 
 abbrev pub runKinds : Set
-runKinds = 2 ^ 1 + 2 ^ 2 + 2 ^ 3 + 2 ^ 4 + 2 ^ 5 + 2 ^ 7 + 2 ^ 8
+runKinds = 2 ^ 1 + 2 ^ 2 + 2 ^ 3 + 2 ^ 4 + 2 ^ 5 + 2 ^ 7 + 2 ^ 8 + 2 ^ 9
 
 -- the readers of new plans and of runs, and that of the archive, which opens plans with a deaf terminal too (document 02, P6)
 abbrev pub planReader : Reader
@@ -57,14 +57,16 @@ archiveReader = record { kinds = planKinds; archive = true }
 
 -- ---- what is known after some lines
 
--- the stages in their order: nothing; the head and perhaps links; groups too; the bad set too; the start too and perhaps later notices; words too
+-- the stages in their order: nothing; the head and perhaps links; groups too; the default layout of a shared channel too; the bad set too; the start too
+-- and perhaps later notices; words too
 abbrev pub stageOf : Stage → ℕ
 stageOf Nothing = 0
 stageOf Links = 1
 stageOf Grouped = 2
-stageOf Faults = 3
-stageOf Started = 4
-stageOf Words = 5
+stageOf Shared = 3
+stageOf Faults = 4
+stageOf Started = 5
+stageOf Words = 6
 
 unfoldable pub isAt : Stage → Progress → Bool
 isAt stage p = eqb (stageOf (p .stage)) (stageOf stage)
@@ -85,21 +87,38 @@ formOf New = 1
 unfoldable pub otherForm : Progress → Form → Bool
 otherForm p form = isStarted p and not (eqb (formOf form) (formOf (p .form)))
 
+-- one channel is shared by all where a default layout was given (document 02, P11)
+unfoldable pub isShared : Progress → Bool
+isShared p = not (eqb (p .default) 0)
+
+-- a frame of this form is refused by 2: the start was of the other one; or the channel is shared and the frame is barred from it, as one with an edition
+-- is, and a word that names a hearer
+unfoldable pub wrongForm : Progress → Form → (barred : Bool) → Bool
+wrongForm p form barred = otherForm p form or (isShared p and barred)
+
+abbrev pub hasEdition : Form → Bool
+hasEdition Old = false
+hasEdition New = true
+
 abbrev pub noLinks : List ℕ
 noLinks = replicate mostTerminals 0
 
 abbrev pub noPlan : Plan
 noPlan = record { n = 0; source = 0; bound = atMost 0; rows = noLinks }
 
--- what is known before the start
+-- what is known before the start, on a channel with this default layout; it is 0 where the channel is not shared
+abbrev pub unstarted : Stage → Plan → (faulty : Set) → (default : Layout) → Progress
+unstarted stage plan faulty default =
+    record { stage = stage; plan = plan; faulty = faulty; form = Old; notice = 0; rounds = 0; issued = 0; edition = 0; default = default }
+
 abbrev pub planned : Stage → Plan → (faulty : Set) → Progress
-planned stage plan faulty =
-    record { stage = stage; plan = plan; faulty = faulty; form = Old; notice = 0; rounds = 0; issued = 0; edition = 0 }
+planned stage plan faulty = unstarted stage plan faulty 0
 
 abbrev pub nothingRead : Progress
 nothingRead = planned Nothing noPlan 0
 
--- what is said: the liars' words, each at its place, and the office's later notices, that of round r at place r - 1
+-- what is said: the liars' words, each at its place, on a shared channel at that of its round and sender, and the office's later notices, that of round r
+-- at place r - 1
 pub record Lists : Type 0 where
   pub words : List ℕ
   pub later : List ℕ
@@ -151,15 +170,22 @@ groupCause p s =
     ∷ not (ltb (listed (p .plan .bound .kind)) mostGroups and others (p .plan .n) (p .plan .source) s) gives 17
     ∷ [])
 
--- 7 and 8 are those of a library call
-unfoldable pub faultSetCause : Progress → (s : Set) → ℕ
-faultSetCause p s = firstCause (not (inPlan p) gives 3 ∷ given (faultCauseOf (p .plan) s) ∷ [])
+-- a default layout, once, and just before the bad set (document 02, P11)
+unfoldable pub channelCause : Progress → Layout → ℕ
+channelCause p layout = firstCause (not (inPlan p) gives 3 ∷ eqb layout 0 gives 9 ∷ [])
 
--- 2: there was a start of the other form; 16: edition 0 (document 02, P8)
+-- 7 and 8 are those of a library call; on a shared channel, of the one by which the source may be bad too
+unfoldable pub badSetCause : Progress → (s : Set) → ℕ
+badSetCause p s = pick (isShared p) (sharedFaultCauseOf (p .plan) s) (faultCauseOf (p .plan) s)
+
+unfoldable pub faultSetCause : Progress → (s : Set) → ℕ
+faultSetCause p s = firstCause (not (inPlan p or isAt Shared p) gives 3 ∷ given (badSetCause p s) ∷ [])
+
+-- 2: there was a start of the other form, or it has an edition on a shared channel; 16: edition 0 (document 02, P8)
 unfoldable pub startCause : Progress → Form → Edition → Layout → Rounds → ℕ
 startCause p form edition layout rounds =
     firstCause
-    (otherForm p form gives 2
+    (wrongForm p form (hasEdition form) gives 2
     ∷ not (isAt Faults p) gives 3
     ∷ not (startSound layout (roundsOf (p .plan .n) rounds)) gives 9
     ∷ eqb edition 0 gives 16
@@ -169,7 +195,7 @@ startCause p form edition layout rounds =
 unfoldable pub laterCause : Progress → (round : ℕ) → Edition → Layout → ℕ
 laterCause p round edition layout =
     firstCause
-    (otherForm p New gives 2
+    (wrongForm p New true gives 2
     ∷ not (isAt Started p and ltb (p .issued) round and leb round (p .rounds)) gives 3
     ∷ eqb layout 0 gives 9
     ∷ not (ltb (p .edition) edition) gives 16
@@ -185,10 +211,25 @@ isWord p round from to edition layout =
 unfoldable pub messageCause : Progress → (words : List ℕ) → Form → (round : ℕ) (from to : Terminal) → Edition → Layout → ℕ
 messageCause p words form round from to edition layout =
     firstCause
-    (otherForm p form gives 2
+    (wrongForm p form true gives 2
     ∷ not (isStarted p) gives 3
     ∷ not (isWord p round from to edition layout) gives 10
     ∷ not (eqb (getD words (placeOf (p .plan .n) round from to) 0) 0) gives 11
+    ∷ [])
+
+-- on a shared channel a word names no hearer: one in a round that is played, from a bad sender, whoever hears it, and not silence
+unfoldable pub isBroadcast : Progress → (round : ℕ) (from : Terminal) → Layout → Bool
+isBroadcast p round from layout =
+    leb 1 round and leb round (p .rounds) and ltb from (p .plan .n) and mem from (p .faulty) and not (eqb layout 0)
+
+-- 2: the start came, and the channel is not shared; 11: the sender has said one in this round
+unfoldable pub broadcastCause : Progress → (words : List ℕ) (round : ℕ) (from : Terminal) → Layout → ℕ
+broadcastCause p words round from layout =
+    firstCause
+    ((isStarted p and not (isShared p)) gives 2
+    ∷ not (isStarted p) gives 3
+    ∷ not (isBroadcast p round from layout) gives 10
+    ∷ not (eqb (getD words (sharedPlaceOf (p .plan .n) round from) 0) 0) gives 11
     ∷ [])
 
 unfoldable pub causeIn : Progress → Lists → Frame → ℕ
@@ -197,10 +238,12 @@ causeIn p said Unknown = numberOf Unknown
 causeIn p said (Head n source f) = headCause p n source f
 causeIn p said (Link from to) = linkCause p from to
 causeIn p said (Group s) = groupCause p s
+causeIn p said (Channel layout) = channelCause p layout
 causeIn p said (FaultSet s) = faultSetCause p s
 causeIn p said (Start form edition layout rounds) = startCause p form edition layout rounds
 causeIn p said (Later round edition layout) = laterCause p round edition layout
 causeIn p said (Message form round from to edition layout) = messageCause p (said .words) form round from to edition layout
+causeIn p said (Broadcast round from layout) = broadcastCause p (said .words) round from layout
 
 -- ---- where the links end (document 02, P6 and P10): at the first line after the head that passes 1 and 2 and is not a link, nor, where groups are
 -- listed, a group; or else at the end of the file
@@ -212,10 +255,12 @@ endsLinks kind Unknown = false
 endsLinks kind (Head n source f) = true
 endsLinks kind (Link from to) = false
 endsLinks kind (Group s) = not (lists kind)
+endsLinks kind (Channel layout) = true
 endsLinks kind (FaultSet s) = true
 endsLinks kind (Start form edition layout rounds) = true
 endsLinks kind (Later round edition layout) = true
 endsLinks kind (Message form round from to edition layout) = true
+endsLinks kind (Broadcast round from layout) = true
 
 -- the number of the first cause that is looked at there, 0 for none: no group, and a deaf terminal
 unfoldable pub linksCause : Reader → Progress → ℕ
@@ -255,6 +300,7 @@ spoken p = record {
   rounds = p .rounds;
   issued = p .issued;
   edition = p .edition;
+  default = p .default;
 }
 
 unfoldable pub after : Progress → Frame → Progress
@@ -264,7 +310,8 @@ after p (Head n source f) =
     planned Links (record { n = n; source = source; bound = record { kind = kindRead f; groups = noGroups }; rows = noLinks }) 0
 after p (Link from to) = planned Links (linked (p .plan) from to) 0
 after p (Group s) = planned Grouped (grouped (p .plan) s) 0
-after p (FaultSet s) = planned Faults (p .plan) s
+after p (Channel layout) = unstarted Shared (p .plan) 0 layout
+after p (FaultSet s) = unstarted Faults (p .plan) s (p .default)
 after p (Start form edition layout rounds) = record {
   stage = Started;
   plan = p .plan;
@@ -274,6 +321,7 @@ after p (Start form edition layout rounds) = record {
   rounds = roundsOf (p .plan .n) rounds;
   issued = 0;
   edition = edition;
+  default = p .default;
 }
 after p (Later round edition layout) = record {
   stage = Started;
@@ -284,8 +332,10 @@ after p (Later round edition layout) = record {
   rounds = p .rounds;
   issued = round;
   edition = edition;
+  default = p .default;
 }
 after p (Message form round from to edition layout) = spoken p
+after p (Broadcast round from layout) = spoken p
 
 unfoldable pub saidAfter : Progress → Lists → Frame → Lists
 saidAfter p said Foreign = said
@@ -293,11 +343,13 @@ saidAfter p said Unknown = said
 saidAfter p said (Head n source f) = said
 saidAfter p said (Link from to) = said
 saidAfter p said (Group s) = said
+saidAfter p said (Channel layout) = said
 saidAfter p said (FaultSet s) = said
 saidAfter p said (Start form edition layout rounds) = said
 saidAfter p said (Later round edition layout) = both (said .words) (set (said .later) (round - 1) (noticeOf edition layout))
 saidAfter p said (Message form round from to edition layout) =
     both (set (said .words) (placeOf (p .plan .n) round from to) (noticeOf edition layout)) (said .later)
+saidAfter p said (Broadcast round from layout) = both (set (said .words) (sharedPlaceOf (p .plan .n) round from) (noticeOf 1 layout)) (said .later)
 
 -- ---- the file
 

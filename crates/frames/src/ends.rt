@@ -21,10 +21,12 @@ fn ends_links(kind: BoundKind, frame: Frame) -> bool
         Frame::Head(_, _, _) => true,
         Frame::Link(_, _) => false,
         Frame::Group(_) => !told::lists(kind),
+        Frame::Channel(_) => true,
         Frame::FaultSet(_) => true,
         Frame::Start(_, _, _, _) => true,
         Frame::Later(_, _, _) => true,
         Frame::Message(_, _, _, _, _, _) => true,
+        Frame::Broadcast(_, _, _) => true,
     }
 }
 

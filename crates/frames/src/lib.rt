@@ -6,7 +6,7 @@ mod told;
 ghost use mathlib.Core.Path.{_≡_};
 ghost use Prim.Native.Nat.{_+_, _<_, _≤_};
 ghost use lib.ListN.{length};
-ghost use Rattle.frames.specs.Reading.{mostBytes, stageOf, formOf, isAt, inPlan, isStarted, otherForm, planned, nothingRead, both, nothingSaid, refusal, reading, planReading, archiveReading, fileRead, archiveRead, runFile, wordsRead, laterRead};
+ghost use Rattle.frames.specs.Reading.{mostBytes, stageOf, formOf, hasEdition, isAt, inPlan, isStarted, otherForm, isShared, wrongForm, unstarted, planned, nothingRead, both, nothingSaid, refusal, reading, planReading, archiveReading, fileRead, archiveRead, runFile, wordsRead, laterRead};
 ghost use Rattle.frames.specs.Pass.{Going};
 use lines::Form;
 use plan::Plan;
@@ -20,10 +20,10 @@ const MOST_WORDS: usize = 16000;
 
 const MOST_ROUNDS: usize = 40;
 
-// The kinds of a plan file, 01, 02 and 07, and of a run file, 01 to 05, 07 and 08: bit i for kind i.
+// The kinds of a plan file, 01, 02 and 07, and of a run file, 01 to 05 and 07 to 09: bit i for kind i.
 const PLAN_KINDS: u32 = 134;
 
-const RUN_KINDS: u32 = 446;
+const RUN_KINDS: u32 = 958;
 
 // What a reader opens: the kinds of frame that it knows, and whether plans with a deaf terminal too, as
 // that of the archive does.
@@ -32,20 +32,22 @@ pub struct Reader {
     pub archive: bool,
 }
 
-// How far a file was read: nothing; the head and perhaps links; groups too; the fault set too; the start
-// too and perhaps later notices; words too.
+// How far a file was read: nothing; the head and perhaps links; groups too; the default layout of a
+// shared channel too; the fault set too; the start too and perhaps later notices; words too.
 pub enum Stage {
     Nothing,
     Links,
     Grouped,
+    Shared,
     Faults,
     Started,
     Words,
 }
 
 // What is known after some lines: beside the plan and the fault set the form of the start, its notice
-// (edition and layout in one number) and its rounds, and of the office's last notice the round in which
-// it is issued, 0 for the start, and its edition.
+// (edition and layout in one number) and its rounds, of the office's last notice the round in which it is
+// issued, 0 for the start, and its edition, and the default layout of a shared channel, 0 where the
+// channel is not shared.
 pub struct Progress {
     pub stage: Stage,
     pub plan: Plan,
@@ -55,6 +57,7 @@ pub struct Progress {
     pub rounds: u8,
     pub issued: u8,
     pub edition: u16,
+    pub default: u16,
 }
 
 // The number of a refusal and its line, 0 and 0 where the file is read. A refused file gives only
@@ -79,9 +82,10 @@ fn order(stage: Stage) -> u8
         Stage::Nothing => 0,
         Stage::Links => 1,
         Stage::Grouped => 2,
-        Stage::Faults => 3,
-        Stage::Started => 4,
-        Stage::Words => 5,
+        Stage::Shared => 3,
+        Stage::Faults => 4,
+        Stage::Started => 5,
+        Stage::Words => 6,
     }
 }
 
@@ -123,7 +127,7 @@ pub(crate) fn is_started(p: Progress) -> bool
 }
 
 // The start was of the other form.
-pub(crate) fn other_form(p: Progress, form: Form) -> bool
+fn other_form(p: Progress, form: Form) -> bool
     ensures { λ r. ⌜ r ≡ otherForm p form ⌝ }
 {
     let known = p.form;
@@ -133,9 +137,38 @@ pub(crate) fn other_form(p: Progress, form: Form) -> bool
     false
 }
 
-// What is known before the start.
-pub(crate) fn planned(stage: Stage, plan: Plan, faulty: u32) -> Progress
-    ensures { λ r. ⌜ r ≡ planned stage plan faulty ⌝ }
+pub(crate) fn has_edition(form: Form) -> bool
+    ensures { λ r. ⌜ r ≡ hasEdition form ⌝ }
+{
+    match form {
+        Form::Old => false,
+        Form::New => true,
+    }
+}
+
+// One channel is shared by all: a default layout was given.
+pub fn is_shared(p: Progress) -> bool
+    ensures { λ r. ⌜ r ≡ isShared p ⌝ }
+{
+    p.default != 0
+}
+
+// The start was of the other form, or the channel is shared and the frame is barred from such a one.
+pub(crate) fn wrong_form(p: Progress, form: Form, barred: bool) -> bool
+    ensures { λ r. ⌜ r ≡ wrongForm p form barred ⌝ }
+{
+    if other_form(p, form) {
+        return true;
+    }
+    if is_shared(p) {
+        return barred;
+    }
+    false
+}
+
+// What is known before the start, on a channel with this default layout.
+pub(crate) fn unstarted(stage: Stage, plan: Plan, faulty: u32, default: u16) -> Progress
+    ensures { λ r. ⌜ r ≡ unstarted stage plan faulty default ⌝ }
 {
     Progress {
         stage: stage,
@@ -146,7 +179,15 @@ pub(crate) fn planned(stage: Stage, plan: Plan, faulty: u32) -> Progress
         rounds: 0,
         issued: 0,
         edition: 0,
+        default: default,
     }
+}
+
+// The same where the channel is not shared.
+pub(crate) fn planned(stage: Stage, plan: Plan, faulty: u32) -> Progress
+    ensures { λ r. ⌜ r ≡ planned stage plan faulty ⌝ }
+{
+    unstarted(stage, plan, faulty, 0)
 }
 
 // A refused file: its number and line, and only zeros beside them.
@@ -316,8 +357,9 @@ fn copy_notices(from: &[u32], to: &mut [u32])
     }
 }
 
-// A run file: what it holds; the liars' words in the lent list of 16,000 places, and the office's later
-// notices in that of 40, entry r - 1 being what it issues in round r.
+// A run file: what it holds; the liars' words in the lent list of 16,000 places, of which those of a
+// shared channel need the first 800, and the office's later notices in that of 40, entry r - 1 being what
+// it issues in round r.
 pub fn read_run(text: &[u8], words: &mut [u32], later: &mut [u32]) -> FileRead
     ensures { λ r. ⌜ r ≡ fileRead (runFile (now (text .entry)) (length (now (words .entry))) (length (now (later .entry)))) ⌝ }
     ensures { λ r. ⌜ now (words .exit) ≡ wordsRead (runFile (now (text .entry)) (length (now (words .entry))) (length (now (later .entry)))) (now (words .entry)) ⌝ }

@@ -4,18 +4,21 @@ ghost use Prim.Native.Nat.{_-_, _<_, _≤_};
 ghost use lib.Dec.{eqb};
 ghost use lib.ListN.{length, set};
 ghost use Rattle.sets.specs.Tests.{pick};
-ghost use Rattle.lines.specs.declared.Frame.the-variants.{Head, Link, Group, FaultSet, Start, Later};
+ghost use Rattle.lines.specs.declared.Frame.the-variants.{Head, Link, Group, Channel, FaultSet, Start, Later};
 ghost use Rattle.quorum.specs.Quorum.{mostTerminals, mostGroups, listed};
 ghost use Rattle.quorum.specs.Notice.{noticeOf};
-ghost use Rattle.quorum.specs.Words.{mostRounds, mostWords, placeOf};
-ghost use Rattle.frames.specs.Reading.{kindRead, lists, roundsOf, headCause, linkCause, groupCause, faultSetCause, startCause, laterCause, isWord, messageCause, causeIn, linked, grouped, spoken, after, both, saidAfter};
+ghost use Rattle.quorum.specs.Words.{mostRounds, mostWords, placeOf, sharedPlaceOf};
+ghost use Rattle.frames.specs.Reading.{kindRead, lists, roundsOf, headCause, linkCause, groupCause, channelCause, badSetCause, faultSetCause, startCause, laterCause, isWord, messageCause, isBroadcast, broadcastCause, causeIn, linked, grouped, spoken, after, both, saidAfter};
 use super::Progress;
 use super::Stage;
+use super::has_edition;
 use super::in_plan;
 use super::is_at;
+use super::is_shared;
 use super::is_started;
-use super::other_form;
 use super::planned;
+use super::unstarted;
+use super::wrong_form;
 use lines::Form;
 use lines::Frame;
 use lines::Rounds;
@@ -196,26 +199,61 @@ fn group(p: Progress, s: u32) -> Told
     }
 }
 
-fn fault_set(p: Progress, s: u32) -> Told
-    ensures { λ r. ⌜ (r .cause ≡ faultSetCause p s) × (r .cause ≡ 0 → r .progress ≡ after p (FaultSet s)) ⌝ }
+// The default layout of a shared channel: it comes once, where links and groups end.
+fn channel(p: Progress, layout: u16) -> Told
+    ensures { λ r. ⌜ (r .cause ≡ channelCause p layout) × (r .cause ≡ 0 → r .progress ≡ after p (Channel layout)) ⌝ }
 {
     let plan = p.plan;
     if in_plan(p) {
-        let cause = faults::number(faults::check_fault_set(plan, s));
-        if cause != 0 {
+        if layout == 0 {
             return Told {
-                cause: cause,
+                cause: 9,
                 progress: p,
             };
         }
         return Told {
             cause: 0,
-            progress: planned(Stage::Faults, plan, s),
+            progress: unstarted(Stage::Shared, plan, 0, layout),
         };
     }
     Told {
         cause: 3,
         progress: p,
+    }
+}
+
+// The cause that the library has against a bad set, 0 for none: on a shared channel the source may be
+// bad too.
+fn bad_set_cause(p: Progress, s: u32) -> u8
+    ensures { λ r. ⌜ r ≡ badSetCause p s ⌝ }
+{
+    let plan = p.plan;
+    if is_shared(p) {
+        return faults::number(faults::check_shared_fault_set(plan, s));
+    }
+    faults::number(faults::check_fault_set(plan, s))
+}
+
+// The same for a bad set in its place, which is after links, groups and a default layout.
+fn fault_set_cause(p: Progress, s: u32) -> u8
+    ensures { λ r. ⌜ r ≡ faultSetCause p s ⌝ }
+{
+    if in_plan(p) {
+        return bad_set_cause(p, s);
+    }
+    if is_at(Stage::Shared, p) {
+        return bad_set_cause(p, s);
+    }
+    3
+}
+
+fn fault_set(p: Progress, s: u32) -> Told
+    ensures { λ r. ⌜ (r .cause ≡ faultSetCause p s) × (r .cause ≡ 0 → r .progress ≡ after p (FaultSet s)) ⌝ }
+{
+    let plan = p.plan;
+    Told {
+        cause: fault_set_cause(p, s),
+        progress: unstarted(Stage::Faults, plan, s, p.default),
     }
 }
 
@@ -242,7 +280,7 @@ fn start_cause(p: Progress, form: Form, edition: u16, layout: u16, rounds: Round
     ensures { λ r. ⌜ r ≡ startCause p form edition layout rounds ⌝ }
 {
     let plan = p.plan;
-    if other_form(p, form) {
+    if wrong_form(p, form, has_edition(form)) {
         return 2;
     }
     if is_at(Stage::Faults, p) {
@@ -273,6 +311,7 @@ fn start(p: Progress, form: Form, edition: u16, layout: u16, rounds: Rounds) -> 
             rounds: rounds_of(plan.n, rounds),
             issued: 0,
             edition: edition,
+            default: p.default,
         },
     }
 }
@@ -281,7 +320,7 @@ fn start(p: Progress, form: Form, edition: u16, layout: u16, rounds: Rounds) -> 
 fn later_cause(p: Progress, round: u8, edition: u16, layout: u16) -> u8
     ensures { λ r. ⌜ r ≡ laterCause p round edition layout ⌝ }
 {
-    if other_form(p, Form::New) {
+    if wrong_form(p, Form::New, true) {
         return 2;
     }
     if is_at(Stage::Started, p) {
@@ -326,6 +365,7 @@ fn later_notice(p: Progress, later: &mut [u32], round: u8, edition: u16, layout:
             rounds: p.rounds,
             issued: round,
             edition: edition,
+            default: p.default,
         },
     }
 }
@@ -383,7 +423,7 @@ fn message(
     ensures { λ r. ⌜ (r ≡ messageCause p (now (words .entry)) form round from to edition layout) × (now (words .exit) ≡ pick (eqb r 0) (set (now (words .entry)) (placeOf (p .plan .n) round from to) (noticeOf edition layout)) (now (words .entry))) ⌝ }
 {
     let plan = p.plan;
-    if other_form(p, form) {
+    if wrong_form(p, form, true) {
         return 2;
     }
     if is_started(p) {
@@ -396,6 +436,57 @@ fn message(
             return 0;
         }
         return 10;
+    }
+    3
+}
+
+// A word that names no hearer, in a round that is played, from a bad sender, and not silence.
+fn is_broadcast(p: Progress, round: u8, from: usize, layout: u16) -> bool
+    ensures { λ r. ⌜ r ≡ isBroadcast p round from layout ⌝ }
+{
+    let plan = p.plan;
+    if round < 1 {
+        return false;
+    }
+    if p.rounds < round {
+        return false;
+    }
+    if plan.n <= from {
+        return false;
+    }
+    if sets::member(p.faulty, from) {
+        return layout != 0;
+    }
+    false
+}
+
+// Where the word of a round and a sender stands on a shared channel.
+fn shared_place_of(n: usize, round: u8, from: usize) -> usize
+    requires { ⌜ (n ≤ mostTerminals) × (1 ≤ round) × (round ≤ mostRounds) × (from < n) ⌝ }
+    ensures { λ r. ⌜ (r ≡ sharedPlaceOf n round from) × (r < mostWords) ⌝ }
+{
+    ((round as usize) - 1) * n + from
+}
+
+// The cause that refuses a word without a hearer, 0 for none: then it is kept, as one of edition 1.
+fn broadcast(p: Progress, words: &mut [u32], round: u8, from: usize, layout: u16) -> u8
+    requires { ⌜ (p .plan .n ≤ mostTerminals) × (p .rounds ≤ mostRounds) × (length (now words) ≡ mostWords) ⌝ }
+    ensures { λ r. ⌜ (r ≡ broadcastCause p (now (words .entry)) round from layout) × (now (words .exit) ≡ pick (eqb r 0) (set (now (words .entry)) (sharedPlaceOf (p .plan .n) round from) (noticeOf 1 layout)) (now (words .entry))) ⌝ }
+{
+    let plan = p.plan;
+    if is_started(p) {
+        if is_shared(p) {
+            if is_broadcast(p, round, from, layout) {
+                let k = shared_place_of(plan.n, round, from);
+                if words[k] != 0 {
+                    return 11;
+                }
+                words[k] = quorum::notice_of(1, layout);
+                return 0;
+            }
+            return 10;
+        }
+        return 2;
     }
     3
 }
@@ -415,6 +506,7 @@ fn spoken(p: Progress) -> Progress
         rounds: p.rounds,
         issued: p.issued,
         edition: p.edition,
+        default: p.default,
     }
 }
 
@@ -435,6 +527,7 @@ pub(crate) fn tell(p: Progress, words: &mut [u32], later: &mut [u32], frame: Fra
         Frame::Head(n, source, f) => head(p, n, source, f),
         Frame::Link(from, to) => link(p, from as usize, to as usize),
         Frame::Group(s) => group(p, s),
+        Frame::Channel(layout) => channel(p, layout),
         Frame::FaultSet(s) => fault_set(p, s),
         Frame::Start(form, edition, layout, rounds) => start(p, form, edition, layout, rounds),
         Frame::Later(round, edition, layout) => later_notice(p, later, round, edition, layout),
@@ -449,6 +542,10 @@ pub(crate) fn tell(p: Progress, words: &mut [u32], later: &mut [u32], frame: Fra
                 edition,
                 layout,
             ),
+            progress: spoken(p),
+        },
+        Frame::Broadcast(round, from, layout) => Told {
+            cause: broadcast(p, words, round, from as usize, layout),
             progress: spoken(p),
         },
     }

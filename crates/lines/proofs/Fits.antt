@@ -18,7 +18,7 @@ use Rattle.lines.specs.declared.Form.{Form}
 use Rattle.lines.specs.declared.Form.the-variants.{Old, New}
 use Rattle.lines.specs.declared.Frame.{Frame}
 use Rattle.lines.specs.Bytes.{digitAt, byteAt, bytesOf}
-use Rattle.lines.specs.Frames.{pairAt, headOf, linkOf, groupOf, faultSetOf, startOf, laterOf, messageOf, kindOf, knownFrame, frameOf, paired, fits}
+use Rattle.lines.specs.Frames.{pairAt, headOf, linkOf, groupOf, faultSetOf, startOf, laterOf, messageOf, channelOf, kindOf, knownFrame, frameOf, paired, fits}
 
 -- ---- the numbers
 
@@ -72,7 +72,13 @@ module _ (line : List ℕ) where
 
   message-fits : fits (messageOf (bytesOf line)) ≡ true
   unfolding messageOf
-  message-fits = both-fit _ _ _ (and-i _ _ refl (pair-fits 4)) (both-fit _ _ _ (and-i _ _ (pair-fits 4) (pair-fits 6)) refl)
+  message-fits =
+      both-fit _ _ _ (and-i _ _ refl (pair-fits 4))
+      (both-fit _ _ _ (and-i _ _ (pair-fits 4) (pair-fits 6)) (both-fit _ _ _ (pair-fits 3) refl))
+
+  channel-fits : fits (channelOf (bytesOf line)) ≡ true
+  unfolding channelOf
+  channel-fits = both-fit _ _ _ (pair-fits 1) refl
 
   kind-fits : (kind : ℕ) → fits (kindOf kind (bytesOf line)) ≡ true
   unfolding kindOf headOf linkOf groupOf faultSetOf
@@ -80,7 +86,9 @@ module _ (line : List ℕ) where
       both-fit _ _ _ (both-fit _ _ _ refl refl)
       (both-fit _ _ _ (both-fit _ _ _ refl refl)
       (both-fit _ _ _ (both-fit _ _ _ refl refl)
-      (both-fit _ _ _ start-fits (both-fit _ _ _ message-fits (both-fit _ _ _ (both-fit _ _ _ refl refl) (both-fit _ _ _ later-fits refl))))))
+      (both-fit _ _ _ start-fits
+      (both-fit _ _ _ message-fits
+      (both-fit _ _ _ (both-fit _ _ _ refl refl) (both-fit _ _ _ later-fits (both-fit _ _ _ channel-fits refl)))))))
 
   pub frame-fits : (kinds : Set) → fits (frameOf kinds line) ≡ true
   unfolding frameOf knownFrame

@@ -14,7 +14,7 @@ use Rattle.sets.proofs.Tables.{table-length, table-is}
 use Rattle.lines.specs.declared.Frame.{Frame}
 use Rattle.lines.specs.declared.Frame.the-variants.{Foreign, Unknown}
 use Rattle.lines.specs.Bytes.{wellFormed, byteAt, bytesOf}
-use Rattle.lines.specs.Frames.{headOf, linkOf, groupOf, faultSetOf, startOf, laterOf, messageOf, kindOf, knownFrame, frameOf}
+use Rattle.lines.specs.Frames.{headOf, linkOf, groupOf, faultSetOf, startOf, laterOf, messageOf, channelOf, kindOf, knownFrame, frameOf}
 
 pub formed-length : (line : List ℕ) → wellFormed line ≡ true → 1 < length line
 unfolding wellFormed
@@ -40,7 +40,7 @@ module _ (bytes : List ℕ) (long : 8 < length bytes) where
   longer k frame rest h e = pick-no _ _ _ (ne-eqb (length bytes) k (λ z. omega arith)) ∙ e
 
   kind-unknown : (kind : ℕ) → kindOf kind bytes ≡ Unknown
-  unfolding kindOf headOf linkOf groupOf faultSetOf startOf laterOf messageOf
+  unfolding kindOf headOf linkOf groupOf faultSetOf startOf laterOf messageOf channelOf
   kind-unknown kind =
       let one : (k : ℕ) (frame : Frame) → k < 9 → pick (eqb (length bytes) k) frame Unknown ≡ Unknown = λ k frame h. longer k frame Unknown h refl in
       let two : (j k : ℕ) (frame other : Frame) → j < 9 → k < 9 → pick (eqb (length bytes) j) frame (pick (eqb (length bytes) k) other Unknown) ≡ Unknown =
@@ -49,8 +49,9 @@ module _ (bytes : List ℕ) (long : 8 < length bytes) where
       (both-unknown _ _ _ (one _ _ (omega arith))
       (both-unknown _ _ _ (one _ _ (omega arith))
       (both-unknown _ _ _ (longer _ _ _ (omega arith) (longer _ _ _ (omega arith) (two _ _ _ _ (omega arith) (omega arith))))
-      (both-unknown _ _ _ (two _ _ _ _ (omega arith) (omega arith))
-      (both-unknown _ _ _ (one _ _ (omega arith)) (both-unknown _ _ _ (one _ _ (omega arith)) refl))))))
+      (both-unknown _ _ _ (longer _ _ _ (omega arith) (two _ _ _ _ (omega arith) (omega arith)))
+      (both-unknown _ _ _ (one _ _ (omega arith))
+      (both-unknown _ _ _ (one _ _ (omega arith)) (both-unknown _ _ _ (one _ _ (omega arith)) refl)))))))
 
   long-unknown : (kinds : ℕ) → knownFrame kinds bytes ≡ Unknown
   unfolding knownFrame

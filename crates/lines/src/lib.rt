@@ -4,7 +4,7 @@ ghost use mathlib.Core.Bool.{true};
 ghost use Prim.Native.Nat.{ℕ, _+_, _<_};
 ghost use lib.ListN.{length, getD};
 ghost use Rattle.lines.specs.Bytes.{byteAt, wellFormed};
-ghost use Rattle.lines.specs.Frames.{pairAt, tripleAt, headOf, linkOf, groupOf, faultSetOf, startOf, laterOf, messageOf, kindOf, knownFrame, frameOf};
+ghost use Rattle.lines.specs.Frames.{pairAt, tripleAt, headOf, linkOf, groupOf, faultSetOf, startOf, laterOf, messageOf, channelOf, kindOf, knownFrame, frameOf};
 use digits::Digit;
 
 // What a line says. Foreign is no whole number of hexadecimal bytes; Unknown is a kind that the
@@ -15,10 +15,12 @@ pub enum Frame {
     Head(u8, u8, u8),
     Link(u8, u8),
     Group(u32),
+    Channel(u16),
     FaultSet(u32),
     Start(Form, u16, u16, Rounds),
     Later(u8, u16, u16),
     Message(Form, u8, u8, u8, u16, u16),
+    Broadcast(u8, u8, u16),
 }
 
 // Whether a start and words have an edition. In the old form they have none, which counts as edition 1.
@@ -123,6 +125,15 @@ fn group_of(bytes: &[u8]) -> Frame
     Frame::Unknown
 }
 
+fn channel_of(bytes: &[u8]) -> Frame
+    ensures { λ r. ⌜ r ≡ channelOf (now (bytes .entry)) ⌝ }
+{
+    if bytes.len() == 3 {
+        return Frame::Channel(pair_at(bytes, 1));
+    }
+    Frame::Unknown
+}
+
 fn fault_set_of(bytes: &[u8]) -> Frame
     ensures { λ r. ⌜ r ≡ faultSetOf (now (bytes .entry)) ⌝ }
 {
@@ -170,6 +181,7 @@ fn later_of(bytes: &[u8]) -> Frame
     Frame::Unknown
 }
 
+// The shortest has no hearer: on a shared channel all hear it alike.
 fn message_of(bytes: &[u8]) -> Frame
     ensures { λ r. ⌜ r ≡ messageOf (now (bytes .entry)) ⌝ }
 {
@@ -192,6 +204,9 @@ fn message_of(bytes: &[u8]) -> Frame
             pair_at(bytes, 4),
             pair_at(bytes, 6),
         );
+    }
+    if bytes.len() == 5 {
+        return Frame::Broadcast(bytes[1], bytes[2], pair_at(bytes, 3));
     }
     Frame::Unknown
 }
@@ -219,6 +234,9 @@ fn kind_of(kind: u8, bytes: &[u8]) -> Frame
     }
     if kind == 8 {
         return later_of(bytes);
+    }
+    if kind == 9 {
+        return channel_of(bytes);
     }
     Frame::Unknown
 }

@@ -1,13 +1,16 @@
 -- A terminal's record on a shared channel from round to round, read off the lists of the run. Assumes nothing.
-use Prim.Native.Nat.{ℕ, zero, suc, _<_}
-use mathlib.Core.Path.{_≡_, _∙_}
+use Prim.Native.Nat.{ℕ, zero, suc, _≤_, _<_}
+use mathlib.Core.Path.{_≡_, refl, sym, ap, _∙_, fun-ext}
+use mathlib.Core.Logic.{⊎-elim}
 use mathlib.Core.Bool.{true, false}
+use mathlib.Core.List.{List}
 use native.Mathlib.Omega.{arith}
-use lib.ListN.{length}
+use lib.ListN.{length, getD}
+use Rattle.sets.specs.Tests.{pick}
 use Rattle.sets.specs.Tables.{table}
 use Rattle.sets.specs.Sets.{mem}
-use Rattle.sets.proofs.Bools.{pick-yes, pick-no, pick-case}
-use Rattle.sets.proofs.Tables.{table-length, table-at}
+use Rattle.sets.proofs.Bools.{decide, pick-yes, pick-no, pick-case}
+use Rattle.sets.proofs.Tables.{table-length, table-at, table-same}
 use Rattle.quorum.specs.Notice.{noticeOf, layoutOf}
 use Rattle.quorum.proofs.Notices.{layout-small}
 use Rattle.terminal.specs.Rule.{View, start, saysIn}
@@ -15,7 +18,7 @@ use Rattle.terminal.specs.Channel.{sharedStep}
 use Rattle.plan.specs.declared.Plan.{Plan}
 use Rattle.plan.specs.Plan.{heardBy, hears}
 use Rattle.propagation.specs.Run.{startRecord}
-use Rattle.propagation.specs.Channel.{SharedScript, sharedStart, sharedFrom, sharedRecordIn, sharedSites, sharedSite}
+use Rattle.propagation.specs.Channel.{SharedScript, SameSharedWords, sharedStart, sharedFrom, sharedRecordIn, sharedSites, sharedSite}
 
 module _ (p : Plan) (faulty value default : ℕ) (script : SharedScript) where
   -- what terminal b hears from terminal j in round r + 1
@@ -60,3 +63,33 @@ module _ (p : Plan) (faulty value default : ℕ) (script : SharedScript) where
   shared-small s r b j =
       pick-case (λ (x : ℕ). x < 65536) (hears p b j) _ 0
       (λ h. pick-case (λ (x : ℕ). x < 65536) (mem j faulty) _ _ (λ m. s (suc r) j) (λ m. layout-small _)) (λ h. omega arith)
+
+-- ---- entries of good senders are not looked at: scripts that agree on all others give the same sites
+
+module _ (p : Plan) (faulty value default : ℕ) (script other : SharedScript) where
+  heard-same : (r round : ℕ) → SameSharedWords faulty r script other → 1 ≤ round → round ≤ r → (before : List View) (b j : ℕ)
+      → sharedFrom p faulty script round before b j ≡ sharedFrom p faulty other round before b j
+  unfolding sharedFrom
+  heard-same r round same first last before b j =
+      ⊎-elim
+      (λ m.
+      ap (λ (x : ℕ). pick (hears p b j) x 0)
+      (pick-yes _ _ _ m ∙ same round j first last m ∙ sym (pick-yes (mem j faulty) (other round j) (layoutOf (saysIn round (getD before j start .state))) m)))
+      (λ m.
+      ap (λ (x : ℕ). pick (hears p b j) x 0) (pick-no _ _ _ m ∙ sym (pick-no (mem j faulty) (other round j) (layoutOf (saysIn round (getD before j start .state))) m)))
+      (decide (mem j faulty))
+
+  record-same : (r round : ℕ) → SameSharedWords faulty r script other → 1 ≤ round → round ≤ r → (before : List View) (b : ℕ)
+      → sharedRecordIn p faulty default script round before b ≡ sharedRecordIn p faulty default other round before b
+  unfolding sharedRecordIn
+  record-same r round same first last before b =
+      ap (λ (said : ℕ → ℕ). pick (mem b faulty) start (sharedStep (p .n) (p .source) (p .bound) b (heardBy p b) default said (getD before b start)))
+      (fun-ext (heard-same r round same first last before b))
+
+  pub shared-same : (r : ℕ) → SameSharedWords faulty r script other → sharedSites p faulty value default script r ≡ sharedSites p faulty value default other r
+  unfolding sharedSites
+  shared-same zero same = refl
+  shared-same (suc r) same =
+      table-same (p .n) (sharedRecordIn p faulty default script (suc r) (sharedSites p faulty value default script r)) (sharedRecordIn p faulty default other (suc r) (sharedSites p faulty value default script r))
+      (λ b k. record-same (suc r) (suc r) same (omega arith) (omega arith) (sharedSites p faulty value default script r) b)
+      ∙ ap (λ (before : List View). table (p .n) (sharedRecordIn p faulty default other (suc r) before)) (shared-same r (λ round sender first last m. same round sender first (omega arith) m))

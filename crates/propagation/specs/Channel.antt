@@ -55,6 +55,10 @@ sharedSites p faulty value default script (suc r) = table (p .n) (sharedRecordIn
 unfoldable pub sharedSite : Plan → (faulty : Set) (value default : Layout) (script : SharedScript) (rounds : Round) (b : Terminal) → View
 sharedSite p faulty value default script r b = getD (sharedSites p faulty value default script r) b start
 
+-- two scripts have the same words of the fault set's members, in the rounds 1 to r
+abbrev pub SameSharedWords : (faulty : Set) (r : Round) (script other : SharedScript) → Type 0
+SameSharedWords faulty r script other = (round sender : ℕ) → 1 ≤ round → round ≤ r → mem sender faulty ≡ true → script round sender ≡ other round sender
+
 -- ---- a run by the old rules that no good terminal can tell from it
 
 -- what the source carries into round 1: its value if it is good; if it is bad its word of round 1, or the default if it said none

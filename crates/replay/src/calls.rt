@@ -87,7 +87,7 @@ fn record_below(line: &mut [u8], at: usize, below: bool, r: Record) -> usize {
     at
 }
 
-fn records(line: &mut [u8], at: usize, n: usize, list: [Record; 20]) -> usize {
+pub(crate) fn records(line: &mut [u8], at: usize, n: usize, list: [Record; 20]) -> usize {
     let mut k = at;
     let mut b = 0;
     while b < 20 {

@@ -13,7 +13,7 @@ pub(crate) struct Lent {
     pub records: [Record; 5],
 }
 
-fn lent_of(outcome: Outcome, records: [Record; 5]) -> Lent {
+pub(crate) fn lent_of(outcome: Outcome, records: [Record; 5]) -> Lent {
     Lent {
         outcome: outcome,
         records: records,
@@ -35,7 +35,7 @@ fn lend(
     lent_of(outcome, places)
 }
 
-fn records(line: &mut [u8], at: usize, list: [Record; 5]) -> usize {
+pub(crate) fn records(line: &mut [u8], at: usize, list: [Record; 5]) -> usize {
     let mut k = at;
     let mut b = 0;
     while b < 5 {
@@ -46,9 +46,9 @@ fn records(line: &mut [u8], at: usize, list: [Record; 5]) -> usize {
 }
 
 // What the five places hold before, and the place after them in the call.
-struct Before {
-    records: [Record; 5],
-    next: usize,
+pub(crate) struct Before {
+    pub records: [Record; 5],
+    pub next: usize,
 }
 
 fn places(body: &[u8]) -> Before
@@ -56,7 +56,15 @@ fn places(body: &[u8]) -> Before
 {
     let placed = said::plan(body);
     let issues = said::issues(body, placed.next + 9);
-    let first = said::record(body, placed.next + 11 + 4 * issues);
+    places_from(body, placed.next + 11 + 4 * issues)
+}
+
+// Five records from place i on.
+pub(crate) fn places_from(body: &[u8], i: usize) -> Before
+    requires { ⌜ i ≤ 500 ⌝ }
+    ensures { λ r. ⌜ r .next ≤ 9000 ⌝ }
+{
+    let first = said::record(body, i);
     let second = said::record(body, first.next);
     let third = said::record(body, second.next);
     let fourth = said::record(body, third.next);

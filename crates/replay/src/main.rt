@@ -5,6 +5,7 @@ mod calls;
 mod lent;
 mod said;
 mod say;
+mod shared;
 mod texts;
 
 // One call of a kind, and the line's length; a kind that is none has an empty line. `size` is the
@@ -23,6 +24,10 @@ fn answer(kind: u8, size: usize, body: &[u8], line: &mut [u8]) -> usize {
         b'c' => calls::fault_set(body, line),
         b'n' => calls::site(size, body, line),
         b'l' => lent::run(size, body, line),
+        b'S' => shared::step(size, body, line),
+        b'C' => shared::fault_set(body, line),
+        b'N' => shared::site(size, body, line),
+        b'L' => shared::run(size, body, line),
         _ => 0,
     }
 }

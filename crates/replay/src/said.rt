@@ -197,3 +197,24 @@ pub(crate) fn quads(body: &[u8], i: usize, list: &mut [u32])
         j += 1;
     }
 }
+
+// Layout j of those from place i on; 0 past so many.
+fn pair_from(body: &[u8], i: usize, j: usize) -> u16
+    requires { ⌜ i ≤ 17000 ⌝ }
+{
+    if j < 12000 {
+        return pair(body, i + 2 * j);
+    }
+    0
+}
+
+// The layouts from place i on, into the lent list.
+pub(crate) fn pairs(body: &[u8], i: usize, list: &mut [u16])
+    requires { ⌜ i ≤ 17000 ⌝ }
+{
+    let mut j = 0;
+    while j < list.len() {
+        list[j] = pair_from(body, i, j);
+        j += 1;
+    }
+}

@@ -151,8 +151,9 @@ fn file(line: &mut [u8], r: FileRead) -> usize {
     let one = plan_of(line, r);
     let two = say::quad(line, one, progress.faulty);
     let three = say::byte(line, two, form(of));
-    let four = say::quad(line, three, progress.notice);
-    say::byte(line, four, progress.rounds)
+    let four = say::pair(line, three, progress.default);
+    let five = say::quad(line, four, progress.notice);
+    say::byte(line, five, progress.rounds)
 }
 
 // What the archive's reader answers: the deaf set too.

@@ -10,7 +10,7 @@ use lib.Seq.{getD-take}
 use borrow.Author.Tests.{ne-eqb}
 use Rattle.sets.specs.Tests.{pick}
 use Rattle.sets.specs.Sets.{mem}
-use Rattle.sets.proofs.Bools.{and-i, not-i, pick-case, every}
+use Rattle.sets.proofs.Bools.{decide, and-i, not-i, pick-no, pick-case, every}
 use Rattle.sets.proofs.Laws.{below-or-not}
 use Rattle.quorum.specs.Notice.{editionOf, layoutOf, silent}
 use Rattle.quorum.proofs.Notices.{said-i, silent-zero}
@@ -21,6 +21,7 @@ use Rattle.closure.specs.Verdict.{verdict}
 use Rattle.faults.proofs.Laws.{fault-sound}
 use Rattle.propagation.specs.Run.{officeOf, Rising, Quiet, scriptOf}
 use Rattle.propagation.proofs.Offices.{list-rises}
+use Rattle.propagation.proofs.Safety.{not-both}
 use Rattle.propagation.proofs.Demand3.{demand3}
 use Rattle.simulation.proofs.Promise.{zeros}
 use Rattle.digits.specs.Digits.{sixteen, byCase, digitOf, characterOf}
@@ -33,14 +34,15 @@ use Rattle.lines.specs.declared.Rounds.the-variants.{Left}
 use Rattle.lines.specs.Bytes.{digitAt, byteAt}
 use Rattle.frames.specs.declared.Progress.{Progress}
 use Rattle.frames.specs.Lines.{ended, lastLine, linesFrom}
-use Rattle.frames.specs.Reading.{noLater, runReading, fileRead}
+use Rattle.frames.specs.Reading.{isShared, noLater, runReading, fileRead}
 use Rattle.frames.proofs.Accepted.{run-accepted}
 use Rattle.frames.proofs.Starts.{Started, run-starts, run-no-later}
 use Rattle.frames.proofs.TextLines.{line-of}
 use Rattle.output.specs.declared.Written.{Written}
 use Rattle.output.specs.OnFile.{answerOn}
 use Rattle.output.proofs.Laws.{answered-is}
-use Rattle.run_output.specs.Site.{noticeText, terminalLine, goodLine, stateLine, siteLines, scriptRead, officeRead, ranText, ranOn, runText}
+use Rattle.run_output.specs.Site.{noticeText, terminalLine, goodLine, stateLine, siteLines, scriptRead, officeRead, stateLinked, stateRan, ranText, ranOn, runText}
+use Rattle.run_output.proofs.SharedLaws.{agreed}
 use Rattle.run_output.specs.RoundsLeftOut.{LeavesRoundsOut, stateSaid, noneWaits, RoundsLeftOut}
 
 -- ---- one terminal's line
@@ -142,16 +144,24 @@ module _ (file : List ℕ) (h : runReading file .number ≡ 0) where
       let a = run-accepted file h in
       list-rises (p .notice) issued (said-i (p .notice) (a .some-edition) (λ z. omega (arith, start-parts (layoutOf (p .notice)) (p .rounds) (a .start-sound) .0, z))) (a .rises-played)
 
-  -- n - 1 rounds are enough
-  enough-rounds : verdict (p .plan) .passed ≡ true → p .plan .n - 1 ≤ p .rounds → runReading file .said .later ≡ noLater → noneWaits (linesFrom [] (runText file)) ≡ true
-  unfolding runText ranOn ranText scriptRead officeRead noneWaits linesFrom lastLine
-  enough-rounds passed l none =
+  -- n - 1 rounds are enough, with a word for each hearer
+  none-here : isShared p ≡ false → verdict (p .plan) .passed ≡ true → p .plan .n - 1 ≤ p .rounds → runReading file .said .later ≡ noLater
+      → (b : ℕ) → b < p .plan .n → mem b (p .faulty) ≡ false → stateRan p (runReading file .said) b ≡ Waiting → ⊥
+  unfolding stateRan stateLinked scriptRead officeRead
+  none-here apart passed l none b k g w =
       let a = run-accepted file h in
+      demand3 (p .plan) (a .plan-sound) .passes passed (officeOf (p .notice) issued) office-rises (p .faulty) (fault-sound (p .plan) (p .faulty) (a .bad-set apart) .1)
+      (scriptOf (p .plan .n) played) (p .rounds) b l (later-quiet (p .notice) (p .rounds) (runReading file .said .later) none 0 (p .rounds)) (k, g)
+      (sym (pick-no _ _ _ apart) ∙ w)
+
+  -- and on a shared channel
+  enough-rounds : verdict (p .plan) .passed ≡ true → p .plan .n - 1 ≤ p .rounds → runReading file .said .later ≡ noLater → noneWaits (linesFrom [] (runText file)) ≡ true
+  unfolding runText ranOn ranText noneWaits linesFrom lastLine
+  enough-rounds passed l none =
       ap (λ (t : List ℕ). noneWaits (linesFrom [] t)) (answered-is (fileRead (runReading file)) (ranText p (runReading file .said)) h ∙ sym (append-nil _))
       ∙ site-lines (p .form) (p .plan .n) (p .faulty) _ []
       (λ b k g.
-      demand3 (p .plan) (a .plan-sound) .passes passed (officeOf (p .notice) issued) office-rises (p .faulty) (fault-sound (p .plan) (p .faulty) (a .bad-set) .1)
-      (scriptOf (p .plan .n) played) (p .rounds) b l (later-quiet (p .notice) (p .rounds) (runReading file .said .later) none 0 (p .rounds)) (k, g))
+      ⊎-elim (λ shared w. not-both w (agreed file h shared passed l b (k, g) .1)) (λ apart. none-here apart passed l none b k g) (decide (isShared p)))
       refl
 
 pub rounds-left-out : (file : List ℕ) → RoundsLeftOut file (runText file)

@@ -10,8 +10,9 @@ use native.Mathlib.Omega.{arith}
 use lib.ListN.{length, getD, take, length-append, length-replicate, List·getD-map}
 use lib.Seq.{length-take-le}
 use Rattle.sets.specs.Sets.{mem}
-use borrow.Author.Tests.{ne-eqb}
-use Rattle.sets.proofs.Bools.{and-i, not-i, pick-yes, pick-no, pick-case}
+use lib.Dec.{eqb}
+use borrow.Author.Tests.{ne-eqb, eqb-false}
+use Rattle.sets.proofs.Bools.{and-i, not-i, not-e, pick-yes, pick-no, pick-case}
 use Rattle.sets.proofs.Laws.{equal-or-not}
 use Rattle.terminal.specs.declared.State.{State}
 use Rattle.terminal.specs.declared.State.the-variants.{Waiting, Taken}
@@ -27,7 +28,7 @@ use Rattle.lines.specs.declared.Form.{Form}
 use Rattle.lines.specs.declared.Form.the-variants.{Old, New}
 use Rattle.frames.specs.declared.Progress.{Progress}
 use Rattle.frames.specs.declared.FileRead.{FileRead}
-use Rattle.frames.specs.Reading.{Lists, both, Reading, noWords, noLater, runReading, runFile, fileRead, wordsRead, laterRead}
+use Rattle.frames.specs.Reading.{isShared, Lists, both, Reading, noWords, noLater, runReading, runFile, fileRead, wordsRead, laterRead}
 use Rattle.frames.proofs.Accepted.{run-accepted}
 use Rattle.frames.proofs.FileLaws.{run-file, words-read, later-read}
 use Rattle.text.specs.Digits.{hexByte, hexPair}
@@ -35,7 +36,7 @@ use Rattle.text.specs.Texts.{joined}
 use Rattle.text.proofs.Laws.{room-for}
 use Rattle.output.specs.OnFile.{refusalLine}
 use Rattle.output.proofs.Laws.{refused-is, answered-is}
-use Rattle.run_output.specs.Site.{noticeText, terminalLine, goodLine, stateLine, siteLines, scriptRead, officeRead, ranText, ranOn, runText, Playable}
+use Rattle.run_output.specs.Site.{noticeText, terminalLine, goodLine, stateLine, siteLines, scriptRead, officeRead, stateShared, stateLinked, stateRan, ranText, ranOn, runText, SharedPlayable, Playable}
 
 -- ---- each line has 13 bytes, 17 in the new form
 
@@ -118,6 +119,17 @@ same-state records b d e h =
     ∙ ap (getD (map (λ (r : Record). r .state) records) b) h
     ∙ List·getD-map (λ (r : Record). r .state) records b e
 
+-- ---- which of the two runs was asked for
+
+module _ (p : Progress) (said : Lists) (t : List ℕ) where
+  pub told-shared : isShared p ≡ true → t ≡ siteLines (p .form) (p .plan .n) (p .faulty) (stateShared p (said .words)) → t ≡ ranText p said
+  unfolding ranText stateRan
+  told-shared h e = e ∙ same-lines (p .form) (p .plan .n) (p .faulty) (stateShared p (said .words)) (stateRan p said) (λ b l. sym (pick-yes _ _ _ h))
+
+  pub told-linked : isShared p ≡ false → t ≡ siteLines (p .form) (p .plan .n) (p .faulty) (stateLinked p said) → t ≡ ranText p said
+  unfolding ranText stateRan
+  told-linked h e = e ∙ same-lines (p .form) (p .plan .n) (p .faulty) (stateLinked p said) (stateRan p said) (λ b l. sym (pick-no _ _ _ h))
+
 -- ---- the run that an accepted file asks for is not refused
 
 module _ (p : Progress) (words later : List ℕ) (play : Playable p later) (room : length words ≡ 16000) (forty : length later ≡ 40) where
@@ -143,26 +155,42 @@ module _ (p : Progress) (words later : List ℕ) (play : Playable p later) (room
 
   -- the records show those of the rules, and the lines are theirs
   pub ran-lines : (records : List Record) → records ≡ arrayAfter (p .plan) (p .faulty) (p .notice) (take (p .rounds) later) (p .rounds) (take end words)
-      → siteLines (p .form) (p .plan .n) (p .faulty) (stateOf records) ≡ ranText p (both words later)
-  unfolding ranText scriptRead officeRead
+      → siteLines (p .form) (p .plan .n) (p .faulty) (stateOf records) ≡ siteLines (p .form) (p .plan .n) (p .faulty) (stateLinked p (both words later))
+  unfolding stateLinked scriptRead officeRead
   ran-lines records e =
-      same-lines (p .form) (p .plan .n) (p .faulty) (stateOf records)
-      (λ b. site (p .plan) (p .faulty) (officeOf (p .notice) (take (p .rounds) later)) (scriptOf (p .plan .n) (take end words)) (p .rounds) b .state)
+      same-lines (p .form) (p .plan .n) (p .faulty) (stateOf records) (stateLinked p (both words later))
       (λ b h. ap (λ (r : Record). r .state) (array-at (p .plan) (p .faulty) (p .notice) (take (p .rounds) later) (p .rounds) (take end words) not-refused records e b h)
       ∙ shown-state (site (p .plan) (p .faulty) (officeOf (p .notice) (take (p .rounds) later)) (scriptOf (p .plan .n) (take end words)) (p .rounds) b))
 
 -- ---- the lines on a run file
 
-pub run-playable : (file : List ℕ) → runReading file .number ≡ 0 → Playable (runReading file .progress) (runReading file .said .later)
+pub run-playable : (file : List ℕ) → runReading file .number ≡ 0 → isShared (runReading file .progress) ≡ false → Playable (runReading file .progress) (runReading file .said .later)
 unfolding officeSound
-run-playable file h =
+run-playable file h apart =
     let a = run-accepted file h in
     record {
       twenty = sound (runReading file .progress .plan) (a .plan-sound) .twenty;
       forty = a .most-rounds;
-      bad-set = a .bad-set;
+      bad-set = a .bad-set apart;
       in-range = a .start-sound;
       rises = and-i _ _ (not-i (ne-eqb (editionOf (runReading file .progress .notice)) 0 (a .some-edition))) (a .rises-played);
+    }
+
+-- a default that is there is not 0
+some-default : (p : Progress) → isShared p ≡ true → p .default ≡ 0 → ⊥
+unfolding isShared
+some-default p h = eqb-false (p .default) 0 (not-e (eqb (p .default) 0) h)
+
+pub run-shared-playable : (file : List ℕ) → runReading file .number ≡ 0 → isShared (runReading file .progress) ≡ true → SharedPlayable (runReading file .progress)
+run-shared-playable file h shared =
+    let a = run-accepted file h in
+    record {
+      twenty = sound (runReading file .progress .plan) (a .plan-sound) .twenty;
+      forty = a .most-rounds;
+      bad-set = a .shared-bad-set shared;
+      in-range = a .start-sound;
+      some-default = some-default (runReading file .progress) shared;
+      default-small = a .default-small;
     }
 
 -- the lists that are lent to the reader have a place for each word and for each round
@@ -193,8 +221,13 @@ module _ (file : List ℕ) (read : FileRead) (words later : List ℕ) (e : read 
     said-is : both words later ≡ runReading file .said
     said-is = (λ i. both (words-are i) (later-are i))
 
-    pub read-playable : Playable (read .progress) later
-    read-playable = subst (λ (r : FileRead). Playable (r .progress) later) (sym read-is) (subst (Playable (runReading file .progress)) (sym later-are) (run-playable file read-number))
+    pub read-playable : isShared (read .progress) ≡ false → Playable (read .progress) later
+    read-playable =
+        subst (λ (r : FileRead). isShared (r .progress) ≡ false → Playable (r .progress) later) (sym read-is)
+        (λ apart. subst (Playable (runReading file .progress)) (sym later-are) (run-playable file read-number apart))
+
+    pub read-shared-playable : isShared (read .progress) ≡ true → SharedPlayable (read .progress)
+    read-shared-playable = subst (λ (r : FileRead). isShared (r .progress) ≡ true → SharedPlayable (r .progress)) (sym read-is) (run-shared-playable file read-number)
 
   -- a refused file's lists are not looked at
   pub ran-is : ranOn read (both words later) ≡ runText file

@@ -1,12 +1,15 @@
 // What `run` prints: from a run file's bytes to a line for each terminal.
 ghost use mathlib.Core.Path.{_≡_};
+ghost use mathlib.Core.Bool.{true, false};
 ghost use Prim.Native.Nat.{_≤_};
 ghost use lib.ListN.{length, getD, take};
+ghost use Rattle.sets.specs.Tables.{table};
+ghost use Rattle.quorum.specs.Notice.{layoutOf};
 ghost use Rattle.simulation.specs.Answer.{stateOf};
 ghost use Rattle.text.specs.Texts.{held, joined, putInto};
-ghost use Rattle.frames.specs.Reading.{both, runReading, fileRead};
+ghost use Rattle.frames.specs.Reading.{isShared, both, runReading, fileRead};
 ghost use Rattle.output.specs.OnFile.{answerOn};
-ghost use Rattle.run_output.specs.Site.{noticeText, terminalLine, goodLine, stateLine, siteLines, ranText, ranOn, runText, Playable};
+ghost use Rattle.run_output.specs.Site.{noticeText, terminalLine, goodLine, stateLine, siteLines, stateShared, stateLinked, ranText, ranOn, runText, SharedPlayable, Playable};
 ghost use Rattle.run_output.specs.RoundsLeftOut.{RoundsLeftOut};
 use frames::FileRead;
 use frames::Progress;
@@ -70,10 +73,46 @@ fn of_site(form: Form, n: usize, faulty: u32, records: [Record; 20]) -> Text
     t
 }
 
-// The lines of the run that was asked for.
-fn ran(p: Progress, words: &[u32], later: &[u32]) -> Text
+// The layouts of the words of a shared channel, of which there are at most 800.
+fn layouts(words: &[u32]) -> [u16; 800]
+    requires { ⌜ length (now words) ≡ 16000 ⌝ }
+    ensures { λ r. ⌜ r ≡ table 800 (λ i. layoutOf (getD (now (words .entry)) i 0)) ⌝ }
+{
+    let mut list = [0u16; 800];
+    let mut i = 0;
+    while i < 800 {
+        list[i] = quorum::layout_of(words[i]);
+        i += 1;
+    }
+    list
+}
+
+// The lines of the run on a shared channel.
+fn ran_shared(p: Progress, words: &[u32]) -> Text
+    requires { ⌜ SharedPlayable p × (length (now words) ≡ 16000) ⌝ }
+    ensures { λ r. ⌜ held r ≡ siteLines (p .form) (p .plan .n) (p .faulty) (stateShared p (now (words .entry))) ⌝ }
+{
+    let plan = p.plan;
+    let n = plan.n;
+    let end = (p.rounds as usize) * n;
+    let list = layouts(words);
+    let ran = simulation::run_shared_site(
+        plan,
+        p.faulty,
+        quorum::layout_of(p.notice),
+        p.default,
+        p.rounds,
+        &list[..end],
+    );
+    let records = ran.records;
+    let form = p.form;
+    of_site(form, n, p.faulty, records)
+}
+
+// The lines of the run with a word for each hearer.
+fn ran_linked(p: Progress, words: &[u32], later: &[u32]) -> Text
     requires { ⌜ Playable p (now later) × (length (now words) ≡ 16000) × (length (now later) ≡ 40) ⌝ }
-    ensures { λ r. ⌜ held r ≡ ranText p (both (now (words .entry)) (now (later .entry))) ⌝ }
+    ensures { λ r. ⌜ held r ≡ siteLines (p .form) (p .plan .n) (p .faulty) (stateLinked p (both (now (words .entry)) (now (later .entry)))) ⌝ }
 {
     let plan = p.plan;
     let n = plan.n;
@@ -92,9 +131,20 @@ fn ran(p: Progress, words: &[u32], later: &[u32]) -> Text
     of_site(form, n, p.faulty, records)
 }
 
+// The lines of the run that was asked for.
+fn ran(p: Progress, words: &[u32], later: &[u32]) -> Text
+    requires { ⌜ (isShared p ≡ true → SharedPlayable p) × (isShared p ≡ false → Playable p (now later)) × (length (now words) ≡ 16000) × (length (now later) ≡ 40) ⌝ }
+    ensures { λ r. ⌜ held r ≡ ranText p (both (now (words .entry)) (now (later .entry))) ⌝ }
+{
+    if frames::is_shared(p) {
+        return ran_shared(p, words);
+    }
+    ran_linked(p, words, later)
+}
+
 // The lines on a run file.
 fn of_run(read: FileRead, words: &[u32], later: &[u32]) -> Text
-    requires { ⌜ (read .number ≡ 0 → Playable (read .progress) (now later)) × (length (now words) ≡ 16000) × (length (now later) ≡ 40) ⌝ }
+    requires { ⌜ (read .number ≡ 0 → isShared (read .progress) ≡ true → SharedPlayable (read .progress)) × (read .number ≡ 0 → isShared (read .progress) ≡ false → Playable (read .progress) (now later)) × (length (now words) ≡ 16000) × (length (now later) ≡ 40) ⌝ }
     ensures { λ r. ⌜ held r ≡ ranOn read (both (now (words .entry)) (now (later .entry))) ⌝ }
 {
     if read.number != 0 {

@@ -32,7 +32,7 @@ use Rattle.simulation.proofs.SharedCauses.{SharedAccepted, shared-accep
 use Rattle.simulation.proofs.SharedMeaning.{shared-cause-none, shared-placed, shared-walk-is, shared-walk-array}
 
 -- the words of a list are layouts
-script-small : (n : ℕ) (words : List ℕ) (round sender : ℕ) → sharedScriptOf n words round sender < 65536
+pub script-small : (n : ℕ) (words : List ℕ) (round sender : ℕ) → sharedScriptOf n words round sender < 65536
 unfolding sharedScriptOf
 script-small n words round sender = layout-small _
 

@@ -441,7 +441,15 @@ pub fn run_shared(
     ensures { λ r. ⌜ now (records .exit) ≡ sharedRecordsAfter p faulty value default rounds (now (words .entry)) (now (records .entry)) ⌝ }
     ensures { λ r. ⌜ (numberOf r ≡ 0 → AgreementHolds p faulty value default rounds (now (words .entry)) (now (records .exit))) ⌝ }
 {
-    let b = begin_shared(p, faulty, value, default, rounds, words.len(), records.len());
+    let b = begin_shared(
+        p,
+        faulty,
+        value,
+        default,
+        rounds,
+        words.len(),
+        records.len(),
+    );
     play_shared_turns(b.turn, b.turns, words, records);
     b.outcome
 }

@@ -12,12 +12,12 @@ ghost use Rattle.terminal.specs.Shown.{Whole, viewOf, shownOver};
 ghost use Rattle.terminal.specs.Votes.{HaveRoom};
 ghost use Rattle.terminal.specs.Answer.{numberOf};
 ghost use Rattle.terminal.specs.Channel.{firstHearing, wordOr, sharedStep};
-use quorum::Bound;
 use super::Outcome;
 use super::Record;
 use super::State;
 use super::number;
 use super::play;
+use quorum::Bound;
 
 // What terminal j said, as a notice; silence past the list's end.
 fn notice_at(said: &[u16], j: usize) -> u32
@@ -30,7 +30,7 @@ fn notice_at(said: &[u16], j: usize) -> u32
 }
 
 // All that was said.
-fn notices(said: &[u16]) -> [u32; 20]
+pub fn notices(said: &[u16]) -> [u32; 20]
     ensures { λ r. ⌜ r ≡ table 20 (λ j. firstEdition (getD (now (said .entry)) j 0)) ⌝ }
 {
     let mut all = [0u32; 20];
@@ -43,7 +43,7 @@ fn notices(said: &[u16]) -> [u32; 20]
 }
 
 // Round 1 of a terminal that waits and hears the source.
-fn first_hearing(state: State, round: u8, hears_source: bool) -> bool
+pub fn first_hearing(state: State, round: u8, hears_source: bool) -> bool
     ensures { λ r. ⌜ r ≡ firstHearing state round «hears_source» ⌝ }
 {
     match state {
@@ -57,7 +57,7 @@ fn first_hearing(state: State, round: u8, hears_source: bool) -> bool
     }
 }
 
-fn word_or(default: u16, word: u16) -> u16
+pub fn word_or(default: u16, word: u16) -> u16
     ensures { λ r. ⌜ r ≡ wordOr default word ⌝ }
 {
     if word == 0 {

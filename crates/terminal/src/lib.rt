@@ -1,6 +1,6 @@
 // One terminal: its record, the step that plays one round of it, and what its office issues. All that the
 // firmware ships.
-mod channel;
+pub mod channel;
 mod choice;
 mod choosing;
 

@@ -11,13 +11,13 @@ use Rattle.quorum.specs.declared.BoundKind.{BoundKind}
 use Rattle.quorum.specs.declared.BoundKind.the-variants.{Most, Groups}
 use Rattle.plan.specs.declared.Plan.{Plan}
 use Rattle.lines.specs.declared.Frame.{Frame}
-use Rattle.lines.specs.declared.Frame.the-variants.{Foreign, Unknown, Head, Link, Group, FaultSet, Start, Later, Message}
+use Rattle.lines.specs.declared.Frame.the-variants.{Foreign, Unknown, Head, Link, Group, Channel, FaultSet, Start, Later, Message, Broadcast}
 use Rattle.lines.specs.Frames.{frameOf}
 use Rattle.frames.specs.declared.Progress.{Progress}
 use Rattle.frames.specs.declared.Reader.{Reader}
 use Rattle.frames.specs.Lines.{Line, ended, cut, linesFrom}
 use Rattle.frames.specs.Reading.{stageOf, nothingRead, Lists, nothingSaid, kindRead, lists, causeIn, linked, grouped, after, saidAfter, Reading, told, reading}
-use Rattle.frames.proofs.Keeps.{head-accepted, link-accepted, group-accepted, fault-set-accepted, start-accepted, later-accepted, message-accepted, frame-stage, some-line, line-read, told-keeps, text-read}
+use Rattle.frames.proofs.Keeps.{head-accepted, link-accepted, group-accepted, channel-accepted, fault-set-accepted, start-accepted, later-accepted, message-accepted, broadcast-accepted, frame-stage, some-line, line-read, told-keeps, text-read}
 use Rattle.writer.specs.Written.{boundByte}
 use Rattle.writer.specs.RoundTrip.{Begins}
 
@@ -42,11 +42,13 @@ first-head said Unknown h = absurd (omega arith)
 first-head said (Head n source f) h = ap (Head n source) (sym (byte-again f))
 first-head said (Link from to) h = absurd (omega (arith, link-accepted nothingRead said from to h .0))
 first-head said (Group s) h = absurd (let l = group-accepted nothingRead said s h .0 in omega arith)
+first-head said (Channel layout) h = absurd (let l = channel-accepted nothingRead said layout h .0 in omega arith)
 first-head said (FaultSet s) h = absurd (let l = fault-set-accepted nothingRead said s h .0 in omega arith)
 first-head said (Start form edition layout rounds) h = absurd (omega (arith, start-accepted nothingRead said form edition layout rounds h .0))
 first-head said (Later round edition layout) h = absurd (omega (arith, later-accepted nothingRead said round edition layout h .0))
 first-head said (Message form round from to edition layout) h =
     absurd (omega (arith, message-accepted nothingRead said form round from to edition layout h))
+first-head said (Broadcast round from layout) h = absurd (omega (arith, broadcast-accepted nothingRead said round from layout h))
 
 -- a later one keeps it
 head-kept : (p : Progress) (said : Lists) (frame : Frame) → (stageOf (p .stage) ≡ 0 → ⊥) → causeIn p said frame ≡ 0 → headOf (after p frame .plan) ≡ headOf (p .plan)
@@ -56,10 +58,12 @@ head-kept p said Unknown s h = refl
 head-kept p said (Head n source f) s h = absurd (s (head-accepted p said n source f h .0))
 head-kept p said (Link from to) s h = refl
 head-kept p said (Group x) s h = ap (Head (p .plan .n) (p .plan .source)) (lists-byte (p .plan .bound .kind) (group-accepted p said x h .2))
+head-kept p said (Channel layout) s h = refl
 head-kept p said (FaultSet x) s h = refl
 head-kept p said (Start form edition layout rounds) s h = refl
 head-kept p said (Later round edition layout) s h = refl
 head-kept p said (Message form round from to edition layout) s h = refl
+head-kept p said (Broadcast round from layout) s h = refl
 
 -- ---- the lines
 

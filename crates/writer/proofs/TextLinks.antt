@@ -21,7 +21,7 @@ use Rattle.quorum.specs.Quorum.{noGroups, atMost}
 use Rattle.plan.specs.declared.Plan.{Plan}
 use Rattle.plan.specs.Plan.{heardBy, hears}
 use Rattle.lines.specs.declared.Frame.{Frame}
-use Rattle.lines.specs.declared.Frame.the-variants.{Foreign, Unknown, Head, Link, Group, FaultSet, Start, Later, Message}
+use Rattle.lines.specs.declared.Frame.the-variants.{Foreign, Unknown, Head, Link, Group, Channel, FaultSet, Start, Later, Message, Broadcast}
 use Rattle.lines.specs.Frames.{frameOf}
 use Rattle.frames.specs.declared.Progress.{Progress}
 use Rattle.frames.specs.declared.Reader.{Reader}
@@ -104,12 +104,14 @@ module _ (p : Progress) (said : Lists) (r : Ready p) where
       let c = link-accepted p said from to h in
       link-more (p .plan) (r .begun (λ z. omega (arith, c .0))) from to (c .1) (c .2) a b (equal-or-not b to)
   frame-links (Group s) h a b = same-plan (Group s) a b (λ e. let z : _≡_ {A = ℕ} 0 1 = cc in omega arith)
+  frame-links (Channel layout) h a b = same-plan (Channel layout) a b (λ e. let z : _≡_ {A = ℕ} 0 1 = cc in omega arith)
   frame-links (FaultSet s) h a b = same-plan (FaultSet s) a b (λ e. let z : _≡_ {A = ℕ} 0 1 = cc in omega arith)
   frame-links (Start form edition layout rounds) h a b =
       same-plan (Start form edition layout rounds) a b (λ e. let z : _≡_ {A = ℕ} 0 1 = cc in omega arith)
   frame-links (Later round edition layout) h a b = same-plan (Later round edition layout) a b (λ e. let z : _≡_ {A = ℕ} 0 1 = cc in omega arith)
   frame-links (Message form round from to edition layout) h a b =
       same-plan (Message form round from to edition layout) a b (λ e. let z : _≡_ {A = ℕ} 0 1 = cc in omega arith)
+  frame-links (Broadcast round from layout) h a b = same-plan (Broadcast round from layout) a b (λ e. let z : _≡_ {A = ℕ} 0 1 = cc in omega arith)
 
 -- ---- the lines
 

@@ -90,7 +90,7 @@ const AFTER_BAD: [Row; 17] = [
     Row(
         "run",
         "ff020007",
-        "kind 05 with 6 bytes after it: a word has 5 (round, from, to, value (2 bytes)), or 7 (round, from, to, edition (2 bytes), layout (2 bytes))",
+        "kind 05 with 6 bytes after it: a word has 5 (round, from, to, value (2 bytes)), or 7 (round, from, to, edition (2 bytes), layout (2 bytes)), or 4 (round, from, value (2 bytes))",
         &["05020103000209"],
     ),
     Row(
@@ -227,8 +227,8 @@ const AFTER_START: [Row; 33] = [
     Row(
         "run",
         "ff020008",
-        "kind 09: there are 01 to 05, and 08",
-        &["0901"],
+        "kind 0a: there are 01 to 05, and 08",
+        &["0a01"],
     ),
     Row(
         "run",
@@ -397,7 +397,7 @@ const AFTER_OLD_START: [Row; 8] = [
         "kind 05 with 6 bytes after it: a word has 5 (round, from, to, value (2 bytes))",
         &["05020103000900"],
     ),
-    Row("run", "ff020008", "kind 09: there are 01 to 05", &["0901"]),
+    Row("run", "ff020008", "kind 0a: there are 01 to 05", &["0a01"]),
 ];
 
 fn first_line(checks: &mut Checks) {
@@ -420,8 +420,8 @@ fn with_groups(checks: &mut Checks) {
     let table = [
         (
             "ff020009",
-            "kind 09: there are 01 to 05, 07 and 08",
-            ["0901"],
+            "kind 0a: there are 01 to 05, 07 and 08",
+            ["0a01"],
         ),
         (
             "ff100009",

@@ -11,27 +11,27 @@ pub fn check(checks: &mut Checks) {
     overtaken(checks);
 }
 
-fn shows(checks: &mut Checks, label: &str, shown: &Shown, roles: [&str; 4]) {
+pub fn shows(checks: &mut Checks, label: &str, shown: &Shown, roles: [&str; 4]) {
     let names = ["bad", "reached", "plain", "cut-off"];
     for (role, wanted) in names.into_iter().zip(roles) {
         checks.same(&format!("{label}: {role}"), wanted, &with_role(shown, role));
     }
 }
 
-fn says(checks: &mut Checks, label: &str, shown: &Shown, says: &str, why: &str, beside: &str) {
+pub fn says(checks: &mut Checks, label: &str, shown: &Shown, says: &str, why: &str, beside: &str) {
     checks.same(&format!("{label}: says"), says, &texts(shown, "says"));
     checks.same(&format!("{label}: why"), why, &texts(shown, "why"));
     checks.same(&format!("{label}: beside"), beside, &texts(shown, "beside"));
 }
 
-fn marked(checks: &mut Checks, label: &str, shown: &Shown, wanted: &str) {
+pub fn marked(checks: &mut Checks, label: &str, shown: &Shown, wanted: &str) {
     let marks = shown.all.iter().filter(|one| one.is("mark"));
     let marks: Vec<&str> = marks.map(|one| one.get("class")).collect();
     checks.same(&format!("{label}: mark"), wanted, &marks.join("|"));
 }
 
 /// The words of the legend's rows.
-fn legend(shown: &Shown) -> Vec<&str> {
+pub fn legend(shown: &Shown) -> Vec<&str> {
     let in_key = |group: Option<usize>| group.is_some_and(|at| shown.all[at].is("key"));
     let rows = shown.all.iter();
     rows.filter(|one| one.tag == "text" && in_key(one.group))

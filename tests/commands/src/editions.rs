@@ -27,13 +27,13 @@ pub fn check(checks: &mut Checks) {
 }
 
 /// A committed run, with its frames beside it where `in_frames`.
-struct Example {
-    name: &'static str,
-    in_frames: bool,
-    states: &'static [&'static str],
+pub struct Example {
+    pub name: &'static str,
+    pub in_frames: bool,
+    pub states: &'static [&'static str],
     /// Under the states.
-    told: &'static [&'static str],
-    trace: &'static [&'static str],
+    pub told: &'static [&'static str],
+    pub trace: &'static [&'static str],
 }
 
 /// mind-changed is drawing F, whose 1 is bad. 2 and 3 hear the office: edition 1 in round 1, and in
@@ -144,7 +144,7 @@ const EXAMPLES: [Example; 3] = [
 ];
 
 /// The text, and its frames where they are committed; both ways between them. The plan passes.
-fn played(checks: &mut Checks, example: &Example) {
+pub fn played(checks: &mut Checks, example: &Example) {
     let name = example.name;
     let text = format!("{name}.txt");
     let states = lines(example.states);

@@ -20,6 +20,10 @@ mod plans;
 mod readme;
 mod reasons;
 mod runs;
+mod shared;
+mod shared_frames;
+mod shared_pictures;
+mod shared_texts;
 mod standins;
 mod svg;
 mod text_form;
@@ -29,7 +33,7 @@ use std::process::ExitCode;
 
 type Topic = (&'static str, fn(&mut Checks));
 
-const TOPICS: [Topic; 13] = [
+const TOPICS: [Topic; 14] = [
     ("answers", answers::check),
     ("calls", calls::check),
     ("plans", plans::check),
@@ -39,6 +43,7 @@ const TOPICS: [Topic; 13] = [
     ("deaf", deaf::check),
     ("groups", groups::check),
     ("editions", editions::check),
+    ("shared", shared::check),
     ("mends", mends::check),
     ("pictures", pictures::check),
     ("readme", readme::check),

@@ -55,8 +55,8 @@ const WHOLE: [Row; 16] = [
         "verdict",
         2,
         2,
-        "kind 09: there are 01 to 05",
-        &["01040001", "090001"],
+        "kind 0a: there are 01 to 05",
+        &["01040001", "0a0001"],
     ),
     Row(
         "verdict",

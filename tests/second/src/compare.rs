@@ -2,7 +2,7 @@
 
 use crate::characters;
 use crate::faults::Fault;
-use crate::generate::{case, Kind};
+use crate::generate::{fresh_case, Kind};
 use crate::output::{archive_text, rewritten_text, run_text, verdict_text};
 use std::fs;
 use std::io::{Read, Write};
@@ -139,7 +139,7 @@ fn compare_one(tested: &Tested, seed: u64, count: u64) -> (u64, u64) {
     for index in 0..count + characters::FILES {
         cases += 1;
         let input = if index < count {
-            case(tested.kind, seed, index)
+            fresh_case(tested.kind, seed, index)
         } else {
             characters::file(tested.kind, index - count)
         };

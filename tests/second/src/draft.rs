@@ -73,6 +73,18 @@ pub fn word_in(form: Form, at: (u32, u32, u32), said: Notice) -> Vec<u8> {
     digits(&frame)
 }
 
+/// The default layout of a site with one radio for all.
+pub fn default_line(layout: u16) -> Vec<u8> {
+    let [high, low] = layout.to_be_bytes();
+    digits(&[9, high, low])
+}
+
+/// A word that names no hearer.
+pub fn shared_word_line(round: u32, from: u32, layout: u16) -> Vec<u8> {
+    let [high, low] = layout.to_be_bytes();
+    digits(&[5, round as u8, from as u8, high, low])
+}
+
 /// Edition and layout, or the layout alone.
 fn notice_bytes(form: Form, said: Notice) -> Vec<u8> {
     match form {

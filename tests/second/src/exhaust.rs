@@ -11,8 +11,8 @@ use crate::run::{run, Order};
 use crate::step::{Record, State};
 use crate::verdict::{is_bad_set, verdict, witness_check, Verdict};
 
-const TERMINALS: u32 = 3;
-const ROUNDS: u32 = TERMINALS - 1;
+pub(crate) const TERMINALS: u32 = 3;
+pub(crate) const ROUNDS: u32 = TERMINALS - 1;
 const SILENT_ROUNDS: u32 = 10;
 const START: Notice = notice(1, 7);
 /// A smaller layout than the true one: where both had enough votes it would be taken.
@@ -60,7 +60,7 @@ pub fn exhaust(fault: Fault) -> Result<Totals, String> {
 }
 
 /// Every f, every group, and every two different groups in either order.
-fn all_bounds() -> Vec<Bound> {
+pub(crate) fn all_bounds() -> Vec<Bound> {
     let groups: Vec<Set> = subsets(&[1, 2])
         .into_iter()
         .map(|members| members.into_iter().collect())
@@ -74,12 +74,12 @@ fn all_bounds() -> Vec<Bound> {
     bounds
 }
 
-fn all_links() -> Vec<(u32, u32)> {
+pub(crate) fn all_links() -> Vec<(u32, u32)> {
     let pairs = (0..TERMINALS).flat_map(|from| (0..TERMINALS).map(move |to| (from, to)));
     pairs.filter(|(from, to)| from != to).collect()
 }
 
-fn subsets<T: Copy>(list: &[T]) -> Vec<Vec<T>> {
+pub(crate) fn subsets<T: Copy>(list: &[T]) -> Vec<Vec<T>> {
     let Some((first, rest)) = list.split_first() else {
         return vec![Vec::new()];
     };

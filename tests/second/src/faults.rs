@@ -1,18 +1,22 @@
 //! Planted faults: the implementation broken in one place at a time, to see that the cases
 //! would find it.
 
-use crate::generate::{case, Kind};
+use crate::generate::{case, shared_case, Kind};
 use crate::issues::{issue_case, IssueCase};
-use crate::lent::{read_answer, read_case, ReadAnswer, ReadCase};
+use crate::lent::{read_answer, read_case, shared_read_case, ReadAnswer, ReadCase};
 use crate::output::{archive_text, rewritten_text, run_text, verdict_text};
-use crate::plan::Cause;
+use crate::plan::{Cause, Plan, Set};
 use crate::reader::{read_archive, Filed, Refusal};
 use crate::records::{record_answer, record_case, RecordAnswer, RecordCase};
 use crate::run::issue;
+use crate::shared::shared_fault_cause;
+use crate::shared_calls::{
+    shared_set_case, shared_site_case, shared_step_case, SharedSite, SharedStep,
+};
 use crate::sites::{site_case, Site};
-use crate::step::{step, Record, Row, State};
+use crate::step::{shared_step, step, Record, Row, State};
 use crate::steps::{step_case, StepCase};
-use crate::{planted, planted_notices};
+use crate::{planted, planted_notices, planted_shared};
 
 /// The place that is broken. Normal use is `None`.
 #[derive(Clone, Copy, Debug, PartialEq, Eq)]
@@ -220,12 +224,94 @@ pub enum Fault {
     IssueRaisesRound,
     IssueClearsNotes,
     IssueLooksAtNotes,
+    ModeKnownAtStart,
+    NoticeInModeAccepted,
+    DefaultLengthNotChecked,
+    DefaultAfterStartUnknown,
+    EditionStartInMode,
+    SecondStartInModeUnknown,
+    HearerInModeAccepted,
+    EditionWordInModeAccepted,
+    NoHearerAccepted,
+    NoHearerInNewRunAccepted,
+    NoHearerBeforeModeUnknown,
+    DefaultUnknown,
+    DefaultKnownInPlans,
+    DefaultNoPlace,
+    LinkAfterDefaultAccepted,
+    GroupAfterDefaultAccepted,
+    SecondDefaultAccepted,
+    DefaultAfterBadSetAccepted,
+    DefaultAfterStartAccepted,
+    DefaultZeroAccepted,
+    DefaultZeroBeforeOrder,
+    BadSourceMayNotSpeak,
+    SharedGoodSenderAccepted,
+    SharedSenderOutsideAccepted,
+    SharedTwiceAccepted,
+    SharedTwiceInAnyRound,
+    SharedTwiceByAnySender,
+    SharedPastLastAccepted,
+    SharedTwiceBeforeWord,
+    UnheardSenderRefused,
+    SharedZeroAccepted,
+    FirstRoundNotNoted,
+    CarriedInRoundZero,
+    DefaultNoted,
+    SourceWordInAnyRound,
+    DefaultInSecondRound,
+    TakenTakesCarried,
+    CarriedToAll,
+    DefaultWhereSourceSpoke,
+    DefaultNeverTaken,
+    VotesBeforeDefault,
+    VotesBeforeSourceWord,
+    SmallerOfDefault,
+    NotedWordOfSource,
+    DefaultToAll,
+    DefaultInLaterRound,
+    LaterNeverTaken,
+    UnheardNeverTake,
+    SourceWordToAll,
+    SharedCountsAsTwo,
+    StepDefaultZeroAccepted,
+    DefaultBeforeHead,
+    DefaultBeforeGroups,
+    DefaultAfterRecord,
+    DefaultAfterLength,
+    SourceStillBarred,
+    OutsideAbove19Accepted,
+    SourceCountedAsBad,
+    BadSourceUnbounded,
+    SourceUnboundedInMode,
+    BoundNotAskedInMode,
+    BoundNotAskedOfBadSource,
+    BadSourceRecordTaken,
+    BadSourceValueNotAsked,
+    RunDefaultZeroAccepted,
+    SharedWordsByHearer,
+    LongerWordsAccepted,
+    StartBeforeSet,
+    LengthBeforeStart,
+    BadSourceTrusted,
+    BadSourceUnheard,
+    GoodEntriesFirst,
+    GoodEntriesLookedAt,
+    SharedWordsBySender,
+    SharedWordsOfRoundBefore,
+    SharedPrintedNew,
+    BadSourceLineWaiting,
+    SharedListedByHearer,
+    SharedListedAsLayouts,
+    DefaultNotAnswered,
 }
 
 /// All planted faults, and what is wrong in each.
 pub fn planted() -> impl Iterator<Item = (Fault, &'static str)> {
     let older = planted::PLANTED.iter().copied();
-    older.chain(planted_notices::PLANTED.iter().copied())
+    let notices = planted_notices::PLANTED.iter().copied();
+    let shared = planted_shared::PLANTED.iter().copied();
+    older.chain(notices).chain(shared)
 }
 
 /// Larger sites cost time in the verdict and show no fault that smaller ones hide.
@@ -242,12 +328,17 @@ pub struct Found {
     pub sites: u64,
     pub issues: u64,
     pub reads: u64,
+    /// Steps, runs and bad sets where one radio is for all.
+    pub shared_steps: u64,
+    pub shared_sites: u64,
+    pub shared_sets: u64,
 }
 
 impl Found {
     pub fn all(&self) -> u64 {
         let files = self.verdicts + self.archive + self.runs + self.reads;
-        files + self.steps + self.records + self.sites + self.issues
+        let shared = self.shared_steps + self.shared_sites + self.shared_sets;
+        files + self.steps + self.records + self.sites + self.issues + shared
     }
 }
 
@@ -290,6 +381,9 @@ pub struct Sound {
     sites: Answered<Site, Played>,
     issues: Answered<IssueCase, Stepped>,
     reads: Answered<ReadCase, ReadAnswer>,
+    shared_steps: Answered<SharedStep, Stepped>,
+    shared_sites: Answered<SharedSite, Played>,
+    shared_sets: Answered<(Plan, Set), Option<Cause>>,
 }
 
 /// What the archive prints of a file, the plan written anew, and what the archive's reader answers.
@@ -306,13 +400,15 @@ impl Sound {
         let small = |text: &Vec<u8>| {
             read_archive(text, Fault::None).map_or(true, |filed| filed.plan.n <= LARGEST_SITE)
         };
-        let plans: Vec<Vec<u8>> = (0..count)
-            .map(|index| case(Kind::Verdict, seed, index))
-            .filter(small)
-            .collect();
-        let runs = (0..count).map(|index| case(Kind::Run, seed, index));
+        let files = |kind: Kind| {
+            let others = (0..count).map(move |index| case(kind, seed, index));
+            others.chain((0..count / 4).map(move |index| shared_case(kind, seed, index)))
+        };
+        let plans: Vec<Vec<u8>> = files(Kind::Verdict).filter(small).collect();
+        let runs = files(Kind::Run);
         // The lists of a read are long, and few of its answers are about them.
         let reads = (0..count / 4).map(|index| read_case(seed, index));
+        let reads = reads.chain((0..count / 16).map(|index| shared_read_case(seed, index)));
         Sound {
             verdicts: Answered::new(plans.iter().cloned(), |text, fault| {
                 verdict_text(text, fault)
@@ -327,6 +423,18 @@ impl Sound {
             sites: Answered::new((0..count).map(|index| site_case(seed, index)), played),
             issues: Answered::new((0..count).map(|index| issue_case(seed, index)), issued),
             reads: Answered::new(reads, read_answer),
+            shared_steps: Answered::new(
+                (0..count).map(|index| shared_step_case(seed, index)),
+                shared_stepped,
+            ),
+            shared_sites: Answered::new(
+                (0..count).map(|index| shared_site_case(seed, index)),
+                shared_played,
+            ),
+            shared_sets: Answered::new(
+                (0..count).map(|index| shared_set_case(seed, index)),
+                |(plan, bad), fault| shared_fault_cause(plan, bad, fault).err(),
+            ),
         }
     }
 
@@ -341,6 +449,9 @@ impl Sound {
             sites: self.sites.count(),
             issues: self.issues.count(),
             reads: self.reads.count(),
+            shared_steps: self.shared_steps.count(),
+            shared_sites: self.shared_sites.count(),
+            shared_sets: self.shared_sets.count(),
         }
     }
 
@@ -355,6 +466,9 @@ impl Sound {
             sites: self.sites.found(fault),
             issues: self.issues.found(fault),
             reads: self.reads.found(fault),
+            shared_steps: self.shared_steps.found(fault),
+            shared_sites: self.shared_sites.found(fault),
+            shared_sets: self.shared_sets.found(fault),
         }
     }
 }
@@ -382,6 +496,22 @@ fn stepped(call: &StepCase, fault: Fault) -> Stepped {
     told_record(step(&call.place, call.record.clone(), &call.said, fault))
 }
 
+fn shared_stepped(call: &SharedStep, fault: Fault) -> Stepped {
+    let record = call.record.clone();
+    told_record(shared_step(
+        &call.place,
+        record,
+        call.default,
+        &call.said,
+        fault,
+    ))
+}
+
+fn shared_played(site: &SharedSite, fault: Fault) -> Played {
+    let (answer, records) = site.played(fault);
+    (answer.err(), records.into_iter().map(seen).collect())
+}
+
 fn issued(call: &IssueCase, fault: Fault) -> Stepped {
     told_record(issue(call.record.clone(), call.later, fault))
 }
@@ -401,10 +531,14 @@ fn told(found: &Found) -> String {
         sites,
         issues,
         reads,
+        shared_steps,
+        shared_sites,
+        shared_sets,
     } = found;
     format!(
         "{verdicts} verdicts, {archive} of the archive, {runs} runs, {steps} steps, \
-         {records} plan records, {sites} calls of the run, {issues} of the issue, {reads} of the reader"
+         {records} plan records, {sites} calls of the run, {issues} of the issue, {reads} of the reader; \
+         one radio for all: {shared_steps} steps, {shared_sites} runs, {shared_sets} bad sets"
     )
 }
 

@@ -1,5 +1,6 @@
 //! The seeded cases: valid files of many sorts, and damaged ones.
 
+use crate::channel::some_channel;
 use crate::damage::{
     causes, change_byte, change_lines, change_text, noise, plant, sized, spoil_line,
 };
@@ -18,6 +19,7 @@ use crate::plans::{
     random_plan, strong_plan, thin_plan, weak_plan,
 };
 use crate::rng::Rng;
+use crate::shared_files::{any_order, plan_with_default, shared_file, WAYS as SHARED_WAYS};
 use std::fs;
 use std::io;
 use std::path::Path;
@@ -76,9 +78,79 @@ pub fn write_cases(kind: Kind, seed: u64, count: u64, folder: &Path) -> io::Resu
     fs::create_dir_all(folder)?;
     for index in 0..count {
         let name = format!("{}-{}-{:06}.txt", kind.name(), seed, index);
-        fs::write(folder.join(name), case(kind, seed, index))?;
+        fs::write(folder.join(name), fresh_case(kind, seed, index))?;
     }
     Ok(())
+}
+
+/// Of files that are made anew one in so many is about one radio for all.
+const SHARED_EVERY: u64 = 5;
+
+/// All cases, those about one radio for all among the others.
+pub fn fresh_case(kind: Kind, seed: u64, index: u64) -> Vec<u8> {
+    let turn = index / SHARED_EVERY;
+    match index % SHARED_EVERY {
+        4 => shared_case(kind, seed, turn),
+        _ => case(kind, seed, index - turn),
+    }
+}
+
+/// Sorts of cases about one radio for all: first two of valid runs, then one of damaged ones, and two
+/// of those with one wrong line.
+pub const SHARED_SORTS: u64 = 5;
+
+pub fn shared_case(kind: Kind, seed: u64, index: u64) -> Vec<u8> {
+    let rng = &mut Rng::for_case(seed, kind as u64 + 11, index);
+    let (sort, turn) = (index % SHARED_SORTS, index / SHARED_SORTS);
+    // Whoever reads plans alone lacks the default.
+    if kind == Kind::Verdict {
+        return match sort {
+            0 => plan_with_default(rng),
+            _ => join(&plan_case(rng, sort, turn).lines),
+        };
+    }
+    let (way, _) = SHARED_WAYS[((2 * turn + sort % 2) % SHARED_WAYS.len() as u64) as usize];
+    match sort {
+        0 => some_channel(rng, terminals(turn, 2, 20)).text(),
+        1 => shuffled_channel(rng),
+        2 if turn.is_multiple_of(2) => any_order(rng),
+        2 => {
+            let n = rng.between(2, 7);
+            let lines = some_channel(rng, n).lines();
+            damage_any(rng, lines)
+        }
+        _ => shared_file(rng, way),
+    }
+}
+
+/// A small one, with its links and its words in any order.
+fn shuffled_channel(rng: &mut Rng) -> Vec<u8> {
+    let n = rng.between(2, 7);
+    let channel = some_channel(rng, n);
+    let mut lines = channel.lines();
+    let links = channel.plan.links.len();
+    let words = lines.len() - channel.words.len();
+    rng.shuffle(&mut lines[1..=links]);
+    rng.shuffle(&mut lines[words..]);
+    join(&lines)
+}
+
+/// A byte, a line, the line ends or a field of a line.
+fn damage_any(rng: &mut Rng, mut lines: Vec<Vec<u8>>) -> Vec<u8> {
+    match rng.below(4) {
+        0 => {
+            let mut text = join(&lines);
+            change_byte(rng, &mut text);
+            return text;
+        }
+        1 => change_lines(rng, &mut lines),
+        2 => return change_text(rng, &lines),
+        _ => {
+            let at = rng.below(lines.len());
+            spoil_line(rng, &mut lines, at);
+        }
+    }
+    join(&lines)
 }
 
 /// A number of terminals that goes through `low` to `high` as the turns go on.

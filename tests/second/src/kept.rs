@@ -35,13 +35,15 @@ const WANTED: [Wanted; 8] = [
     (Kind::Verdict, 0, 300, true, 250),
 ];
 
-/// Whether no line is one that editions gave a meaning: kind 08, and longer starts and words.
+/// Whether no line is one that a later request gave a meaning. Editions did so with kind 08 and with
+/// longer starts and words, one radio for all with kind 09 and with shorter words.
 pub fn is_old(text: &[u8]) -> bool {
     let mut lines = text.split(|&byte| byte == 10);
     lines.all(|line| match line.get(..2) {
         Some(b"08") => false,
         Some(b"04") => ![10, 12].contains(&line.len()),
-        Some(b"05") => line.len() != 16,
+        Some(b"05") => ![10, 16].contains(&line.len()),
+        Some(b"09") => line.len() != 6,
         _ => true,
     })
 }
@@ -104,7 +106,8 @@ fn printed(program: &str, input: &[u8]) -> io::Result<Vec<u8>> {
     }
 }
 
-/// All kept files; an error where the text is not as it is written here.
+/// All kept files that are in the old frames still; an error where the text is not as it is written
+/// here.
 pub fn read(path: &Path) -> io::Result<Vec<Kept>> {
     let text = fs::read(path)?;
     let mut rest = &text[..];
@@ -113,6 +116,7 @@ pub fn read(path: &Path) -> io::Result<Vec<Kept>> {
         let kept = next_of(&mut rest);
         all.push(kept.ok_or_else(|| io::Error::other("no kept file"))?);
     }
+    all.retain(|kept| is_old(&kept.input));
     Ok(all)
 }
 

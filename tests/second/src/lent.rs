@@ -1,11 +1,12 @@
 //! The library's reader of run files, which is lent two lists.
 
 use crate::faults::Fault;
-use crate::generate::{case, Kind, SORTS, VALID_SORTS};
+use crate::generate::{case, shared_case, Kind, SHARED_SORTS, SORTS, VALID_SORTS};
 use crate::plan::Cause;
 use crate::reader::{read_run, Refusal, RunFile};
 use crate::rng::Rng;
 use crate::run::{later_of, words_of};
+use crate::shared::shared_words_of;
 
 /// Places in the list of words that the reader of run files is lent.
 pub const WORD_PLACES: usize = 16_000;
@@ -33,11 +34,33 @@ pub fn read_lent(
         let cause = Cause::Length;
         return Err(Refusal { cause, line: 0 });
     }
-    fill(words, &words_of(&file), fault);
+    fill(words, &listed(&file, fault), fault);
     if fault != Fault::LaterNotWritten {
         fill(later, &later_of(&file), fault);
     }
-    Ok(file)
+    match fault {
+        Fault::DefaultNotAnswered => Ok(RunFile {
+            default: None,
+            ..file
+        }),
+        _ => Ok(file),
+    }
+}
+
+/// The words in their places; other places or numbers under two faults about words without hearer.
+fn listed(file: &RunFile, fault: Fault) -> Vec<u32> {
+    let shared = file.default.is_some();
+    match fault {
+        Fault::SharedListedByHearer if shared => {
+            let n = file.plan.n as usize;
+            let one_of_n = |word: u32| [word].into_iter().chain(vec![0; n - 1]);
+            words_of(file).into_iter().flat_map(one_of_n).collect()
+        }
+        Fault::SharedListedAsLayouts if shared => {
+            shared_words_of(file).into_iter().map(u32::from).collect()
+        }
+        _ => words_of(file),
+    }
 }
 
 /// Zeros where nothing is said.
@@ -81,6 +104,19 @@ pub fn read_case(seed: u64, index: u64) -> ReadCase {
     let (words, later) = rooms(&mut rng);
     ReadCase {
         text: case(Kind::Run, seed, place),
+        words,
+        later,
+    }
+}
+
+/// Files about one radio for all, half of them right, with lists of the right length or not.
+pub fn shared_read_case(seed: u64, index: u64) -> ReadCase {
+    let mut rng = Rng::for_case(seed, 12, index);
+    let sorts = rng.pick(&[2, SHARED_SORTS]);
+    let place = (10_000 + index) * SHARED_SORTS + rng.below(sorts as usize) as u64;
+    let (words, later) = rooms(&mut rng);
+    ReadCase {
+        text: shared_case(Kind::Run, seed, place),
         words,
         later,
     }

@@ -6,14 +6,17 @@
 //! of the places that hold something. The programs `verdict` and `run` read new plans; `archive`
 //! and `rewrite` open those on file too, in which a terminal may be deaf. A plan bounds the bad by
 //! a number f, or by named groups that fail together. A notice is an edition and a layout; run files
-//! in the old frames have the layout alone and count as edition 1.
+//! in the old frames have the layout alone and count as edition 1. On a site with one radio for all a
+//! bad terminal says one thing to all its hearers, and the source may be bad too.
 
+pub mod channel;
 pub mod characters;
 pub mod compare;
 pub mod damage;
 pub mod draft;
 pub mod drawings;
 pub mod exhaust;
+pub mod exhaust_shared;
 pub mod faults;
 pub mod forms;
 pub mod frames;
@@ -31,11 +34,16 @@ pub mod plan;
 pub mod plans;
 pub mod planted;
 pub mod planted_notices;
+pub mod planted_shared;
 pub mod reader;
 pub mod record;
+pub mod record_shared;
 pub mod records;
 pub mod rng;
 pub mod run;
+pub mod shared;
+pub mod shared_calls;
+pub mod shared_files;
 pub mod sites;
 pub mod step;
 pub mod steps;

@@ -3,7 +3,7 @@
 use second::faults::Fault;
 use second::generate::Kind;
 use second::reader::LONGEST_FILE;
-use second::{compare, exhaust, faults, generate, kept, record};
+use second::{compare, exhaust, exhaust_shared, faults, generate, kept, record, record_shared};
 use std::io::{self, Read, Write};
 use std::path::Path;
 use std::process::ExitCode;
@@ -19,6 +19,7 @@ const USAGE: &str = "usage:
   second record CALLS LINES
   second boards SEED COUNT CALLS LINES
   second issues SEED COUNT CALLS LINES
+  second shared SEED COUNT CALLS LINES
   second keep PROGRAM_VERDICT PROGRAM_RUN FILE
   second kept PROGRAM_VERDICT PROGRAM_RUN FILE";
 
@@ -75,6 +76,12 @@ fn dispatch(words: &[&str]) -> Option<bool> {
             Path::new(calls),
             Path::new(lines),
         ))),
+        ["shared", seed, count, calls, lines] => Some(told(record_shared::write_shared_boards(
+            number(seed)?,
+            number(count)?,
+            Path::new(calls),
+            Path::new(lines),
+        ))),
         ["keep", verdict, run, file] => Some(told(kept::keep(&[verdict, run], Path::new(file)))),
         ["kept", verdict, run, file] => {
             let same = kept::compare(&[verdict, run], Path::new(file));
@@ -107,16 +114,22 @@ fn filter(text: fn(&[u8]) -> Vec<u8>) -> bool {
 }
 
 fn exhaust_all() -> bool {
-    match exhaust::exhaust(Fault::None) {
+    let each = exhausted("", exhaust::exhaust(Fault::None));
+    let shared = exhaust_shared::exhaust_shared(Fault::None);
+    exhausted("one radio for all: ", shared) && each
+}
+
+fn exhausted(what: &str, found: Result<exhaust::Totals, String>) -> bool {
+    match found {
         Ok(totals) => {
             println!(
-                "{} plans ({} failing), {} bad sets, {} runs, no violation",
+                "{what}{} plans ({} failing), {} bad sets, {} runs, no violation",
                 totals.plans, totals.failing, totals.bad_sets, totals.runs
             );
             true
         }
         Err(violation) => {
-            println!("violation: {violation}");
+            println!("{what}violation: {violation}");
             false
         }
     }

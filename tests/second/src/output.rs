@@ -134,10 +134,12 @@ pub fn run_answer(text: &[u8], fault: Fault) -> Result<Vec<u8>, Refusal> {
     let form = match fault {
         Fault::OldPrintedNew => Form::New,
         Fault::NewPrintedOld => Form::Old,
+        Fault::SharedPrintedNew if file.default.is_some() => Form::New,
         _ => file.form,
     };
     let lines = (0..).zip(&records).flat_map(|(number, record)| {
-        let bad = file.bad.contains(&number);
+        let source = number == file.plan.source && fault == Fault::BadSourceLineWaiting;
+        let bad = file.bad.contains(&number) && !source;
         terminal_line(number, bad, record, form)
     });
     Ok(lines.collect())

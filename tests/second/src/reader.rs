@@ -1,7 +1,7 @@
 //! Plan files and run files: from lines of hexadecimal digits to a plan or a run.
 
 use crate::faults::Fault;
-use crate::frames::{frame_bytes, length_fits};
+use crate::frames::{frame_bytes, length_fits, Known};
 use crate::groups::{group_allowed, Bound, MOST_GROUPS};
 use crate::notice::{notice, Form, Notice, OLD_EDITION};
 use crate::output::GROUPS_LISTED;
@@ -9,6 +9,7 @@ use crate::plan::{
     bound_holds, head_in_range, link_in_range, members_allowed, set_of, Cause, Plan, Set,
 };
 use crate::run::{last_round, rises};
+use crate::shared::set_cause;
 use std::collections::BTreeMap;
 
 pub const LONGEST_FILE: usize = 24_576;
@@ -20,7 +21,8 @@ pub struct Refusal {
     pub line: u16,
 }
 
-/// All that a run file says; later notices by round, words by (round, sender, hearer).
+/// All that a run file says; later notices by round, words by (round, sender, hearer), those without
+/// hearer by (round, sender).
 #[derive(Clone, Debug, PartialEq, Eq)]
 pub struct RunFile {
     pub plan: Plan,
@@ -30,6 +32,9 @@ pub struct RunFile {
     pub rounds: u32,
     pub later: BTreeMap<u32, Notice>,
     pub words: BTreeMap<(u32, u32, u32), Notice>,
+    /// The default layout, where one radio is for all.
+    pub default: Option<u16>,
+    pub shared_words: BTreeMap<(u32, u32), u16>,
 }
 
 /// A plan already on file, with the terminals in it that hear nobody.
@@ -72,7 +77,9 @@ impl Reader {
             7 => fault != Fault::GroupKindUnknown,
             8 if fault == Fault::NoticeUnknown => false,
             8 if fault == Fault::NoticeKnownInPlans => true,
-            3..=5 | 8 => self == Reader::Run,
+            9 if fault == Fault::DefaultUnknown => false,
+            9 if fault == Fault::DefaultKnownInPlans => true,
+            3..=5 | 8 | 9 => self == Reader::Run,
             _ => false,
         }
     }
@@ -100,6 +107,7 @@ enum Stage {
     Head,
     Links,
     Groups,
+    BadSet,
     Start,
     Notices,
     Words,
@@ -108,8 +116,7 @@ enum Stage {
 struct Reading {
     reader: Reader,
     stage: Stage,
-    /// Known by the start.
-    form: Option<Form>,
+    known: Known,
     file: RunFile,
 }
 
@@ -141,11 +148,13 @@ fn read(text: &[u8], reader: Reader, fault: Fault) -> Result<Reading, Refusal> {
         rounds: 0,
         later: BTreeMap::new(),
         words: BTreeMap::new(),
+        default: None,
+        shared_words: BTreeMap::new(),
     };
     let mut reading = Reading {
         reader,
         stage: Stage::Head,
-        form: None,
+        known: Known::default(),
         file,
     };
     let first = if fault == Fault::LinesFromZero { 0 } else { 1 };
@@ -190,7 +199,7 @@ impl Reading {
         };
         let kind = frame[0];
         let length = frame.len();
-        if !self.reader.knows(kind, fault) || !length_fits(kind, length, self.form, fault) {
+        if !self.reader.knows(kind, fault) || !length_fits(kind, length, self.known, fault) {
             if self.is_place(kind, fault) {
                 self.ends_early(Some(kind), Cause::Kind, fault)?;
             }
@@ -226,6 +235,7 @@ impl Reading {
             7 if self.file.plan.bound.has_groups() => true,
             7 => fault == Fault::GroupBesideNumberNoPlace,
             8 => fault == Fault::NoticeNoPlace,
+            9 => fault == Fault::DefaultNoPlace,
             _ => false,
         };
         matches!(self.stage, Stage::Links | Stage::Groups) && !in_plan
@@ -316,11 +326,23 @@ impl Reading {
                 self.stage = Stage::Start;
                 Ok(())
             }
-            (Stage::Links | Stage::Groups, 3) => self.take_bad_set(rest, fault),
+            (_, 9) => self.take_default(rest, fault),
+            (Stage::BadSet, 2) if fault == Fault::LinkAfterDefaultAccepted => {
+                self.take_link(rest, fault)
+            }
+            (Stage::BadSet, 7) if fault == Fault::GroupAfterDefaultAccepted => {
+                self.take_group(rest, fault)?;
+                self.stage = Stage::BadSet;
+                Ok(())
+            }
+            (Stage::Links | Stage::Groups | Stage::BadSet, 3) => self.take_bad_set(rest, fault),
             (Stage::Start, 4) => self.take_start(rest, fault),
             (Stage::Notices, 8) => self.take_notice(rest, fault),
             (Stage::Words, 8) if fault == Fault::NoticeAfterWordAccepted => {
                 self.take_notice(rest, fault)
+            }
+            (Stage::Notices | Stage::Words, 5) if self.known.shared || rest.len() == 4 => {
+                self.take_shared_word(rest, fault)
             }
             (Stage::Notices | Stage::Words, 5) => self.take_word(rest, fault),
             _ => Err(Cause::Order),
@@ -387,13 +409,37 @@ impl Reading {
         Ok(())
     }
 
+    /// The default layout ends links and groups, and sets the mode. Only the bad set may follow.
+    fn take_default(&mut self, rest: &[u32], fault: Fault) -> Result<(), Cause> {
+        let default = two_bytes(rest);
+        let in_order = match self.stage {
+            Stage::Links | Stage::Groups => true,
+            Stage::BadSet => fault == Fault::SecondDefaultAccepted,
+            Stage::Start => fault == Fault::DefaultAfterBadSetAccepted && !self.known.shared,
+            Stage::Notices => fault == Fault::DefaultAfterStartAccepted && !self.known.shared,
+            _ => false,
+        };
+        let zero = default == 0 && fault != Fault::DefaultZeroAccepted;
+        if zero && fault == Fault::DefaultZeroBeforeOrder {
+            return Err(Cause::Start);
+        }
+        lowest(&[(zero, Cause::Start), (!in_order, Cause::Order)])?;
+        self.file.default = Some(default);
+        self.known.shared = true;
+        if matches!(self.stage, Stage::Links | Stage::Groups) {
+            self.stage = Stage::BadSet;
+        }
+        Ok(())
+    }
+
     fn take_bad_set(&mut self, rest: &[u32], fault: Fault) -> Result<(), Cause> {
         let plan = &self.file.plan;
         let bad = named_set(rest);
-        if !members_allowed(plan, &bad, fault) {
+        if self.known.shared {
+            set_cause(plan, &bad, fault)?;
+        } else if !members_allowed(plan, &bad, fault) {
             return Err(Cause::BadSetMember);
-        }
-        if !bound_holds(plan, &bad, fault) {
+        } else if !bound_holds(plan, &bad, fault) {
             return Err(Cause::BadSetBound);
         }
         self.file.bad = bad;
@@ -410,7 +456,7 @@ impl Reading {
         let no_edition = start.edition == 0 && fault != Fault::EditionZeroStartAccepted;
         let wrong = start.layout == 0 || rounds > last_round(fault);
         first_of_start(wrong, no_edition, fault)?;
-        self.form = Some(form);
+        self.known.form = Some(form);
         self.file.form = form;
         self.file.start = start;
         self.file.rounds = rounds;
@@ -441,7 +487,7 @@ impl Reading {
             Fault::EditionBeforeOrder if stays => return Err(Cause::Edition),
             _ => {}
         }
-        let old = self.form == Some(Form::Old) && fault == Fault::NoticeInOldRunOrder;
+        let old = self.known.form == Some(Form::Old) && fault == Fault::NoticeInOldRunOrder;
         lowest(&[(past || !rising || old, Cause::Order)])?;
         first_of_start(later.layout == 0, stays, fault)?;
         file.later.insert(round, later);
@@ -476,6 +522,43 @@ impl Reading {
             (nothing, Cause::Word),
         ])?;
         file.words.insert((round, from, to), said);
+        self.stage = Stage::Words;
+        Ok(())
+    }
+
+    /// A word that all hearers of its sender hear; it matters not whether there are any.
+    fn take_shared_word(&mut self, rest: &[u32], fault: Fault) -> Result<(), Cause> {
+        let (round, from) = (rest[0], rest[1]);
+        let layout = two_bytes(&rest[rest.len() - 2..]);
+        let file = &mut self.file;
+        let source = from == file.plan.source && fault == Fault::BadSourceMayNotSpeak;
+        let unheard = file.plan.links.iter().all(|link| link.0 != from);
+        let good = match fault {
+            Fault::SharedGoodSenderAccepted => from >= file.plan.n,
+            Fault::SharedSenderOutsideAccepted => from < file.plan.n && !file.bad.contains(&from),
+            _ => !file.bad.contains(&from),
+        };
+        let twice = match fault {
+            Fault::SharedTwiceAccepted => false,
+            Fault::SharedTwiceInAnyRound => file.shared_words.keys().any(|key| key.1 == from),
+            Fault::SharedTwiceByAnySender => file.shared_words.keys().any(|key| key.0 == round),
+            _ => file.shared_words.contains_key(&(round, from)),
+        };
+        let past = round > file.rounds && fault != Fault::SharedPastLastAccepted;
+        if twice && fault == Fault::SharedTwiceBeforeWord {
+            return Err(Cause::WordTwice);
+        }
+        lowest(&[
+            (twice, Cause::WordTwice),
+            (round == 0 || past, Cause::Word),
+            (good || source, Cause::Word),
+            (unheard && fault == Fault::UnheardSenderRefused, Cause::Word),
+            (
+                layout == 0 && fault != Fault::SharedZeroAccepted,
+                Cause::Word,
+            ),
+        ])?;
+        file.shared_words.insert((round, from), layout);
         self.stage = Stage::Words;
         Ok(())
     }

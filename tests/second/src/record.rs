@@ -15,8 +15,14 @@
 //! the rounds, how many later notices follow (2), these, and the words; `l` has the five records
 //! before the words. `i` has a record and a notice. `f` has the room of the list of later notices
 //! (1) and the file; its answer is number, line (2), the plan, the fault set (4), the form (0 old, 1
-//! new), the start, the rounds, how many places of the words hold the mark (4), those words that are
-//! neither 0 nor the mark (place 2, word 4), and the same of the later notices.
+//! new), the default layout (2; 0 where there is none), the start, the rounds, how many places of the
+//! words hold the mark (4), those words that are neither 0 nor the mark (place 2, word 4), and the same
+//! of the later notices.
+//!
+//! Where one radio is for all (src/record_shared.rs), layouts (2 each) are said: `S` has what `s` has,
+//! with the default (2) before what was said, and that in layouts. `N` has a plan, a fault set (4), the
+//! start's layout, the default, the rounds and the words, one a sender and round; `L` has the five
+//! records before the words. `C` has what `c` has. Their answers are those of `s`, `n`, `l` and `c`.
 
 use crate::characters;
 use crate::damage::plant;
@@ -37,9 +43,14 @@ use crate::place::{placed, THERE};
 use crate::plan::{number_of, set_of, write_plan, Cause, Plan, Set};
 use crate::plans::{deaf_plan, deep_plan, mend, strong_plan, thin_plan, weak_plan};
 use crate::reader::{read_archive, read_run, Refusal, RunFile};
+use crate::record_shared::{
+    channel_call, channel_read_call, flooded_call, shared_file_call, shared_file_read_call,
+    shared_lent_call, shared_set_call, shared_site_call, shared_step_call, small_shared_call,
+};
 use crate::records::{break_groups, some_bad_set, some_plan, some_sets, WAYS};
 use crate::rng::Rng;
 use crate::run::{issue, run};
+use crate::shared_files::WAYS as SHARED_WAYS;
 use crate::sites::{noisy_site, wrong_lists, Site};
 use crate::step::{step, Record, Row, State, PLACES, ROWS};
 use crate::steps::{step_case, StepCase};
@@ -90,7 +101,7 @@ pub fn write(calls_file: &Path, lines_file: &Path) -> io::Result<()> {
 type Maker = fn(u64, u64) -> Call;
 
 /// Every kind of call, and how many of it.
-const KINDS: [(Maker, u64); 30] = [
+const KINDS: [(Maker, u64); 40] = [
     (verdict_call, 600),
     (run_call, 600),
     (edge_call, 150),
@@ -121,6 +132,16 @@ const KINDS: [(Maker, u64); 30] = [
     (overtaken_call, 40),
     (wrong_lists_call, 120),
     (issue_call, 400),
+    (shared_step_call, 500),
+    (shared_site_call, 150),
+    (small_shared_call, 100),
+    (flooded_call, 8),
+    (shared_lent_call, 100),
+    (shared_set_call, 150),
+    (channel_call, 162),
+    (shared_file_call, 2 * SHARED_WAYS.len() as u64),
+    (channel_read_call, 82),
+    (shared_file_read_call, SHARED_WAYS.len() as u64),
 ];
 
 /// The calls of each kind. Of the long ones a few are enough.
@@ -143,20 +164,20 @@ pub fn calls(seed: u64) -> Vec<Call> {
     calls
 }
 
-fn pair(value: u16) -> [u8; 2] {
+pub(crate) fn pair(value: u16) -> [u8; 2] {
     value.to_be_bytes()
 }
 
-fn quad(set: &Set) -> [u8; 4] {
+pub(crate) fn quad(set: &Set) -> [u8; 4] {
     number_of(set).to_be_bytes()
 }
 
-fn number(answer: Result<(), Cause>) -> u8 {
+pub(crate) fn number(answer: Result<(), Cause>) -> u8 {
     answer.map_or_else(Cause::number, |()| 0)
 }
 
 /// A generator for a kind of call that the cases of files do not use.
-fn rng_for(seed: u64, kind: u8, index: u64) -> Rng {
+pub(crate) fn rng_for(seed: u64, kind: u8, index: u64) -> Rng {
     Rng::for_case(seed, 100 + u64::from(kind), index)
 }
 
@@ -204,7 +225,7 @@ fn room_for(rng: &mut Rng, text: usize, most: usize) -> usize {
 
 /// A program's text function: the letter of its calls, and what it answers.
 #[derive(Clone, Copy)]
-struct Text {
+pub(crate) struct Text {
     letter: u8,
     answer: fn(&[u8], Fault) -> Result<Vec<u8>, Refusal>,
 }
@@ -213,7 +234,7 @@ const VERDICT: Text = Text {
     letter: b'v',
     answer: verdict_answer,
 };
-const RUN: Text = Text {
+pub(crate) const RUN: Text = Text {
     letter: b'r',
     answer: run_answer,
 };
@@ -244,7 +265,7 @@ fn roomed_call(text: Text, file: Vec<u8>, seed: u64, index: u64) -> Call {
 }
 
 /// The same with room for the whole answer.
-fn whole_call(text: Text, file: Vec<u8>) -> Call {
+pub(crate) fn whole_call(text: Text, file: Vec<u8>) -> Call {
     text_call(text, file, |length| length)
 }
 
@@ -465,7 +486,7 @@ fn read_call(seed: u64, index: u64) -> Call {
 }
 
 /// A file for the reader, and two lists of so many places.
-fn read_of(call: ReadCase) -> Call {
+pub(crate) fn read_of(call: ReadCase) -> Call {
     let (answer, words, later) = read_answer(&call, Fault::None);
     let mut line = match answer {
         Ok(file) => accepted_file(&file),
@@ -483,7 +504,7 @@ fn read_of(call: ReadCase) -> Call {
 
 /// Number and line, and zeros for all that is read.
 fn refused_file(refusal: Refusal) -> Vec<u8> {
-    let zeros = [0; 4 + 1 + 4 + 1];
+    let zeros = [0; 4 + 1 + 2 + 4 + 1];
     let line = pair(refusal.line);
     [&[refusal.cause.number()], &line[..], &NO_PLAN, &zeros].concat()
 }
@@ -493,6 +514,7 @@ fn accepted_file(file: &RunFile) -> Vec<u8> {
     line.extend(answered_plan(&file.plan));
     line.extend(quad(&file.bad));
     line.push(u8::from(file.form == Form::New));
+    line.extend(pair(file.default.unwrap_or(0)));
     line.extend(file.start.number().to_be_bytes());
     line.push(file.rounds as u8);
     line
@@ -537,7 +559,7 @@ fn answered_plan(plan: &Plan) -> Vec<u8> {
     .concat()
 }
 
-fn answered_head(n: u32, source: u32, bound: &Bound) -> Vec<u8> {
+pub(crate) fn answered_head(n: u32, source: u32, bound: &Bound) -> Vec<u8> {
     [
         &pair(n as u16)[..],
         &pair(source as u16),
@@ -549,7 +571,7 @@ fn answered_head(n: u32, source: u32, bound: &Bound) -> Vec<u8> {
 }
 
 /// n, source and a bound in a call.
-fn head_bytes(n: u32, source: u32, bound: &Bound) -> Vec<u8> {
+pub(crate) fn head_bytes(n: u32, source: u32, bound: &Bound) -> Vec<u8> {
     let numbers = [
         n as u8,
         source as u8,
@@ -560,7 +582,7 @@ fn head_bytes(n: u32, source: u32, bound: &Bound) -> Vec<u8> {
 }
 
 /// A plan in a call.
-fn plan_bytes(plan: &Plan) -> Vec<u8> {
+pub(crate) fn plan_bytes(plan: &Plan) -> Vec<u8> {
     let head = head_bytes(plan.n, plan.source, &plan.bound);
     [head, row_bytes(plan)].concat()
 }
@@ -619,7 +641,7 @@ fn fault_set(plan: &Plan, bad: &Set) -> Call {
 
 // ---- the step
 
-fn record_bytes(record: &Record) -> Vec<u8> {
+pub(crate) fn record_bytes(record: &Record) -> Vec<u8> {
     let (state, round, held) = match record.state {
         State::Waiting => (0, 0, Notice::default()),
         State::Taken(round, held) => (1, round as u8, held),
@@ -663,7 +685,7 @@ fn step_call(seed: u64, index: u64) -> Call {
 }
 
 /// A number, and the record beside it.
-fn answered_record(answer: Result<Record, (Cause, Record)>) -> Vec<u8> {
+pub(crate) fn answered_record(answer: Result<Record, (Cause, Record)>) -> Vec<u8> {
     let (number, after) = match answer {
         Ok(after) => (0, after),
         Err((cause, after)) => (cause.number(), after),
@@ -791,10 +813,10 @@ fn flood_site_call(seed: u64, index: u64) -> Call {
 // ---- the run over lent records
 
 /// Records that `replay` lends: one too many for four terminals, one too few for six.
-const LENT_RECORDS: usize = 5;
+pub(crate) const LENT_RECORDS: usize = 5;
 
 /// A record that no run has left.
-fn noise(rng: &mut Rng) -> Record {
+pub(crate) fn noise(rng: &mut Rng) -> Record {
     let state = match rng.below(3) {
         0 => State::Waiting,
         _ => {
@@ -864,7 +886,7 @@ pub fn write_issues(seed: u64, count: u64, calls: &Path, lines: &Path) -> io::Re
     write_lines(all, calls, lines)
 }
 
-fn write_lines(
+pub(crate) fn write_lines(
     all: impl Iterator<Item = (Vec<u8>, Vec<u8>)>,
     calls: &Path,
     lines: &Path,
@@ -882,7 +904,7 @@ fn write_lines(
 
 /// Bytes of a record, one in five of which has bytes that are no state, and the record that they stand
 /// for: such bytes are a wrong record, and that is looked at in the same place.
-fn board_record(rng: &mut Rng, record: Record) -> (Vec<u8>, Record) {
+pub(crate) fn board_record(rng: &mut Rng, record: Record) -> (Vec<u8>, Record) {
     let mut bytes = record_bytes(&record);
     if !rng.chance(20) {
         return (bytes, record);
@@ -896,7 +918,7 @@ fn board_record(rng: &mut Rng, record: Record) -> (Vec<u8>, Record) {
 }
 
 /// A refused record's bytes come back as they are, whatever they are.
-fn board_line(answer: Result<Record, (Cause, Record)>, before: &[u8]) -> Vec<u8> {
+pub(crate) fn board_line(answer: Result<Record, (Cause, Record)>, before: &[u8]) -> Vec<u8> {
     match answer {
         Ok(after) => [&[0], &record_bytes(&after)[..]].concat(),
         Err((cause, _)) => [&[cause.number()], before].concat(),

@@ -1,9 +1,10 @@
 //! The run of a site against scripted liars.
 
 use crate::faults::Fault;
-use crate::notice::Notice;
+use crate::notice::{notice, Notice, OLD_EDITION};
 use crate::plan::{Cause, Plan, Set};
 use crate::reader::RunFile;
+use crate::shared::{run_shared_file, shared_words_of};
 use crate::step::{step, Place, Record, State};
 use crate::verdict::fault_cause;
 use std::collections::BTreeMap;
@@ -269,8 +270,16 @@ fn word(order: &Order, round: u32, sender: u32, hearer: u32) -> u32 {
     order.words.get(place as usize).copied().unwrap_or(0)
 }
 
-/// The words of a run file as the list that a run is lent.
+/// The words of a run file as the list that a run is lent. Where one radio is for all there is one of
+/// each sender a round, in edition 1.
 pub fn words_of(file: &RunFile) -> Vec<u32> {
+    if file.default.is_some() {
+        let number = |layout: u16| notice(OLD_EDITION, layout).number();
+        let words = shared_words_of(file).into_iter();
+        return words
+            .map(|layout| number(layout) * u32::from(layout > 0))
+            .collect();
+    }
     let n = file.plan.n;
     let mut words = vec![0; (file.rounds * n * n) as usize];
     for (&(round, from, to), said) in &file.words {
@@ -288,6 +297,9 @@ pub fn later_of(file: &RunFile) -> Vec<u32> {
 
 /// Plays a run file: the words become a list, the records are made here.
 pub fn run_file(file: &RunFile, fault: Fault) -> Result<Vec<Record>, Cause> {
+    if let Some(default) = file.default {
+        return run_shared_file(file, default, fault);
+    }
     let mut records = vec![Record::waiting(); file.plan.n as usize];
     let order = Order {
         plan: &file.plan,

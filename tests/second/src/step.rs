@@ -2,7 +2,7 @@
 
 use crate::faults::Fault;
 use crate::groups::{Bound, Rule};
-use crate::notice::{notice, Notice};
+use crate::notice::{notice, Notice, OLD_EDITION};
 use crate::plan::{head_in_range, Cause, Set};
 use crate::run::last_round;
 use std::collections::{BTreeMap, BTreeSet};
@@ -145,29 +145,150 @@ pub fn step(
     said: &[u32],
     fault: Fault,
 ) -> Result<Record, (Cause, Record)> {
-    if let Err(cause) = check(place, &record, said, fault) {
+    if let Err(cause) = check(place, &record, said.len(), None, fault) {
         return Err((cause, record));
     }
     let mut after = record;
     after.round += 1;
-    let source = place.number == place.source;
-    let deaf = match fault {
-        Fault::TakenNotesNothing => after.state != State::Waiting,
-        Fault::SourceNotesNothing => source,
-        _ => false,
-    };
-    if !deaf {
-        note(place, &mut after, said, fault);
+    hear(place, &mut after, said, fault);
+    decide(place, &mut after, fault);
+    Ok(after)
+}
+
+/// One round of one terminal where one radio is for all and the source is not trusted. What is said
+/// are layouts.
+pub fn shared_step(
+    place: &Place,
+    record: Record,
+    default: u16,
+    said: &[u16],
+    fault: Fault,
+) -> Result<Record, (Cause, Record)> {
+    if let Err(cause) = check(place, &record, said.len(), Some(default), fault) {
+        return Err((cause, record));
     }
-    // What the source holds is the office's to say.
-    if !source || fault == Fault::SourceTakes {
-        take(place, &mut after, fault);
+    let first = is_first(place, &record, fault);
+    let words: Vec<u32> = said
+        .iter()
+        .map(|&layout| first_edition(layout, fault))
+        .collect();
+    let word = said[place.source as usize];
+    let mut after = record;
+    after.round += 1;
+    if !first || fault != Fault::FirstRoundNotNoted {
+        hear(place, &mut after, &words, fault);
+    }
+    match first.then(|| carried(place, &after, default, word, fault)) {
+        Some(Some(layout)) => {
+            let round = after.round - u32::from(fault == Fault::CarriedInRoundZero);
+            let held = Notice::of(first_edition(layout, fault));
+            after.state = State::Taken(round, held);
+            if layout != word && fault == Fault::DefaultNoted {
+                note_word(after.row_mut(place.source), held, fault);
+            }
+        }
+        Some(None) => {}
+        None => decide_later(place, &mut after, default, word, fault),
     }
     Ok(after)
 }
 
-/// Causes 4, 5, 17, 13 and 12, in this order.
-fn check(place: &Place, record: &Record, said: &[u32], fault: Fault) -> Result<(), Cause> {
+/// Whether this is round 1 of a waiting terminal that hears the source.
+fn is_first(place: &Place, record: &Record, fault: Fault) -> bool {
+    let round = record.round == 0
+        || fault == Fault::SourceWordInAnyRound
+        || (fault == Fault::DefaultInSecondRound && record.round == 1);
+    let waits = record.state == State::Waiting || fault == Fault::TakenTakesCarried;
+    let hears = place.heard.contains(&place.source) || fault == Fault::CarriedToAll;
+    round && waits && hears && place.number != place.source
+}
+
+/// What a terminal that hears the source takes in round 1: the source's word, or the default.
+fn carried(place: &Place, after: &Record, default: u16, word: u16, fault: Fault) -> Option<u16> {
+    let voted = voted_in(place, after, OLD_EDITION, fault);
+    let noted = after.row(place.source).noted();
+    match fault {
+        Fault::DefaultWhereSourceSpoke => Some(default),
+        Fault::DefaultNeverTaken => (word > 0).then_some(word),
+        Fault::VotesBeforeDefault if word == 0 => Some(voted.unwrap_or(default)),
+        Fault::VotesBeforeSourceWord => voted.or(Some(if word > 0 { word } else { default })),
+        Fault::SmallerOfDefault if word > 0 => Some(word.min(default)),
+        Fault::NotedWordOfSource => Some(noted.first().copied().unwrap_or(default)),
+        _ if word > 0 => Some(word),
+        _ => Some(default),
+    }
+}
+
+/// Every other record goes by the old rules.
+fn decide_later(place: &Place, after: &mut Record, default: u16, word: u16, fault: Fault) {
+    let waits = after.state == State::Waiting && place.number != place.source;
+    let hears = place.heard.contains(&place.source);
+    let late = match fault {
+        Fault::DefaultToAll => waits && after.round == 1,
+        Fault::DefaultInLaterRound => waits && hears && after.row(place.source).count == 0,
+        _ => false,
+    };
+    let barred = match fault {
+        Fault::LaterNeverTaken => waits && after.round > 1 && hears,
+        Fault::UnheardNeverTake => waits && after.round == 1 && !hears,
+        _ => false,
+    };
+    if fault == Fault::SourceWordToAll && waits && after.round == 1 && word > 0 {
+        after.state = State::Taken(after.round, notice(OLD_EDITION, word));
+    } else if !barred {
+        decide(place, after, fault);
+    }
+    if late && after.state == State::Waiting {
+        after.state = State::Taken(after.round, notice(OLD_EDITION, default));
+    }
+}
+
+/// A layout counts as edition 1; 0 is silence.
+fn first_edition(layout: u16, fault: Fault) -> u32 {
+    let edition = match fault {
+        Fault::SharedCountsAsTwo => 2,
+        _ => OLD_EDITION,
+    };
+    match layout {
+        0 => 0,
+        _ => notice(edition, layout).number(),
+    }
+}
+
+/// Notes what was said in this round.
+fn hear(place: &Place, after: &mut Record, said: &[u32], fault: Fault) {
+    let deaf = match fault {
+        Fault::TakenNotesNothing => after.state != State::Waiting,
+        Fault::SourceNotesNothing => place.number == place.source,
+        _ => false,
+    };
+    if !deaf {
+        note(place, after, said, fault);
+    }
+}
+
+/// Takes by what was noted. What the source holds is the office's to say.
+fn decide(place: &Place, after: &mut Record, fault: Fault) {
+    if place.number != place.source || fault == Fault::SourceTakes {
+        take(place, after, fault);
+    }
+}
+
+/// Causes 4, 5, 17, 9 of the default where there is one, 13 and 12, in this order.
+fn check(
+    place: &Place,
+    record: &Record,
+    said: usize,
+    default: Option<u16>,
+    fault: Fault,
+) -> Result<(), Cause> {
+    let no_default = match default {
+        Some(0) if fault != Fault::StepDefaultZeroAccepted => Err(Cause::Start),
+        _ => Ok(()),
+    };
+    if fault == Fault::DefaultBeforeHead {
+        no_default?;
+    }
     let too_many = too_many_values(place, record, fault);
     if too_many && fault == Fault::CountsFirst {
         return Err(Cause::Record);
@@ -183,8 +304,14 @@ fn check(place: &Place, record: &Record, said: &[u32], fault: Fault) -> Result<(
     if place.heard.iter().any(wrong_end) {
         return Err(Cause::LinkEnd);
     }
+    if fault == Fault::DefaultBeforeGroups {
+        no_default?;
+    }
     if fault != Fault::GroupsAfterRecord {
         groups?;
+    }
+    if fault != Fault::DefaultAfterRecord && fault != Fault::DefaultAfterLength {
+        no_default?;
     }
     let odd_state = match record.state {
         State::Waiting => place.number == place.source,
@@ -193,15 +320,18 @@ fn check(place: &Place, record: &Record, said: &[u32], fault: Fault) -> Result<(
     if record.round >= last_round(fault) || place.number >= place.n || odd_state {
         return Err(Cause::Record);
     }
-    let wrong_length = said.len() != place.n as usize;
+    let wrong_length = said != place.n as usize;
     if too_many && !(wrong_length && fault == Fault::LengthBeforeCounts) {
         return Err(Cause::Record);
     }
     groups?;
+    if fault != Fault::DefaultAfterLength {
+        no_default?;
+    }
     if wrong_length {
         return Err(Cause::Length);
     }
-    Ok(())
+    no_default
 }
 
 /// Whether nobody can have taken this.

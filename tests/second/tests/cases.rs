@@ -359,7 +359,7 @@ fn recorded_calls_reach_every_answer() {
         let of_kind = calls.iter().filter(|call| call.kind == kind);
         of_kind.map(|call| call.line[0]).collect()
     };
-    let expected: [(u8, &[u8]); 12] = [
+    let expected: [(u8, &[u8]); 16] = [
         (b'v', &[0, 1, 2, 3, 4, 5, 6, 12, 15, 17]),
         (b'a', &[0, 1, 2, 3, 4, 5, 6, 12, 17]),
         (b'd', &[0, 1, 2, 3, 4, 5, 6, 17]),
@@ -378,6 +378,10 @@ fn recorded_calls_reach_every_answer() {
         (b'n', &[0, 4, 5, 7, 8, 9, 12, 16, 17]),
         (b'l', &[0, 4, 5, 7, 8, 9, 12, 16, 17]),
         (b'i', &[0, 9, 13, 16]),
+        (b'S', &[0, 4, 5, 9, 12, 13, 17]),
+        (b'C', &[0, 4, 5, 7, 8, 17]),
+        (b'N', &[0, 4, 5, 7, 8, 9, 12, 17]),
+        (b'L', &[0, 4, 5, 7, 8, 9, 12, 17]),
     ];
     for (kind, answers) in expected {
         let answers: BTreeSet<u8> = answers.iter().copied().collect();

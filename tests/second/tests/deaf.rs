@@ -5,7 +5,7 @@ mod common;
 
 use common::{archive_bytes, file, first, refused, run_bytes, verdict_bytes};
 use second::faults::{Fault, Sound};
-use second::generate::{case, Kind, SORTS, VALID_SORTS};
+use second::generate::{case, shared_case, Kind, SORTS, VALID_SORTS};
 use second::groups::Bound;
 use second::output::{plan_text, rewritten_text, verdict_line};
 use second::plan::{set_of, write_plan, Cause, Plan, Set};
@@ -148,7 +148,10 @@ fn lines_that_fail_2_come_first() {
         "080100020007ff",
         "0801",
         "05",
-        "0501010009",
+        "05010100",
+        "09",
+        "0900",
+        "09000700",
         "05010100000900",
     ];
     for line in wrong {
@@ -410,7 +413,9 @@ fn line_name(plan: &Plan, line: &[u8]) -> Option<&'static str> {
             }
         }
         [4, _, _] | [4, _, _, _] | [4, _, _, _, _] | [4, _, _, _, _, _] => "start",
-        [5, _, _, _, _, _] | [5, _, _, _, _, _, _, _] => "word",
+        [5, _, _, _, _] | [5, _, _, _, _, _] | [5, _, _, _, _, _, _, _] => "word",
+        [9, 0, 0] => "default, 9",
+        [9, _, _] => "default",
         [8, _, _, _, _, _] => "notice",
         [7, _, _, _] if !plan.bound.has_groups() => "group",
         [7, high, middle, low] => {
@@ -422,7 +427,7 @@ fn line_name(plan: &Plan, line: &[u8]) -> Option<&'static str> {
             return None;
         }
         [7, ..] => "group, 2",
-        [1 | 3 | 4 | 5 | 8, ..] => "length",
+        [1 | 3 | 4 | 5 | 8 | 9, ..] => "length",
         _ => "kind",
     };
     Some(name)
@@ -488,9 +493,11 @@ fn by_the_text(seen: &Seen, program: u8) -> Option<(u8, u16)> {
         "bad set" | "bad set, 7" | "bad set, 8" | "start" | "word" | "notice" if !run => {
             return Some((2, seen.line))
         }
+        "default" | "default, 9" if !run => return Some((2, seen.line)),
         "end" if run => Some((3, 0)),
         "end" => Some((0, 0)),
-        "bad set" => None,
+        "bad set" | "default" => None,
+        "default, 9" => Some((9, seen.line)),
         "bad set, 7" => Some((7, seen.line)),
         "bad set, 8" => Some((8, seen.line)),
         _ => Some((3, seen.line)),
@@ -514,7 +521,8 @@ fn the_place_decides() {
     for index in 0..200 * SORTS {
         let plan_file = case(Kind::Verdict, 3, index);
         let run_file = case(Kind::Run, 3, index);
-        for text in [plan_file, run_file] {
+        let shared_file = shared_case(Kind::Run, 3, index);
+        for text in [plan_file, run_file, shared_file] {
             let Some(seen) = seen(&text) else { continue };
             let answers = [
                 (b'v', refusal_of(read_plan(&text, Fault::None))),

@@ -457,10 +457,11 @@ fn recorded_reads_are_read_back() {
         line.skip(2 + 2 + 2 + 1 + 2);
         let places = usize::from(line.byte());
         line.skip(4 * places + 80 + 4);
-        let read = (line.byte(), line.quad(), line.byte());
-        let expected = answer.map_or((0, 0, 0), |file| {
+        let read = (line.byte(), line.pair(), line.quad(), line.byte());
+        let expected = answer.map_or((0, 0, 0, 0), |file| {
             let form = u8::from(file.form == Form::New);
-            (form, file.start.number(), file.rounds as u8)
+            let default = file.default.unwrap_or(0);
+            (form, default, file.start.number(), file.rounds as u8)
         });
         assert_eq!(read, expected);
         for list in [words, later] {

@@ -6,9 +6,12 @@ use common::bytes::Bytes;
 use second::faults::Fault;
 use second::groups::{Bound, Sort};
 use second::notice::Notice;
-use second::plan::{set_of, Set};
+use second::output::run_text;
+use second::plan::{set_of, Cause, Set};
 use second::record::{self, Call, LONGEST_BODY, LONGEST_LINE};
-use second::step::{step, Place, Record, Row, State};
+use second::shared::{shared_fault_cause, shared_run};
+use second::shared_calls::{shared_site_case, shared_step_case, SharedSite, SharedStep};
+use second::step::{shared_step, step, Place, Record, Row, State};
 use second::steps::{step_case, StepCase};
 use std::collections::{BTreeMap, BTreeSet};
 
@@ -96,7 +99,7 @@ fn nothing_is_longer_than_replay_reads_and_prints() {
     assert!(body.expect("a call") <= LONGEST_BODY && line.expect("a call") <= LONGEST_LINE);
     let input: usize = calls.iter().map(|call| 5 + call.body.len()).sum();
     let output: usize = calls.iter().map(|call| 2 * call.line.len() + 1).sum();
-    assert!(input < 2_600_000 && output < 2_400_000, "{input}, {output}");
+    assert!(input < 2_800_000 && output < 3_000_000, "{input}, {output}");
 }
 
 // ---- wrong groups in a record
@@ -451,5 +454,457 @@ fn needed_steps_are_there() {
             let count = seen.get(name).copied().unwrap_or(0);
             assert!(count >= 4, "{name}: {count}");
         }
+    }
+}
+
+// ---- one radio for all
+
+/// The calls in the mode: what a step is given.
+fn shared_step_of(call: &Call) -> SharedStep {
+    let mut body = Bytes(&call.body);
+    let [n, source] = [(); 2].map(|()| u32::from(body.byte()));
+    let bound = body.bound();
+    let number = u32::from(body.byte());
+    let heard = set_of(body.quad());
+    let record = body.record();
+    let default = body.pair();
+    let said: Vec<u16> = (0..call.lent).map(|_| body.pair()).collect();
+    assert!(body.0.is_empty() && said.len() <= 64);
+    let place = Place {
+        n,
+        source,
+        bound,
+        number,
+        heard,
+    };
+    SharedStep {
+        place,
+        record,
+        default,
+        said,
+    }
+}
+
+fn shared_answer(case: &SharedStep) -> (u8, Record) {
+    let record = case.record.clone();
+    match shared_step(&case.place, record, case.default, &case.said, Fault::None) {
+        Ok(after) => (0, after),
+        Err((cause, after)) => (cause.number(), after),
+    }
+}
+
+#[test]
+fn shared_steps_are_read_back() {
+    let calls = calls_of(b'S');
+    assert!(calls.len() > 450, "{}", calls.len());
+    for call in &calls {
+        let mut line = Bytes(&call.line);
+        let answer = shared_answer(&shared_step_of(call));
+        assert_eq!((line.byte(), line.record()), answer);
+        assert!(line.0.is_empty());
+    }
+}
+
+/// What an accepted step of the mode is about.
+fn marks_of_shared(case: &SharedStep, after: &Record) -> Vec<&'static str> {
+    let (place, before) = (&case.place, &case.record);
+    let word = case.said[place.source as usize];
+    let hears = place.heard.contains(&place.source);
+    let waits = before.state == State::Waiting;
+    let first = before.round == 0 && waits && hears;
+    let numbers: Vec<u32> = case
+        .said
+        .iter()
+        .map(|&layout| u32::from(layout) + 65_536 * u32::from(layout > 0))
+        .collect();
+    let old = step(place, before.clone(), &numbers, Fault::None).expect("accepted");
+    let others = votes(place, after, 1);
+    let agree = others.iter().any(|(&layout, who)| {
+        let enough = match place.bound.sort {
+            Sort::Number => who.len() as u32 > place.bound.number,
+            Sort::Groups => !place.bound.listed().iter().any(|g| who.is_subset(g)),
+        };
+        enough && layout != word && layout != case.default
+    });
+    let row = before.row(place.source);
+    let later = before.round > 0 && waits && hears;
+    named(&[
+        ("the word", first && word > 0),
+        ("the default", first && word == 0),
+        ("the word, others agree", first && word > 0 && agree),
+        ("the default, others agree", first && word == 0 && agree),
+        ("the word, hidden", first && word > 0 && row.edition > 1),
+        ("the default, noise", first && word == 0 && row.at(0) > 0),
+        (
+            "not heard, said",
+            before.round == 0 && waits && !hears && word > 0 && after.state == State::Waiting,
+        ),
+        (
+            "not heard, votes",
+            before.round == 0 && waits && !hears && after.state != State::Waiting,
+        ),
+        ("the source", place.number == place.source),
+        (
+            "taken in round 0",
+            before.round == 0 && !waits && hears && place.number != place.source,
+        ),
+        (
+            "later, nothing",
+            later && after.row(place.source).count == 0 && after.state == State::Waiting,
+        ),
+        (
+            "later, direct",
+            later && row.count > 0 && row.at(0) > 0 && row.at(0) != word && word > 0,
+        ),
+        ("later, takes", later && after.state != State::Waiting),
+        ("otherwise than the old step", *after != old),
+        ("as the old step", *after == old),
+        ("with groups", first && place.bound.has_groups()),
+    ])
+}
+
+/// A refused one: with a default and without, and what it would get for the other reasons.
+fn marks_of_shared_refused(case: &SharedStep, number: u8) -> Vec<&'static str> {
+    let with_default = SharedStep {
+        default: 1,
+        ..case.clone()
+    };
+    let short = case.said.len() != case.place.n as usize;
+    let other = shared_answer(&with_default).0;
+    let mark = match (number, case.default, other) {
+        (9, 0, 0) => "9",
+        (9, 0, 13) if short => "9, beside 13 and 12",
+        (9, 0, 13) => "9, beside 13",
+        (9, 0, 12) => "9, beside 12",
+        (4, 0, _) => "4, beside 9",
+        (5, 0, _) => "5, beside 9",
+        (17, 0, _) => "17, beside 9",
+        (13, _, _) if short => "13, beside 12",
+        (13, _, _) => "13",
+        (12, _, _) => "12",
+        _ => return Vec::new(),
+    };
+    vec![mark]
+}
+
+const NEEDED_SHARED: [&str; 26] = [
+    "the word",
+    "the default",
+    "the word, others agree",
+    "the default, others agree",
+    "the word, hidden",
+    "the default, noise",
+    "not heard, said",
+    "not heard, votes",
+    "the source",
+    "taken in round 0",
+    "later, nothing",
+    "later, direct",
+    "later, takes",
+    "otherwise than the old step",
+    "as the old step",
+    "with groups",
+    "9",
+    "9, beside 13",
+    "9, beside 12",
+    "9, beside 13 and 12",
+    "4, beside 9",
+    "5, beside 9",
+    "17, beside 9",
+    "13, beside 12",
+    "13",
+    "12",
+];
+
+fn shared_tally(cases: impl Iterator<Item = SharedStep>) -> BTreeMap<&'static str, u32> {
+    let mut seen = BTreeMap::new();
+    for case in cases {
+        let (number, after) = shared_answer(&case);
+        let marks = match number {
+            0 => marks_of_shared(&case, &after),
+            _ => marks_of_shared_refused(&case, number),
+        };
+        for mark in marks {
+            *seen.entry(mark).or_insert(0) += 1;
+        }
+    }
+    seen
+}
+
+/// Among fresh steps and among recorded ones.
+#[test]
+fn needed_shared_steps_are_there() {
+    let fresh = shared_tally((0..1000).map(|index| shared_step_case(1, index)));
+    let recorded = shared_tally(calls_of(b'S').iter().map(shared_step_of));
+    for name in NEEDED_SHARED {
+        for seen in [&fresh, &recorded] {
+            let count = seen.get(name).copied().unwrap_or(0);
+            assert!(count >= 3, "{name}: {count} of {seen:?}");
+        }
+    }
+}
+
+/// What a run of the mode is given, and the five records where five are lent.
+fn shared_site_of(call: &Call) -> (SharedSite, Vec<Record>) {
+    let mut body = Bytes(&call.body);
+    let plan = body.plan();
+    let bad = set_of(body.quad());
+    let (value, default, rounds) = (body.pair(), body.pair(), u32::from(body.byte()));
+    let lent = if call.kind == b'L' { 5 } else { 0 };
+    let before = (0..lent).map(|_| body.record()).collect();
+    let words = (0..call.lent).map(|_| body.pair()).collect();
+    assert!(body.0.is_empty());
+    let site = SharedSite {
+        plan,
+        bad,
+        value,
+        default,
+        rounds,
+        words,
+    };
+    (site, before)
+}
+
+#[test]
+fn shared_runs_are_read_back() {
+    let calls = calls_of(b'N');
+    assert!(calls.len() > 230, "{}", calls.len());
+    let mut fullest = 0;
+    for call in &calls {
+        let mut line = Bytes(&call.line);
+        let (answer, records) = shared_site_of(call).0.played(Fault::None);
+        assert_eq!(line.byte(), answer.map_or_else(Cause::number, |()| 0));
+        for record in records.iter().take(20) {
+            fullest = fullest.max(
+                record
+                    .notes
+                    .iter()
+                    .map(|row| row.count)
+                    .max()
+                    .expect("rows"),
+            );
+            assert_eq!(line.record(), *record);
+        }
+        assert!(line.0.is_empty());
+    }
+    assert_eq!(fullest, 40);
+    let calls = calls_of(b'L');
+    assert!(calls.len() > 90, "{}", calls.len());
+    for call in &calls {
+        let mut line = Bytes(&call.line);
+        let (site, before) = shared_site_of(call);
+        let mut after = before.clone();
+        let answer = shared_run(&site.order(), &mut after, Fault::None);
+        assert_eq!(answer.is_err(), after == before);
+        assert_eq!(line.byte(), answer.map_or_else(Cause::number, |()| 0));
+        assert!(after.iter().all(|record| line.record() == *record));
+        assert!(line.0.is_empty());
+    }
+}
+
+/// What a run of the mode is about.
+fn marks_of_channel(site: &SharedSite) -> Vec<&'static str> {
+    let (plan, n) = (&site.plan, site.plan.n);
+    let number = site
+        .played(Fault::None)
+        .0
+        .map_or_else(Cause::number, |()| 0);
+    let source_bad = site.bad.contains(&plan.source);
+    if number > 0 {
+        let many = site.words.len() as u32 == site.rounds * n * n;
+        return named(&[
+            (
+                "a bad source, value 0",
+                number == 9 && source_bad && site.value == 0,
+            ),
+            ("default 0", number == 9 && site.default == 0),
+            ("words by hearer", number == 12 && many && n > 1),
+            ("over the bound, with the source", number == 8 && source_bad),
+            ("over the bound, without it", number == 8 && !source_bad),
+            ("too large, beside the source", number == 7 && source_bad),
+        ]);
+    }
+    let said = |round: u32, from: u32| match round <= site.rounds {
+        true => site.words[((round - 1) * n + from) as usize],
+        false => 0,
+    };
+    let spoken: Vec<u16> = (1..=site.rounds).map(|r| said(r, plan.source)).collect();
+    let different: BTreeSet<u16> = spoken.iter().copied().filter(|&word| word > 0).collect();
+    let near = site
+        .bad
+        .iter()
+        .any(|&one| plan.links.contains(&(plan.source, one)));
+    let good_entry = (0..n)
+        .filter(|one| !site.bad.contains(one))
+        .any(|one| (1..=site.rounds).any(|round| said(round, one) > 0));
+    let first = spoken.first().copied().unwrap_or(0);
+    named(&[
+        ("a good source", !source_bad),
+        (
+            "a bad source is silent",
+            source_bad && site.rounds > 1 && different.is_empty(),
+        ),
+        ("a bad source speaks", source_bad && first > 0),
+        (
+            "a bad source speaks late",
+            source_bad && first == 0 && !different.is_empty(),
+        ),
+        (
+            "a bad source says several",
+            source_bad && first > 0 && different.len() > 1,
+        ),
+        ("a bad source and a bad hearer of it", source_bad && near),
+        (
+            "a bad source and groups",
+            source_bad && plan.bound.has_groups(),
+        ),
+        ("entries of good ones", good_entry),
+        ("no round", site.rounds == 0),
+        (
+            "the source hears",
+            source_bad && !plan.heard_by(plan.source).is_empty(),
+        ),
+        ("nobody is good", site.bad.len() as u32 == n),
+    ])
+}
+
+const NEEDED_CHANNELS: [&str; 16] = [
+    "a bad source, value 0",
+    "default 0",
+    "words by hearer",
+    "over the bound, with the source",
+    "over the bound, without it",
+    "too large, beside the source",
+    "a good source",
+    "a bad source is silent",
+    "a bad source speaks",
+    "a bad source speaks late",
+    "a bad source says several",
+    "a bad source and a bad hearer of it",
+    "a bad source and groups",
+    "entries of good ones",
+    "no round",
+    "the source hears",
+];
+
+#[test]
+fn needed_shared_runs_are_there() {
+    let tally = |sites: Vec<SharedSite>| -> BTreeMap<&'static str, u32> {
+        let mut seen = BTreeMap::new();
+        for mark in sites.iter().flat_map(marks_of_channel) {
+            *seen.entry(mark).or_insert(0) += 1;
+        }
+        seen
+    };
+    let fresh = tally((0..600).map(|index| shared_site_case(1, index)).collect());
+    let of_kind = |kind: u8| {
+        let calls = calls_of(kind);
+        let sites = calls.iter().map(|call| shared_site_of(call).0);
+        tally(sites.collect())
+    };
+    for (seen, least) in [(fresh, 3), (of_kind(b'N'), 2)] {
+        for name in NEEDED_CHANNELS {
+            let count = seen.get(name).copied().unwrap_or(0);
+            assert!(count >= least, "{name}: {count} of {seen:?}");
+        }
+    }
+    let lent = of_kind(b'L');
+    for name in [
+        "a bad source speaks",
+        "a bad source is silent",
+        "a good source",
+    ] {
+        assert!(
+            lent.get(name).copied().unwrap_or(0) >= 3,
+            "{name} of {lent:?}"
+        );
+    }
+}
+
+/// The check of a bad set: what the source changes, and what it does not.
+#[test]
+fn needed_shared_sets_are_there() {
+    let calls = calls_of(b'C');
+    assert!(calls.len() >= 140, "{}", calls.len());
+    let mut seen: BTreeMap<&'static str, u32> = BTreeMap::new();
+    for call in &calls {
+        let mut body = Bytes(&call.body);
+        let plan = body.plan();
+        let bad = set_of(body.quad());
+        assert!(body.0.is_empty() && call.line.len() == 1);
+        let number = call.line[0];
+        let answer = shared_fault_cause(&plan, &bad, Fault::None);
+        assert_eq!(number, answer.map_or_else(Cause::number, |()| 0));
+        let source = bad.contains(&plan.source);
+        let mut unheard = plan.clone();
+        unheard.links.retain(|link| link.1 != plan.source);
+        let at_source = || shared_fault_cause(&unheard, &bad, Fault::None).is_ok();
+        let counted = || shared_fault_cause(&plan, &bad, Fault::SourceCountedAsBad).is_err();
+        let marks = named(&[
+            (
+                "accepted with the source",
+                number == 0 && source && bad.len() > 1,
+            ),
+            (
+                "accepted without it",
+                number == 0 && !source && !bad.is_empty(),
+            ),
+            (
+                "just within the bound beside the source",
+                number == 0 && source && counted(),
+            ),
+            (
+                "over it at a bad source alone",
+                number == 8 && source && at_source(),
+            ),
+            (
+                "over it at a good source alone",
+                number == 8 && !source && at_source(),
+            ),
+            ("outside, beside the source", number == 7 && source),
+            (
+                "groups and the source",
+                number == 0 && source && plan.bound.has_groups(),
+            ),
+            (
+                "no group, with the source",
+                number == 8 && source && plan.bound.has_groups(),
+            ),
+        ]);
+        marks
+            .into_iter()
+            .for_each(|mark| *seen.entry(mark).or_insert(0) += 1);
+    }
+    assert_eq!(seen.len(), 8, "{seen:?}");
+    assert!(seen.values().all(|&count| count >= 2), "{seen:?}");
+}
+
+/// Files of the mode among the recorded texts and reads: accepted ones, and every way of a wrong line.
+#[test]
+fn recorded_files_of_the_mode() {
+    let has_default = |text: &[u8]| {
+        let mut lines = text.split(|&byte| byte == 10);
+        lines.any(|line| line.starts_with(b"09") && line.len() == 6)
+    };
+    for (kind, skipped, accepted) in [(b'r', 0, 120), (b'f', 1, 30)] {
+        let calls = calls_of(kind).into_iter();
+        let of_mode: Vec<Call> = calls
+            .filter(|call| has_default(&call.body[skipped..]))
+            .collect();
+        let right = of_mode.iter().filter(|call| call.line[0] == 0).count();
+        assert!(right > accepted, "{right}");
+        let numbers: BTreeSet<u8> = of_mode.iter().map(|call| call.line[0]).collect();
+        for number in [0, 2, 3, 7, 8, 9, 10, 11, 15, 17] {
+            assert!(numbers.contains(&number), "{number} of {numbers:?}");
+        }
+        let texts: BTreeSet<&[u8]> = of_mode.iter().map(|call| &call.body[skipped..]).collect();
+        let faults = second::planted_shared::PLANTED
+            .iter()
+            .map(|planted| planted.0);
+        let shown = faults.filter(|&fault| {
+            let mut texts = texts.iter();
+            texts.any(|text| run_text(text, fault) != run_text(text, Fault::None))
+        });
+        assert!(shown.count() > 45, "few of the planted faults show");
     }
 }

@@ -1,6 +1,7 @@
 //! A plan with its verdict, or a run, as an SVG picture.
 
 use crate::ask::Programs;
+use crate::channel;
 use crate::document::{Document, Extras};
 use crate::frames::{Plan, State, Verdict};
 use crate::mend::first_way;
@@ -57,6 +58,7 @@ fn of_verdict(document: &Document, plan: &Plan, verdict: &Verdict, new: &[Link])
         roles: (0..plan.terminals).map(role).collect(),
         legend: legend_of(&document.extras, verdict),
         beside: BTreeMap::new(),
+        default: None,
     }
 }
 
@@ -75,10 +77,12 @@ fn legend_of(extras: &Extras, verdict: &Verdict) -> Vec<(Role, String)> {
 }
 
 /// Who has the source's last notice after the last round, and since when; and who has an older one.
+/// Of a bad source it is what it said in round 1, or the default.
 fn of_run(document: &Document, states: &[(u8, State)]) -> Told {
     let run = words::run_of(document);
-    let last = run.last_issued();
-    let role = |state: &State| role_of(*state, last.notice);
+    let source = document.plan().source;
+    let (last, carried) = (run.last_issued(), run.carried(source));
+    let role = |state: &State| role_of(*state, carried);
     let of = |wanted: Role| -> Vec<u8> {
         let those = states.iter().filter(|(_, state)| role(state) == wanted);
         those.map(|(terminal, _)| *terminal).collect()
@@ -92,18 +96,17 @@ fn of_run(document: &Document, states: &[(u8, State)]) -> Told {
     let (took, is) = match last.notice.edition {
         Some(_) => (
             "have the last notice",
-            format!(
-                "last notice is layout {}, of round {}",
-                last.notice, last.round
-            ),
+            format!("last notice is layout {carried}, of round {}", last.round),
         ),
-        None => ("took a layout", format!("layout is {}", last.notice)),
+        None => ("took a layout", format!("layout is {carried}")),
     };
+    let after = words::rounds(run.rounds);
+    let good_source = || format!("The source's {is}, after {after}.");
     let mut legend = vec![
         row(Role::Bad, "bad".into()),
         row(
             Role::Reached,
-            format!("took layout {}, beside it when", last.notice),
+            format!("took layout {carried}, beside it when"),
         ),
         row(Role::CutOff, "waiting".into()),
     ];
@@ -116,10 +119,11 @@ fn of_run(document: &Document, states: &[(u8, State)]) -> Told {
     Told {
         good: taken.len() == good,
         says: format!("A run: {} of {good} good terminals {took}", taken.len()),
-        why: format!("The source's {is}, after {}.", words::rounds(run.rounds)),
+        why: channel::bad_source(&run, source).unwrap_or_else(good_source),
         roles: states.iter().map(|(_, state)| role(state)).collect(),
         legend,
-        beside: states.iter().filter_map(since(last.notice)).collect(),
+        beside: states.iter().filter_map(since(carried)).collect(),
+        default: run.default,
     }
 }
 

@@ -19,13 +19,16 @@ pub struct Plan {
 pub struct Word {
     pub round: u8,
     pub from: u8,
-    pub to: u8,
+    /// None on a shared channel, where all who hear the sender hear the word.
+    pub to: Option<u8>,
     pub notice: Notice,
 }
 
 /// What a run file has beside its plan. Its notices all have an edition, or none has.
 #[derive(Clone)]
 pub struct Run {
+    /// The default layout, where all share one channel.
+    pub default: Option<u16>,
     pub bad: Vec<u8>,
     pub start: Notice,
     /// Those that are played.
@@ -99,6 +102,10 @@ pub fn group(set: u32) -> String {
     format!("07{set:06x}\n")
 }
 
+pub fn channel(default: u16) -> String {
+    format!("09{default:04x}\n")
+}
+
 pub fn bad_set(set: u32) -> String {
     format!("03{set:06x}\n")
 }
@@ -122,7 +129,8 @@ pub fn word(word: Word) -> String {
         to,
         notice,
     } = word;
-    format!("05{round:02x}{from:02x}{to:02x}{}\n", notice.digits())
+    let to = to.map(|to| format!("{to:02x}")).unwrap_or_default();
+    format!("05{round:02x}{from:02x}{to}{}\n", notice.digits())
 }
 
 impl Plan {
@@ -154,6 +162,7 @@ impl Run {
     /// One notice without an edition, everybody good, and so many rounds.
     pub fn plain(rounds: u8) -> Run {
         Run {
+            default: None,
             bad: Vec::new(),
             start: Notice::plain(1),
             rounds,
@@ -168,7 +177,8 @@ impl Run {
     pub fn to_frames(&self) -> String {
         let issued = self.later.iter().filter(|one| one.round <= self.rounds);
         let played = self.words.iter().filter(|word| word.round <= self.rounds);
-        bad_set(set_of(&self.bad))
+        self.default.map(channel).unwrap_or_default()
+            + &bad_set(set_of(&self.bad))
             + &start(self.start, Some(self.rounds))
             + &issued.map(|&one| later(one)).collect::<String>()
             + &played.map(|&one| word(one)).collect::<String>()
@@ -185,6 +195,25 @@ impl Run {
         }
     }
 
+    /// What a bad source says in round 1, when whoever hears it takes its word, or else the default.
+    pub fn first_word_of(&self, source: u8) -> Option<Notice> {
+        let mut words = self.words.iter();
+        let first = words.find(|word| (word.round, word.from) == (1, source))?;
+        Some(first.notice)
+    }
+
+    /// What the good terminals are to have in the end: the source's last notice; of a bad source, on
+    /// a shared channel, what it says in round 1, or the default.
+    pub fn carried(&self, source: u8) -> Notice {
+        match self.default {
+            Some(default) if self.bad.contains(&source) => {
+                let silent = Notice::plain(default);
+                self.first_word_of(source).unwrap_or(silent)
+            }
+            _ => self.last_issued().notice,
+        }
+    }
+
     /// What the source issued last, and in which round; the start is of round 0.
     pub fn last_issued(&self) -> Later {
         let start = Later {
@@ -195,10 +224,10 @@ impl Run {
     }
 }
 
-/// Kinds 03 to 05 and 08 are those that only `run` has.
+/// Kinds 03 to 05, 08 and 09 are those that only `run` has.
 pub fn is_run_file(file: &[u8]) -> bool {
     let mut lines = file.split(|&byte| byte == b'\n');
-    lines.any(|line| matches!(line, [b'0', b'3' | b'4' | b'5' | b'8', ..]))
+    lines.any(|line| matches!(line, [b'0', b'3' | b'4' | b'5' | b'8' | b'9', ..]))
 }
 
 /// The first line, the links under it, and the groups where it has ff for the bound. A file that
@@ -235,7 +264,8 @@ pub fn plan(file: &[u8]) -> Plan {
     plan
 }
 
-/// The bad set, the start, the later notices and the words of an accepted run file.
+/// The default layout, the bad set, the start, the later notices and the words of an accepted run
+/// file.
 pub fn run(file: &[u8]) -> Run {
     let mut run = Run {
         given: false,
@@ -243,9 +273,11 @@ pub fn run(file: &[u8]) -> Run {
     };
     for line in String::from_utf8_lossy(file).lines() {
         match bytes(line).unwrap_or_default()[..] {
+            [9, high, low] => run.default = Some(u16::from_be_bytes([high, low])),
             [3, a, b, c] => run.bad = members([a, b, c]),
             [4, ref rest @ ..] => run.take_start(rest),
-            [5, round, from, to, ref said @ ..] => {
+            [5, round, from, ref rest @ ..] => {
+                let (to, said) = hearer_of(rest);
                 let word = |notice| Word {
                     round,
                     from,
@@ -262,6 +294,14 @@ pub fn run(file: &[u8]) -> Run {
         }
     }
     run
+}
+
+/// The hearer and the notice of a word; two bytes are a notice alone.
+fn hearer_of(rest: &[u8]) -> (Option<u8>, &[u8]) {
+    match rest {
+        [to, said @ ..] if said.len() != 1 => (Some(*to), said),
+        said => (None, said),
+    }
 }
 
 /// What a program printed, by the kind of its first frame.

@@ -7,13 +7,14 @@ use crate::reason::{because, Reason, Scene};
 struct Kind(u8, &'static str, &'static [usize], &'static str);
 
 /// In runs without editions.
-const PLAIN: [Kind; 6] = [
+const PLAIN: [Kind; 7] = [
     Kind(1, "head", &[3], "n, source, f"),
     Kind(2, "link", &[2], "from, to"),
     Kind(3, "bad set", &[3], "a set of three bytes"),
     Kind(4, "start", &[2, 3], "value (2 bytes), rounds"),
     Kind(5, "word", &[5], "round, from, to, value (2 bytes)"),
     Kind(7, "group", &[3], "a set of three bytes"),
+    Kind(9, "shared channel", &[2], "default layout (2 bytes)"),
 ];
 /// What is otherwise in runs with editions.
 const WITH_EDITIONS: [Kind; 3] = [
@@ -37,11 +38,15 @@ const WITH_EDITIONS: [Kind; 3] = [
     ),
 ];
 
+/// What is otherwise on a shared channel.
+const SHARED: [Kind; 1] = [Kind(5, "word", &[4], "round, from, value (2 bytes)")];
+
 pub fn wrong(scene: &Scene, program: &str) -> Option<Reason> {
     let kind = *scene.frame.first()?;
     let forms: Vec<&Kind> = PLAIN
         .iter()
         .chain(&WITH_EDITIONS)
+        .chain(&SHARED)
         .filter(|known| known.0 == kind)
         .collect();
     let Some(Kind(_, name, ..)) = forms.first() else {
@@ -50,7 +55,7 @@ pub fn wrong(scene: &Scene, program: &str) -> Option<Reason> {
             format!("there are {}", all(scene)),
         );
     };
-    if matches!(kind, 3..=5 | 8) && program != "run" {
+    if matches!(kind, 3..=5 | 8 | 9) && program != "run" {
         let of_plan = match scene.plan.limit {
             Limit::Bound(_) => "01 and 02",
             Limit::Groups(_) => "01, 02 and 07",
@@ -60,17 +65,26 @@ pub fn wrong(scene: &Scene, program: &str) -> Option<Reason> {
             format!("'{program}' has {of_plan} only"),
         );
     }
-    other_form(scene, kind).or_else(|| wrong_length(scene, kind, &forms))
+    let length = scene.frame.len() - 1;
+    barred(scene, kind, length)
+        .or_else(|| other_form(scene, kind, length))
+        .or_else(|| wrong_length(scene, kind, length, &forms))
 }
 
 /// A plan with a bound has no place for a group, so it is not told of one; and only a run with
-/// editions is told of later notices.
-fn all(scene: &Scene) -> &'static str {
-    match (&scene.plan.limit, has_editions(scene)) {
-        (Limit::Bound(_), Some(true)) => "01 to 05, and 08",
-        (Limit::Bound(_), _) => "01 to 05",
-        (Limit::Groups(_), Some(true)) => "01 to 05, 07 and 08",
-        (Limit::Groups(_), _) => "01 to 05, and 07",
+/// editions is told of later notices, and one on a shared channel of that.
+fn all(scene: &Scene) -> String {
+    let groups = matches!(scene.plan.limit, Limit::Groups(_)).then_some("07");
+    let later = (has_editions(scene) == Some(true)).then_some("08");
+    let channel = scene.run.default.map(|_| "09");
+    match [groups, later, channel]
+        .into_iter()
+        .flatten()
+        .collect::<Vec<_>>()[..]
+    {
+        [] => "01 to 05".into(),
+        [one] => format!("01 to 05, and {one}"),
+        [one, other, ..] => format!("01 to 05, {one} and {other}"),
     }
 }
 
@@ -84,10 +98,34 @@ fn with_length(kinds: &'static [Kind], kind: u8, length: usize) -> Option<&'stat
     kinds.find(|known| known.0 == kind && known.2.contains(&length))
 }
 
+/// A frame that would be right elsewhere and not on this channel: one with an edition where it is
+/// shared, and a word that names a hearer there, or none where it is not.
+fn barred(scene: &Scene, kind: u8, length: usize) -> Option<Reason> {
+    let Some(line) = scene.earlier(&[9]) else {
+        with_length(&SHARED, kind, length)?;
+        return because(
+            "a word without a hearer",
+            "only on a shared channel, 09, it names none",
+        );
+    };
+    if let Some(Kind(_, name, ..)) = with_length(&WITH_EDITIONS, kind, length) {
+        return because(
+            format!("a {name} with an edition"),
+            format!("line {line} has a shared channel, and a run on it has none"),
+        );
+    }
+    with_length(&PLAIN, kind, length).filter(|known| known.0 == 5)?;
+    because(
+        "a word that names a hearer",
+        format!(
+            "line {line} has a shared channel, and a word on it reaches all who hear the sender"
+        ),
+    )
+}
+
 /// A frame that would be right in a run of the other form.
-fn other_form(scene: &Scene, kind: u8) -> Option<Reason> {
+fn other_form(scene: &Scene, kind: u8, length: usize) -> Option<Reason> {
     let editions = has_editions(scene)?;
-    let length = scene.frame.len() - 1;
     let line = scene.earlier(&[4])?;
     if editions {
         let Kind(_, name, ..) = with_length(&PLAIN, kind, length)?;
@@ -110,12 +148,14 @@ fn counted(bytes: usize) -> String {
     }
 }
 
-/// Before the start both forms are right.
-fn wrong_length(scene: &Scene, kind: u8, forms: &[&Kind]) -> Option<Reason> {
-    let found = scene.frame.len() - 1;
-    let allowed = match (forms, has_editions(scene)) {
-        ([_, _], Some(false)) => &forms[..1],
-        ([_, _], Some(true)) => &forms[1..],
+/// Before the start all forms are right, where no channel is shared. The last of a word's three is
+/// that of a shared one.
+fn wrong_length(scene: &Scene, kind: u8, found: usize, forms: &[&Kind]) -> Option<Reason> {
+    let allowed = match (forms, scene.run.default, has_editions(scene)) {
+        ([_, _, _], Some(_), _) => &forms[2..],
+        ([_, _], Some(_), _) => &forms[..1],
+        ([_, _, ..], None, Some(false)) => &forms[..1],
+        ([_, _, ..], None, Some(true)) => &forms[1..2],
         _ => forms,
     };
     let lengths = |kind: &&Kind| {

@@ -4,6 +4,7 @@
 
 mod ask;
 mod call;
+mod channel;
 mod deaf;
 mod digits;
 mod document;

@@ -18,15 +18,20 @@ pub fn number(word: &str, expected: &str) -> Result<u8, String> {
 
 /// `8`, or `8 edition 2`.
 pub fn notice(word: &str, text: &str) -> Result<Notice, String> {
-    let (layout, edition) = match text.split_once("edition") {
-        Some((layout, edition)) => (layout.trim(), Some(edition.trim())),
+    let (said, edition) = match text.split_once("edition") {
+        Some((said, edition)) => (said.trim(), Some(edition.trim())),
         None => (text, None),
     };
     let one = |edition: &str| two_bytes(edition, "one number after 'edition'");
     Ok(Notice {
-        layout: two_bytes(layout, &format!("one layout after '{word}'"))?,
+        layout: layout(word, said)?,
         edition: edition.map(one).transpose()?,
     })
+}
+
+/// One without an edition.
+pub fn layout(word: &str, text: &str) -> Result<u16, String> {
+    two_bytes(text, &format!("one layout after '{word}'"))
 }
 
 /// Layouts and editions have two bytes, all of them in range but 0: a larger one stands there as 0.

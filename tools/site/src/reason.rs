@@ -4,7 +4,7 @@
 use crate::digits::bad_line;
 use crate::frames::{self, Plan, Refusal, Run, Word, DEAF, EDITION, GROUPS};
 use crate::groups::{self, Limit};
-use crate::{kinds, later};
+use crate::{channel, kinds, later};
 
 const LONGEST_FILE: usize = 24_576;
 
@@ -153,6 +153,7 @@ impl Scene<'_> {
             1 if self.has(1) => plainly("a second head: 01 stands once, in the first line"),
             _ if !self.has(1) => plainly("the first line is the head, 01"),
             2 if self.has(3) || self.has(4) => plainly("links, 02, stand before 03 and 04"),
+            2 if self.has(9) => plainly("links, 02, stand before a shared channel, 09"),
             2 if self.has(7) => plainly("links, 02, stand before the groups, 07"),
             7 => self.misplaced_group(),
             3 if self.has(3) => plainly("a second bad set: 03 stands once"),
@@ -161,6 +162,7 @@ impl Scene<'_> {
             4 => plainly("the start, 04, stands after the bad set, 03"),
             5 if !self.has(4) => plainly("a word, 05, stands after the start, 04"),
             8 => later::misplaced(self),
+            9 => channel::misplaced(self),
             _ => None,
         }
     }
@@ -170,6 +172,9 @@ impl Scene<'_> {
             Limit::Bound(bound) => plainly(format!(
                 "a group, and the head has the bound {bound}: groups stand where it has ff"
             )),
+            Limit::Groups(_) if !self.has(3) => {
+                plainly("groups, 07, stand before a shared channel, 09")
+            }
             Limit::Groups(_) => plainly("groups, 07, stand before 03 and 04"),
         }
     }
@@ -242,17 +247,31 @@ impl Scene<'_> {
     fn wrong_bad_set(&self) -> Option<Reason> {
         let named = self.named()?;
         let source = self.plan.source;
-        if named.contains(&source) {
+        if named.contains(&source) && self.run.default.is_none() {
             return because(format!("bad {source}"), "it is the source, which is good");
         }
         let above = named.iter().find(|one| **one >= self.plan.terminals)?;
         because(format!("bad {above}"), self.terminals())
     }
 
+    /// Of a bad source, on a shared channel, the others are looked at.
     fn too_many_bad(&self) -> Option<Reason> {
-        let named = self.named()?;
+        let mut named = self.named()?;
+        let source = named.iter().position(|one| *one == self.plan.source);
+        let Some(place) = source else {
+            return self.too_many_of(&named);
+        };
+        named.remove(place);
+        let Reason { rule, .. } = self.too_many_of(&named)?;
+        plainly(format!(
+            "{rule}; {}",
+            channel::others_must(&self.plan.limit)
+        ))
+    }
+
+    fn too_many_of(&self, named: &[u8]) -> Option<Reason> {
         let Limit::Bound(bound) = self.plan.limit else {
-            return groups::part_of_none(&named);
+            return groups::part_of_none(named);
         };
         let heard = |terminal: u8| -> Vec<u8> {
             let all = self.plan.heard_by(terminal);
@@ -272,9 +291,12 @@ impl Scene<'_> {
         ))
     }
 
-    /// The start, or a later notice.
+    /// The start, a later notice, or a default layout.
     fn wrong_start(&self) -> Option<Reason> {
         let run = frames::run(self.line);
+        if run.default == Some(0) {
+            return because("default 0", "layouts are 1 to 65535");
+        }
         let notice = run.later.first().map_or(run.start, |later| later.notice);
         if notice.layout == 0 {
             return because(notice.layout_named(), "layouts are 1 to 65535");
@@ -301,12 +323,12 @@ impl Scene<'_> {
         if round == 0 || round > run.rounds {
             return because(format!("round {round}"), rounds(run));
         }
-        for end in [from, to] {
+        for end in [from].into_iter().chain(to) {
             if end >= n {
                 return because(format!("terminal {end}"), self.terminals());
             }
         }
-        if !self.plan.links.contains(&(from, to)) {
+        if let Some(to) = to.filter(|to| !self.plan.links.contains(&(from, *to))) {
             return plainly(format!("{to} does not hear {from}"));
         }
         if !run.bad.contains(&from) {
@@ -327,10 +349,12 @@ impl Scene<'_> {
     }
 
     fn second_word(&self) -> Option<Reason> {
-        let line = self.earlier(self.frame.get(..4)?)?;
-        plainly(format!(
-            "line {line} has a word on this link in this round already"
-        ))
+        let (same, of) = match self.run.default {
+            Some(_) => (3, "of this sender"),
+            None => (4, "on this link"),
+        };
+        let line = self.earlier(self.frame.get(..same)?)?;
+        plainly(format!("line {line} has a word {of} in this round already"))
     }
 }
 

@@ -1,6 +1,8 @@
 //! Outlines and arrowheads. What a terminal is shows in its shape and stroke as well as in its
 //! colour, so that a picture can be read without colours.
 
+use std::f64::consts::SQRT_2;
+
 #[derive(Clone, Copy)]
 pub struct Point {
     pub x: f64,
@@ -68,6 +70,14 @@ impl Role {
         }
     }
 
+    /// The circle that the outline of a source fits in, which never waits.
+    pub fn widest(self, size: f64) -> f64 {
+        match self {
+            Role::Bad => size * 0.92 * SQRT_2,
+            Role::Plain | Role::Reached | Role::CutOff => size,
+        }
+    }
+
     /// A circle, a dashed square, or a diamond with a double line.
     pub fn outline(self, at: Point, size: f64) -> String {
         let look = self.look();
@@ -90,6 +100,13 @@ impl Role {
 pub fn circle(at: Point, radius: f64, look: &str) -> String {
     let Point { x, y } = at;
     format!(r#"<circle cx="{x:.1}" cy="{y:.1}" r="{radius:.1}" {look}/>"#)
+}
+
+/// A dotted frame with round corners, from its upper left corner.
+pub fn shared_channel([x, y]: [f64; 2], [width, height]: [f64; 2]) -> String {
+    format!(
+        r##"<rect class="channel" x="{x:.1}" y="{y:.1}" width="{width:.1}" height="{height:.1}" rx="10" fill="none" stroke="#6b2a7a" stroke-width="2.5" stroke-dasharray="1 6" stroke-linecap="round"/>"##
+    )
 }
 
 fn diamond(at: Point, half: f64, look: &str) -> String {

@@ -4,7 +4,7 @@ use crate::document::Document;
 use crate::frames::Plan;
 use crate::places::{self, Layout};
 use crate::search::Link;
-use crate::shapes::{circle, mark, Pen, Point, Role};
+use crate::shapes::{circle, mark, shared_channel, Pen, Point, Role};
 use crate::tags::{self, TAG_LINE};
 use std::collections::BTreeMap;
 
@@ -16,6 +16,9 @@ const SOURCE_RING: f64 = 6.0;
 const MARGIN: f64 = 75.0;
 const LETTER: f64 = 7.5;
 const NARROWEST: f64 = 800.0;
+/// More room around them, for a frame that says that all share one channel; and where it stands.
+const FRAME_ROOM: f64 = 16.0;
+const FRAME: f64 = 12.0;
 
 /// What the heading, the shapes and the legend say.
 pub struct Told {
@@ -26,6 +29,8 @@ pub struct Told {
     pub legend: Vec<(Role, String)>,
     /// A word beside a terminal.
     pub beside: BTreeMap<u8, String>,
+    /// The default layout, where all share one channel.
+    pub default: Option<u16>,
 }
 
 pub struct Sheet<'a> {
@@ -56,10 +61,15 @@ impl<'a> Sheet<'a> {
         let labels = (0..plan.terminals).filter_map(|terminal| sheet.beside(terminal));
         let longest = labels.map(|words| words.chars().count()).max().unwrap_or(0);
         let words = f64::max(longest as f64 * LETTER, tags::widest(plan));
-        let side = f64::max(MARGIN + 35.0, words + 50.0);
+        let side = f64::max(MARGIN + 35.0, words + 50.0) + sheet.frame_room();
         sheet.width = f64::max(sheet.layout.width + 2.0 * side, NARROWEST);
         sheet.corner.x = (sheet.width - sheet.layout.width) / 2.0;
+        sheet.corner.y += sheet.frame_room();
         sheet
+    }
+
+    fn frame_room(&self) -> f64 {
+        self.told.default.map_or(0.0, |_| FRAME_ROOM)
     }
 
     /// The whole file. Lines come first and labels last, so that no line covers a label.
@@ -69,9 +79,10 @@ impl<'a> Sheet<'a> {
             [] => 0.0,
             _ => TAG_LINE,
         };
-        let bottom = self.corner.y + self.layout.height + MARGIN + tag_line;
+        let bottom = self.corner.y + self.layout.height + MARGIN + tag_line + self.frame_room();
         let height = bottom + ROW * legend.len() as f64 + 10.0;
-        let mut svg = self.opening(height) + &self.heading() + &self.links();
+        let mut svg =
+            self.opening(height) + &self.heading() + &self.channel(bottom) + &self.links();
         for terminal in 0..self.plan.terminals {
             svg += &self.terminal(terminal);
         }
@@ -97,12 +108,14 @@ impl<'a> Sheet<'a> {
 
     fn heading(&self) -> String {
         let plan = self.plan;
+        let channel = |default: u16| format!(", one shared channel (default {default})");
         let facts = format!(
-            "{} terminals, source {}, {}, {} links",
+            "{} terminals, source {}, {}, {} links{}",
             plan.terminals,
             plan.source,
             tags::fact(&plan.limit),
-            plan.links.len()
+            plan.links.len(),
+            self.told.default.map(channel).unwrap_or_default()
         );
         let line = |x: f64, y: u32, size: u32, class: &str, text: &str| {
             let text = escaped(text);
@@ -121,6 +134,18 @@ impl<'a> Sheet<'a> {
             + &line(LEFT + 42.0, 75, 26, "says", &self.told.says)
             + &line(LEFT, 104, 16, "why", &self.told.why)
             + &line(LEFT, 128, 16, "facts", &facts)
+    }
+
+    /// A frame around all who share a channel, between the heading and the legend.
+    fn channel(&self, bottom: f64) -> String {
+        if self.told.default.is_none() {
+            return String::new();
+        }
+        let size = [
+            self.width - 2.0 * FRAME,
+            bottom - 2.0 * FRAME_ROOM - HEADING,
+        ];
+        shared_channel([FRAME, HEADING], size) + "\n"
     }
 
     fn spot(&self, terminal: u8) -> Point {
@@ -165,18 +190,26 @@ impl<'a> Sheet<'a> {
         }
     }
 
+    /// How far a terminal is from its middle; the source's ring is a circle.
+    fn reach(&self, terminal: u8, direction: Point) -> f64 {
+        let (role, size) = (self.role(terminal), self.layout.size);
+        match terminal == self.plan.source {
+            true => role.widest(size) + SOURCE_RING,
+            false => role.reach(size, direction),
+        }
+    }
+
     /// Where a link from the other one ends: just outside this one's outline.
     fn tip(&self, terminal: u8, other: u8) -> Point {
         let here = self.spot(terminal);
         let direction = here.towards(self.spot(other));
-        let reach = self.role(terminal).reach(self.layout.size, direction);
-        here.moved(direction, reach + self.ring(terminal) + 4.0)
+        here.moved(direction, self.reach(terminal, direction) + 4.0)
     }
 
     fn terminal(&self, terminal: u8) -> String {
         let (role, at) = (self.role(terminal), self.spot(terminal));
         let ring = if terminal == self.plan.source {
-            source_ring(at, self.layout.size)
+            source_ring(at, role.widest(self.layout.size))
         } else {
             String::new()
         };
@@ -258,6 +291,11 @@ impl<'a> Sheet<'a> {
             .map(|(role, words)| (role.outline(here, 11.0), words.clone()))
             .collect();
         rows.extend(tags::legend(&self.plan.limit));
+        rows.extend(self.told.default.map(|default| {
+            let sample = shared_channel([-24.0, -11.0], [48.0, 22.0]);
+            let words = format!("one channel for all: a word reaches all who hear its sender; default layout {default}");
+            (sample, words)
+        }));
         let source = self.document.extras.called(self.plan.source);
         rows.push((source_ring(here, 8.0), format!("the source: {source}")));
         let right = "the right one hears the left one".to_string();

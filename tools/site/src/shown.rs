@@ -69,7 +69,8 @@ fn spaced_or_none(set: &[u8]) -> String {
 
 pub fn run(run: &Run) -> String {
     let bad = spaced_or_none(&run.bad);
-    let mut text = format!("bad{bad}\nvalue {}\n", run.start);
+    let channel = run.default.map(channel).unwrap_or_default();
+    let mut text = format!("{channel}bad{bad}\nvalue {}\n", run.start);
     if run.given {
         text += &format!("rounds {}\n", run.rounds);
     }
@@ -86,11 +87,16 @@ pub fn run(run: &Run) -> String {
             notice,
             ..
         } = words[0];
-        let hearers: Vec<u8> = words.iter().map(|word| word.to).collect();
-        text += &format!(
-            "round {round}: {from} says {notice} to{}\n",
-            spaced(&hearers)
-        );
+        let hearers: Vec<u8> = words.iter().filter_map(|word| word.to).collect();
+        let to = match hearers.is_empty() {
+            true => String::new(),
+            false => format!(" to{}", spaced(&hearers)),
+        };
+        text += &format!("round {round}: {from} says {notice}{to}\n");
     }
     text
+}
+
+fn channel(default: u16) -> String {
+    format!("shared channel, default {default}\n")
 }

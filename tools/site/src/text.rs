@@ -5,7 +5,7 @@ use crate::document::Extras;
 use crate::frames::{self, Word};
 use crate::groups::LISTED;
 use crate::notice::{Later, Notice};
-use crate::numbers::{bound, byte, measure, notice, number, quoted, set};
+use crate::numbers::{bound, byte, layout, measure, notice, number, quoted, set};
 use std::collections::BTreeSet;
 
 const HEAD: [&str; 3] = ["terminals", "source", "bound"];
@@ -17,6 +17,8 @@ const WANTED: [&str; 3] = [
 ];
 const NOT_BOTH: &str = "a plan has a bound or groups, not both";
 const ALL_OR_NONE: &str = "a run has an edition with every layout, or with none";
+const NO_HEARER: &str = "a word on it reaches all who hear the sender, and names nobody";
+const NO_EDITION: &str = "a run on it has one notice, without an edition";
 
 /// Where a part of the text stands, to be told of where it is refused.
 #[derive(Clone)]
@@ -37,6 +39,10 @@ pub struct Draft {
     head: [Option<Part<u8>>; 3],
     groups: Vec<Part<u32>>,
     links: Vec<Part<(u8, u8)>>,
+    /// The line that says that all share one channel, wherever it stands.
+    shared: Option<usize>,
+    /// And the default layout that it has.
+    default: Option<Part<u16>>,
     bad: Option<Part<u32>>,
     /// The first notice, in 'value'.
     start: Option<Part<Notice>>,
@@ -49,7 +55,10 @@ pub struct Draft {
 }
 
 pub fn read(text: &str) -> Result<Draft, String> {
-    let mut draft = Draft::default();
+    let mut draft = Draft {
+        shared: shared_line(text),
+        ..Draft::default()
+    };
     for (line, text) in (1..).zip(text.lines()) {
         let text = without_comment(text).trim();
         let taken = if text.is_empty() {
@@ -66,6 +75,13 @@ pub fn read(text: &str) -> Result<Draft, String> {
         return Err("end of the file: expected 'value NUMBER', since it has a run".into());
     }
     Ok(draft)
+}
+
+/// What a word is depends on it, so it is looked for first.
+fn shared_line(text: &str) -> Option<usize> {
+    let is_it = |text: &str| without_comment(text).split_whitespace().next() == Some("shared");
+    let place = text.lines().position(is_it)?;
+    Some(place + 1)
 }
 
 /// A '#' in quotes is part of a name.
@@ -92,7 +108,7 @@ impl Draft {
 
     fn has_run_part(&self) -> bool {
         let lines = !self.later.is_empty() || !self.says.is_empty();
-        self.bad.is_some() || self.rounds.is_some() || lines
+        self.default.is_some() || self.bad.is_some() || self.rounds.is_some() || lines
     }
 
     fn take(&mut self, line: usize, text: &str) -> Result<(), String> {
@@ -123,6 +139,7 @@ impl Draft {
             "site" => self.take_site(rest),
             "name" => self.take_name(rest),
             "at" => self.take_place(rest),
+            "shared" => take_once(&mut self.default, line, text, default_of(rest)?),
             "bad" => take_once(&mut self.bad, line, text, set(word, rest)?),
             "value" => self.take_start(line, text, rest),
             "rounds" => take_once(&mut self.rounds, line, text, byte(word, rest)?),
@@ -186,10 +203,23 @@ impl Draft {
         Ok(())
     }
 
+    /// An error where all share one channel, on which there is no such thing.
+    fn not_on_shared(&self, what: &str, rule: &str) -> Result<(), String> {
+        match self.shared {
+            Some(given) => Err(format!(
+                "{what}, and line {given} has a shared channel: {rule}"
+            )),
+            None => Ok(()),
+        }
+    }
+
     /// A line's notice; whether it has an edition is as in the lines before.
     fn notice(&mut self, line: usize, word: &str, text: &str) -> Result<Notice, String> {
         let notice = notice(word, text)?;
         let has = notice.edition.is_some();
+        if has {
+            self.not_on_shared("an edition", NO_EDITION)?;
+        }
         match *self.form.get_or_insert((line, has)) {
             (given, false) if has => Err(format!(
                 "an edition, and line {given} has none: {ALL_OR_NONE}"
@@ -208,6 +238,7 @@ impl Draft {
 
     /// After 'round': `2: source issues 8 edition 2`.
     fn take_later(&mut self, line: usize, text: &str) -> Result<(), String> {
+        self.not_on_shared("a later notice", NO_EDITION)?;
         let form = "expected 'round NUMBER: source issues LAYOUT edition NUMBER'";
         let (round, rest) = text.split_once(':').ok_or(form)?;
         let (who, rest) = rest.split_once("issues").ok_or(form)?;
@@ -224,27 +255,52 @@ impl Draft {
         Ok(())
     }
 
-    /// After 'round': `2: 3 says 9 to 6 7`, or `2: 3 says 9 edition 2 to 6 7`.
+    /// After 'round': `2: 3 says 9 to 6 7`, or `2: 3 says 9 edition 2 to 6 7`; on a shared channel
+    /// `2: 3 says 9`.
     fn take_words(&mut self, line: usize, text: &str) -> Result<(), String> {
-        let form = "expected 'round NUMBER: TERMINAL says LAYOUT to TERMINAL'";
+        let form = match self.shared {
+            Some(_) => "expected 'round NUMBER: TERMINAL says LAYOUT'",
+            None => "expected 'round NUMBER: TERMINAL says LAYOUT to TERMINAL'",
+        };
         let (round, rest) = text.split_once(':').ok_or(form)?;
         let (from, rest) = rest.split_once("says").ok_or(form)?;
-        let (said, hearers) = rest.split_once("to").ok_or(form)?;
-        let (round, from, said) = (round.trim(), from.trim(), said.trim());
+        let (round, from) = (round.trim(), from.trim());
+        let (said, hearers) = match rest.split_once("to") {
+            Some(parts) => {
+                self.not_on_shared("a hearer", NO_HEARER)?;
+                parts
+            }
+            None if self.shared.is_some() => {
+                return self.take_word(line, [round, from, rest.trim()], None)
+            }
+            None => return Err(form.into()),
+        };
         if hearers.trim().is_empty() {
             return Err("expected a terminal after 'to', found nothing".into());
         }
         for hearer in hearers.split_whitespace() {
-            let word = Word {
-                round: number(round, "a round after 'round'")?,
-                from: number(from, "one terminal before 'says'")?,
-                to: number(hearer, "a terminal after 'to'")?,
-                notice: self.notice(line, "says", said)?,
-            };
-            let words = format!("round {round}: {from} says {said} to {hearer}");
-            let place = place_of(line, &words);
-            self.says.push(Part { place, is: word });
+            self.take_word(line, [round, from, said.trim()], Some(hearer))?;
         }
+        Ok(())
+    }
+
+    /// A round, a sender and what it says, to a hearer where one is named.
+    fn take_word(
+        &mut self,
+        line: usize,
+        [round, from, said]: [&str; 3],
+        to: Option<&str>,
+    ) -> Result<(), String> {
+        let hearer = |to: &str| number(to, "a terminal after 'to'");
+        let is = Word {
+            round: number(round, "a round after 'round'")?,
+            from: number(from, "one terminal before 'says'")?,
+            to: to.map(hearer).transpose()?,
+            notice: self.notice(line, "says", said)?,
+        };
+        let to = to.map(|to| format!(" to {to}")).unwrap_or_default();
+        let place = place_of(line, &format!("round {round}: {from} says {said}{to}"));
+        self.says.push(Part { place, is });
         Ok(())
     }
 
@@ -326,8 +382,8 @@ impl Draft {
         )
     }
 
-    /// Without a 'bad' line nobody is bad. Later notices stand in the order of their rounds, and
-    /// those of one round in the order given.
+    /// Without a 'bad' line nobody is bad. A default layout stands before the bad set. Later notices
+    /// stand in the order of their rounds, and those of one round in the order given.
     fn run_frames(&self, start: &Part<Notice>) -> Vec<(String, Vec<Place>)> {
         let (set, place) = match &self.bad {
             Some(bad) => (bad.is, &bad.place),
@@ -336,10 +392,12 @@ impl Draft {
         let rounds = self.rounds.as_ref().map(|rounds| rounds.is);
         let mut places = vec![start.place.clone()];
         places.extend(self.rounds.iter().map(|rounds| rounds.place.clone()));
-        let mut lines = vec![
-            (frames::bad_set(set), vec![place.clone()]),
-            (frames::start(start.is, rounds), places),
-        ];
+        let mut lines = Vec::new();
+        if let Some(Part { place, is }) = &self.default {
+            lines.push((frames::channel(*is), vec![place.clone()]));
+        }
+        lines.push((frames::bad_set(set), vec![place.clone()]));
+        lines.push((frames::start(start.is, rounds), places));
         let mut later: Vec<&Part<Later>> = self.later.iter().collect();
         later.sort_by_key(|part| part.is.round);
         for Part { place, is } in later {
@@ -378,12 +436,21 @@ impl Draft {
 }
 
 /// Words that come after the head.
-const LATER: [&str; 6] = ["name", "at", "bad", "value", "rounds", "round"];
+const LATER: [&str; 7] = ["name", "at", "shared", "bad", "value", "rounds", "round"];
 
 fn unknown(text: &str) -> String {
     format!(
         "expected 'terminals', 'source', 'bound', a link 'A > B' or 'A - B', or a word of './hulmayek help text', found '{text}'"
     )
+}
+
+/// After 'shared': `channel, default 7`. The comma may be left out.
+fn default_of(text: &str) -> Result<u16, String> {
+    let words: Vec<&str> = text.split_whitespace().collect();
+    match &words[..] {
+        ["channel" | "channel,", "default", rest @ ..] => layout("default", &rest.join(" ")),
+        _ => Err("expected 'shared channel, default LAYOUT'".into()),
+    }
 }
 
 fn take_once<T>(part: &mut Option<Part<T>>, line: usize, text: &str, is: T) -> Result<(), String> {

@@ -1,6 +1,7 @@
 //! Who took what in which round: the proved `run` is asked for 0, 1, 2, .. rounds of the same run.
 
 use crate::ask::Programs;
+use crate::channel;
 use crate::document::Document;
 use crate::frames::{Run, State};
 use crate::notice::Notice;
@@ -65,9 +66,13 @@ fn table(run: &Run, course: &Course) -> String {
 fn story(document: &Document, run: &Run, course: &Course) -> String {
     let mut text = String::new();
     for (round, states) in course.iter().enumerate() {
-        let mut events = lies(document, run, round);
+        let mut events: Vec<String> = channel::silence(document, run, round).into_iter().collect();
+        events.extend(lies(document, run, round));
         match round.checked_sub(1) {
-            None => events.extend(has(document, states)),
+            None => {
+                events.extend(channel::at_the_start(document, run));
+                events.extend(has(document, states));
+            }
             Some(last) => {
                 let changes = changes(states, &course[last]);
                 events.extend(takes(document, &changes));
@@ -79,20 +84,25 @@ fn story(document: &Document, run: &Run, course: &Course) -> String {
     text + &summary(document, run, &course[course.len() - 1])
 }
 
-/// What the bad ones say, words alike together.
+/// What the bad ones say, words alike together; on a shared channel without their hearers.
 fn lies(document: &Document, run: &Run, round: usize) -> Vec<String> {
     let mut said: BTreeMap<(u8, Notice), Vec<u8>> = BTreeMap::new();
     for word in &run.words {
         if usize::from(word.round) == round {
             let hearers = said.entry((word.from, word.notice)).or_default();
-            hearers.push(word.to);
+            hearers.extend(word.to);
         }
     }
-    let extras = &document.extras;
+    let (extras, source) = (&document.extras, document.plan().source);
     said.into_iter()
         .map(|((from, notice), hearers)| {
-            let (from, hearers) = (extras.called(from), extras.listed(&hearers));
-            format!("bad {from} says {notice} to {hearers}")
+            let called = extras.called(from);
+            let is = if from == source { ", the source," } else { "" };
+            let to = match run.default {
+                Some(_) => String::new(),
+                None => format!(" to {}", extras.listed(&hearers)),
+            };
+            format!("bad {called}{is} says {notice}{to}")
         })
         .collect()
 }
@@ -153,7 +163,7 @@ fn summary(document: &Document, run: &Run, states: &[(u8, State)]) -> String {
     let good = taken.len() + waiting.len();
     let have = match run.start.edition {
         Some(_) => with_editions(document, run, states, good),
-        None => without_editions(run, states, &taken, good),
+        None => without_editions(run.carried(document.plan().source), states, &taken, good),
     };
     format!(
         "after {}: {have}; waiting: {}; bad: {}\n",
@@ -163,13 +173,15 @@ fn summary(document: &Document, run: &Run, states: &[(u8, State)]) -> String {
     )
 }
 
-fn without_editions(run: &Run, states: &[(u8, State)], taken: &[u8], good: usize) -> String {
+/// What is carried is all that a good one may have; a bad source has none itself.
+fn without_editions(carried: Notice, states: &[(u8, State)], taken: &[u8], good: usize) -> String {
     let other = states
         .iter()
-        .any(|(_, state)| matches!(state, State::Taken { notice, .. } if *notice != run.start));
-    let layout = match other {
-        true => "a layout, NOT ALL THE SAME".into(),
-        false => format!("layout {}", run.start),
+        .any(|(_, state)| matches!(state, State::Taken { notice, .. } if *notice != carried));
+    let layout = match (other, taken) {
+        (true, _) => "a layout, NOT ALL THE SAME".into(),
+        (false, []) => return format!("0 of {good} good terminals have a layout"),
+        (false, _) => format!("layout {carried}"),
     };
     format!(
         "{} of {good} good terminals have {layout}, the last since round {}",

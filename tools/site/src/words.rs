@@ -5,7 +5,7 @@ use crate::document::{Document, Extras};
 use crate::frames::{self, Plan, Refusal, Run, State, Verdict, DEAF, EDITION, GROUPS};
 use crate::groups::{self, Limit};
 use crate::notice::Later;
-use crate::Trouble;
+use crate::{channel, Trouble};
 
 /// The lines under a verdict's frame. How fast a notice is when nobody lies is asked of `run`.
 pub fn of_verdict(
@@ -144,6 +144,7 @@ pub fn of_states(document: &Document, states: &[(u8, State)]) -> Vec<String> {
     [played]
         .into_iter()
         .chain(last_notice(&plan, &run))
+        .chain(channel::told(document, &run, states))
         .chain(states.iter().map(line))
         .collect()
 }
@@ -174,19 +175,19 @@ pub fn cause(refusal: &Refusal) -> &'static str {
     match (refusal.cause, refusal.line) {
         (1, 0) => "file empty or too long",
         (1, _) => "foreign character, empty line, odd digits, no line end",
-        (2, _) => "unknown kind, one this program lacks, wrong length, or not of the start's form",
+        (2, _) => "unknown kind, one this program lacks, wrong length, or not of the start's form or the channel's",
         (3, 0) => "03 or 04 missing at the end",
-        (3, _) => "frame out of order; 01, 03 or 04 repeated; rounds of 08 that do not rise",
+        (3, _) => "frame out of order; 01, 03, 04 or 09 repeated; rounds of 08 that do not rise",
         (4, _) => "n, source or f out of range",
         (5, _) => "link end at or above n, or to itself",
         (6, _) => "link given twice",
-        (7, _) => "bad set names the source or a number at or above n",
+        (7, _) => "bad set names the source, where no channel is shared, or a number at or above n",
         (8, _) => "a good terminal hears more than f of it, or it is part of no group",
-        (9, _) => "value or layout 0, or rounds above 40",
+        (9, _) => "value, layout or default 0, or rounds above 40",
         (10, _) => {
             "word with round 0 or past the last, no such link, good sender, value or edition 0"
         }
-        (11, _) => "second word on one link in one round",
+        (11, _) => "second word on one link, or on a shared channel of one sender, in one round",
         (DEAF, _) => "a terminal other than the source hears nobody",
         (EDITION, _) => "edition 0, or not above the source's last",
         (GROUPS, 0) => "no group, where the head has ff for f",

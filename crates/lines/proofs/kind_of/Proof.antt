@@ -63,10 +63,18 @@ unfolding kindOf
 returns-7 c = let kind = c .before .before .before .before .before .before .before .before .before .args .kind in
     c .later-of .ensures ∙ sym (pick-no _ _ _ (ne-eqb kind 1 (c .before .before .before .before .before .before .before .if1 .left)) ∙ pick-no _ _ _ (ne-eqb kind 2 (c .before .before .before .before .before .before .if2 .left)) ∙ pick-no _ _ _ (ne-eqb kind 3 (c .before .before .before .before .before .if3 .left)) ∙ pick-no _ _ _ (ne-eqb kind 4 (c .before .before .before .before .if4 .left)) ∙ pick-no _ _ _ (ne-eqb kind 5 (c .before .before .before .if5 .left)) ∙ pick-no _ _ _ (ne-eqb kind 7 (c .before .before .if6 .left)) ∙ pick-yes _ _ _ (eq-eqb kind 8 (c .before .if7 .taken)))
 
+channel-of-requires : tie.Need-channel-of-requires
+channel-of-requires c κs = search needs
+
 returns-8 : tie.Need-returns-8
 unfolding kindOf
-returns-8 c = let kind = c .before .before .before .before .before .before .before .before .args .kind in
-    sym (pick-no _ _ _ (ne-eqb kind 1 (c .before .before .before .before .before .before .if1 .left)) ∙ pick-no _ _ _ (ne-eqb kind 2 (c .before .before .before .before .before .if2 .left)) ∙ pick-no _ _ _ (ne-eqb kind 3 (c .before .before .before .before .if3 .left)) ∙ pick-no _ _ _ (ne-eqb kind 4 (c .before .before .before .if4 .left)) ∙ pick-no _ _ _ (ne-eqb kind 5 (c .before .before .if5 .left)) ∙ pick-no _ _ _ (ne-eqb kind 7 (c .before .if6 .left)) ∙ pick-no _ _ _ (ne-eqb kind 8 (c .if7 .left)))
+returns-8 c = let kind = c .before .before .before .before .before .before .before .before .before .before .args .kind in
+    c .channel-of .ensures ∙ sym (pick-no _ _ _ (ne-eqb kind 1 (c .before .before .before .before .before .before .before .before .if1 .left)) ∙ pick-no _ _ _ (ne-eqb kind 2 (c .before .before .before .before .before .before .before .if2 .left)) ∙ pick-no _ _ _ (ne-eqb kind 3 (c .before .before .before .before .before .before .if3 .left)) ∙ pick-no _ _ _ (ne-eqb kind 4 (c .before .before .before .before .before .if4 .left)) ∙ pick-no _ _ _ (ne-eqb kind 5 (c .before .before .before .before .if5 .left)) ∙ pick-no _ _ _ (ne-eqb kind 7 (c .before .before .before .if6 .left)) ∙ pick-no _ _ _ (ne-eqb kind 8 (c .before .before .if7 .left)) ∙ pick-yes _ _ _ (eq-eqb kind 9 (c .before .if8 .taken)))
+
+returns-9 : tie.Need-returns-9
+unfolding kindOf
+returns-9 c = let kind = c .before .before .before .before .before .before .before .before .before .args .kind in
+    sym (pick-no _ _ _ (ne-eqb kind 1 (c .before .before .before .before .before .before .before .if1 .left)) ∙ pick-no _ _ _ (ne-eqb kind 2 (c .before .before .before .before .before .before .if2 .left)) ∙ pick-no _ _ _ (ne-eqb kind 3 (c .before .before .before .before .before .if3 .left)) ∙ pick-no _ _ _ (ne-eqb kind 4 (c .before .before .before .before .if4 .left)) ∙ pick-no _ _ _ (ne-eqb kind 5 (c .before .before .before .if5 .left)) ∙ pick-no _ _ _ (ne-eqb kind 7 (c .before .before .if6 .left)) ∙ pick-no _ _ _ (ne-eqb kind 8 (c .before .if7 .left)) ∙ pick-no _ _ _ (ne-eqb kind 9 (c .if8 .left)))
 
 pub kind-of-spec : {M : Type 1} → statement M
 kind-of-spec =
@@ -86,4 +94,6 @@ kind-of-spec =
     returns-6
     later-of-requires
     returns-7
-    returns-8)
+    channel-of-requires
+    returns-8
+    returns-9)

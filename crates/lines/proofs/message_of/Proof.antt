@@ -44,10 +44,24 @@ unfolding messageOf
 returns-2 c = let n = length (c .before .before .before .before .before .before .before .before .args .bytes .now) in
     simp (c .before .pair-at2 .ensures, c .pair-at3 .ensures) (sym (pick-no _ _ _ (ne-eqb n 6 (c .before .before .before .before .before .before .if1 .left)) ∙ pick-yes _ _ _ (eq-eqb n 8 (c .before .before .before .before .before .if2 .taken))))
 
+shared-slice-read-t22 : tie.Need-shared-slice-read-t22
+shared-slice-read-t22 c = search needs
+
+shared-slice-read-t24 : tie.Need-shared-slice-read-t24
+shared-slice-read-t24 c = search needs
+
+pair-at-requires-4 : tie.Need-pair-at-requires-4
+pair-at-requires-4 c κs = search needs
+
 returns-3 : tie.Need-returns-3
 unfolding messageOf
-returns-3 c = let n = length (c .before .before .before .args .bytes .now) in
-    sym (pick-no _ _ _ (ne-eqb n 6 (c .before .if1 .left)) ∙ pick-no _ _ _ (ne-eqb n 8 (c .if2 .left)))
+returns-3 c = let n = length (c .before .before .before .before .before .before .before .args .bytes .now) in
+    simp (c .pair-at4 .ensures) (sym (pick-no _ _ _ (ne-eqb n 6 (c .before .before .before .before .before .if1 .left)) ∙ pick-no _ _ _ (ne-eqb n 8 (c .before .before .before .before .if2 .left)) ∙ pick-yes _ _ _ (eq-eqb n 5 (c .before .before .before .if3 .taken))))
+
+returns-4 : tie.Need-returns-4
+unfolding messageOf
+returns-4 c = let n = length (c .before .before .before .before .args .bytes .now) in
+    sym (pick-no _ _ _ (ne-eqb n 6 (c .before .before .if1 .left)) ∙ pick-no _ _ _ (ne-eqb n 8 (c .before .if2 .left)) ∙ pick-no _ _ _ (ne-eqb n 5 (c .if3 .left)))
 
 pub message-of-spec : {M : Type 1} → statement M
 message-of-spec =
@@ -64,4 +78,8 @@ message-of-spec =
     pair-at-requires-2
     pair-at-requires-3
     returns-2
-    returns-3)
+    shared-slice-read-t22
+    shared-slice-read-t24
+    pair-at-requires-4
+    returns-3
+    returns-4)

@@ -11,7 +11,9 @@ returns : tie.Need-returns
 returns c = run-refused _ _ _ (c .before .if1 .taken) (c .refusal .ensures)
 
 ran-requires : tie.Need-ran-requires
-ran-requires c κs = (c .before .before .before .before .before .pre .0 (c .before .if1 .left), c .before .before .before .before .before .pre .1, c .before .before .before .before .before .pre .2)
+ran-requires c κs =
+    let p = c .before .before .before .before .before .pre in
+    (p .0 (c .before .if1 .left), p .1 (c .before .if1 .left), p .2, p .3)
 
 returns-2 : tie.Need-returns-2
 returns-2 c = run-told _ _ _ (c .before .before .if1 .left) (c .ran .ensures)

@@ -1,50 +1,31 @@
--- An accepted file's run is not refused, so the records show those of the rules. Assumes nothing.
+-- Which of the two runs was asked for. Assumes nothing.
 use mathlib.Core.Path.{sym, _∙_}
-use native.Mathlib.Omega.{arith}
-use lib.Seq.{length-take-le}
-use Rattle.run_output.proofs.SiteLaws.{square-small, end-within, rounds-within, ran-lines}
+use Rattle.frames.specs.Reading.{both}
+use Rattle.run_output.proofs.SiteLaws.{told-shared, told-linked}
 use borrow.Author.Needs.{needs}
 use Rattle.run_output.proofs.ran.Statement.{statement}
 use Rattle.run_output.proofs.ran.Tie as tie
 
-cast-rounds : tie.Need-cast-rounds
-cast-rounds c = search needs
+is-shared-requires : tie.Need-is-shared-requires
+is-shared-requires c κs = search needs
 
-mul-end : tie.Need-mul-end
-mul-end c = let k = c .before .before .before .before in
-    record { fits = omega (arith, square-small (k .args .p) (k .args .words .now) (k .args .later .now) (k .pre .0) (k .pre .1) (k .pre .2)) }
-
-mul-end-2 : tie.Need-mul-end-2
-mul-end-2 c = let k = c .before .before .before .before in
-    record { fits = omega (arith, end-within (k .args .p) (k .args .words .now) (k .args .later .now) (k .pre .0) (k .pre .1) (k .pre .2), k .pre .1) }
-
-slice-aggregate-run-site : tie.Need-slice-aggregate-run-site
-slice-aggregate-run-site c = let k = c .before .before .before .before .before in
-    sym (length-take-le _ (k .args .later .now) (rounds-within (k .args .p) (k .args .words .now) (k .args .later .now) (k .pre .0) (k .pre .1) (k .pre .2)))
-
-slice-aggregate-run-site-2 : tie.Need-slice-aggregate-run-site-2
-slice-aggregate-run-site-2 c = let k = c .before .before .before .before .before .before in
-    sym (length-take-le _ (k .args .words .now) (end-within (k .args .p) (k .args .words .now) (k .args .later .now) (k .pre .0) (k .pre .1) (k .pre .2)))
-
-run-site-requires : tie.Need-run-site-requires
-run-site-requires c κs = search needs
-
-of-site-requires : tie.Need-of-site-requires
-of-site-requires c κs = search needs
+ran-shared-requires : tie.Need-ran-shared-requires
+ran-shared-requires c κs =
+    let p = c .before .before .before .before .pre in (p .0 (sym (c .before .is-shared .ensures) ∙ c .if1 .taken), p .2)
 
 returns : tie.Need-returns
-returns c = let k = c .before .before .before .before .before .before .before .before .before in
-    c .of-site .ensures ∙ ran-lines (k .args .p) (k .args .words .now) (k .args .later .now) (k .pre .0) (k .pre .1) (k .pre .2) _ (c .before .before .run-site .ensures .1 .0)
+returns c =
+    let a = c .before .before .before .before .before .args in
+    told-shared (a .p) (both (a .words .now) (a .later .now)) _ (sym (c .before .before .is-shared .ensures) ∙ c .before .if1 .taken) (c .ran-shared .ensures)
+
+ran-linked-requires : tie.Need-ran-linked-requires
+ran-linked-requires c κs =
+    let p = c .before .before .before .before .pre in (p .1 (sym (c .before .is-shared .ensures) ∙ c .if1 .left), p .2, p .3)
+
+returns-2 : tie.Need-returns-2
+returns-2 c =
+    let a = c .before .before .before .before .before .args in
+    told-linked (a .p) (both (a .words .now) (a .later .now)) _ (sym (c .before .before .is-shared .ensures) ∙ c .before .if1 .left) (c .ran-linked .ensures)
 
 pub ran-spec : {M : Type 1} → statement M
-ran-spec =
-    tie.close
-    (tie.spec
-    cast-rounds
-    mul-end
-    mul-end-2
-    slice-aggregate-run-site
-    slice-aggregate-run-site-2
-    run-site-requires
-    of-site-requires
-    returns)
+ran-spec = tie.close (tie.spec is-shared-requires ran-shared-requires returns ran-linked-requires returns-2)

@@ -1,7 +1,7 @@
 -- The text of the file's lines, put into the list. Assumes nothing.
 use mathlib.Core.Path.{_∙_}
 use Rattle.output.proofs.Laws.{put-as}
-use Rattle.run_output.proofs.SiteLaws.{words-room, later-room, read-playable, read-is, ran-is}
+use Rattle.run_output.proofs.SiteLaws.{words-room, later-room, read-playable, read-shared-playable, read-is, ran-is}
 use Rattle.run_output.proofs.RoundsLeftOut.{put-left-out}
 use borrow.Author.Needs.{needs}
 use Rattle.run_output.proofs.run_text.Statement.{statement}
@@ -24,7 +24,7 @@ slice-aggregate-of-run-2 c = search needs
 
 of-run-requires : tie.Need-of-run-requires
 of-run-requires c κs = let r = c .before .before .before .before .read-run in
-    (read-playable _ _ _ _ (r .ensures .0) (r .ensures .1 .0) (r .ensures .1 .1), r .kept .1 .0 ∙ words-room, r .kept .1 .1 .0 ∙ later-room)
+    (read-shared-playable _ _ _ _ (r .ensures .0) (r .ensures .1 .0) (r .ensures .1 .1), read-playable _ _ _ _ (r .ensures .0) (r .ensures .1 .0) (r .ensures .1 .1), r .kept .1 .0 ∙ words-room, r .kept .1 .1 .0 ∙ later-room)
 
 put-requires : tie.Need-put-requires
 put-requires c κs = search needs

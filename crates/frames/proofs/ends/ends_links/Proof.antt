@@ -36,6 +36,12 @@ enum-told-8 c = search needs
 enum-told-9 : tie.Need-enum-told-9
 enum-told-9 c = search needs
 
+enum-told-10 : tie.Need-enum-told-10
+enum-told-10 c = search needs
+
+enum-told-11 : tie.Need-enum-told-11
+enum-told-11 c = search needs
+
 returns : tie.Need-returns
 unfolding endsLinks
 returns c = sym (ap (endsLinks (c .before .before .args .kind)) (c .enum-told .given .1))
@@ -72,6 +78,14 @@ returns-9 : tie.Need-returns-9
 unfolding endsLinks
 returns-9 c = sym (ap (endsLinks (c .before .before .args .kind)) (c .enum-told9 .given .1))
 
+returns-10 : tie.Need-returns-10
+unfolding endsLinks
+returns-10 c = sym (ap (endsLinks (c .before .before .args .kind)) (c .enum-told10 .given .1))
+
+returns-11 : tie.Need-returns-11
+unfolding endsLinks
+returns-11 c = sym (ap (endsLinks (c .before .before .args .kind)) (c .enum-told11 .given .1))
+
 pub ends-links-spec : {M : Type 1} → statement M
 ends-links-spec =
     tie.close
@@ -86,6 +100,8 @@ ends-links-spec =
     enum-told-7
     enum-told-8
     enum-told-9
+    enum-told-10
+    enum-told-11
     returns
     returns-2
     returns-3
@@ -94,4 +110,6 @@ ends-links-spec =
     returns-6
     returns-7
     returns-8
-    returns-9)
+    returns-9
+    returns-10
+    returns-11)

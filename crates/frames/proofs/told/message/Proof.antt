@@ -9,11 +9,11 @@ use Rattle.frames.proofs.TellLaws.{word-parts, word-other, word-unstart
 use Rattle.frames.proofs.told.message.Statement.{statement}
 use Rattle.frames.proofs.told.message.Tie as tie
 
-other-form-requires : tie.Need-other-form-requires
-other-form-requires c κs = search needs
+wrong-form-requires : tie.Need-wrong-form-requires
+wrong-form-requires c κs = search needs
 
 returns : tie.Need-returns
-returns c = (sym (word-other _ _ _ _ _ _ _ _ (sym (c .before .other-form .ensures) ∙ c .if1 .taken)), sym (pick-no _ _ _ refl))
+returns c = (sym (word-other _ _ _ _ _ _ _ _ (sym (c .before .wrong-form .ensures) ∙ c .if1 .taken)), sym (pick-no _ _ _ refl))
 
 is-started-requires : tie.Need-is-started-requires
 is-started-requires c κs = search needs
@@ -31,7 +31,7 @@ slice-read-if4 : tie.Need-slice-read-if4
 slice-read-if4 c = search needs
 
 returns-2 : tie.Need-returns-2
-returns-2 c = (sym (word-again _ _ _ _ _ _ _ _ (sym (c .before .before .before .before .before .before .before .before .other-form .ensures) ∙ c .before .before .before .before .before .before .before .if1 .left) (sym (c .before .before .before .before .before .before .is-started .ensures) ∙ c .before .before .before .before .before .if2 .taken) (sym (c .before .before .before .before .is-word .ensures) ∙ c .before .before .before .if3 .taken) _ (c .before .before .place-of .ensures .0) (c .if4 .taken)), sym (pick-no _ _ _ refl))
+returns-2 c = (sym (word-again _ _ _ _ _ _ _ _ (sym (c .before .before .before .before .before .before .before .before .wrong-form .ensures) ∙ c .before .before .before .before .before .before .before .if1 .left) (sym (c .before .before .before .before .before .before .is-started .ensures) ∙ c .before .before .before .before .before .if2 .taken) (sym (c .before .before .before .before .is-word .ensures) ∙ c .before .before .before .if3 .taken) _ (c .before .before .place-of .ensures .0) (c .if4 .taken)), sym (pick-no _ _ _ refl))
 
 notice-of-requires : tie.Need-notice-of-requires
 notice-of-requires c κs = search needs
@@ -47,21 +47,21 @@ same-length c = search needs
 
 returns-3 : tie.Need-returns-3
 returns-3 c = (
-  sym (word-new _ _ _ _ _ _ _ _ (sym (c .before .before .before .before .before .before .before .before .before .other-form .ensures) ∙ c .before .before .before .before .before .before .before .before .if1 .left) (sym (c .before .before .before .before .before .before .before .is-started .ensures) ∙ c .before .before .before .before .before .before .if2 .taken) (sym (c .before .before .before .before .before .is-word .ensures) ∙ c .before .before .before .before .if3 .taken) _ (c .before .before .before .place-of .ensures .0) (c .before .if4 .left)),
+  sym (word-new _ _ _ _ _ _ _ _ (sym (c .before .before .before .before .before .before .before .before .before .wrong-form .ensures) ∙ c .before .before .before .before .before .before .before .before .if1 .left) (sym (c .before .before .before .before .before .before .before .is-started .ensures) ∙ c .before .before .before .before .before .before .if2 .taken) (sym (c .before .before .before .before .before .is-word .ensures) ∙ c .before .before .before .before .if3 .taken) _ (c .before .before .before .place-of .ensures .0) (c .before .if4 .left)),
   ap₂ (λ (k x : ℕ). set (c .before .before .before .before .before .before .before .before .before .before .before .before .args .words .now) k x) (c .before .before .before .place-of .ensures .0) (c .notice-of .ensures) ∙ sym (pick-yes _ _ _ refl),
 )
 
 returns-4 : tie.Need-returns-4
-returns-4 c = (sym (no-word _ _ _ _ _ _ _ _ (sym (c .before .before .before .before .before .other-form .ensures) ∙ c .before .before .before .before .if1 .left) (sym (c .before .before .before .is-started .ensures) ∙ c .before .before .if2 .taken) (sym (c .before .is-word .ensures) ∙ c .if3 .left)), sym (pick-no _ _ _ refl))
+returns-4 c = (sym (no-word _ _ _ _ _ _ _ _ (sym (c .before .before .before .before .before .wrong-form .ensures) ∙ c .before .before .before .before .if1 .left) (sym (c .before .before .before .is-started .ensures) ∙ c .before .before .if2 .taken) (sym (c .before .is-word .ensures) ∙ c .if3 .left)), sym (pick-no _ _ _ refl))
 
 returns-5 : tie.Need-returns-5
-returns-5 c = (sym (word-unstarted _ _ _ _ _ _ _ _ (sym (c .before .before .before .other-form .ensures) ∙ c .before .before .if1 .left) (sym (c .before .is-started .ensures) ∙ c .if2 .left)), sym (pick-no _ _ _ refl))
+returns-5 c = (sym (word-unstarted _ _ _ _ _ _ _ _ (sym (c .before .before .before .wrong-form .ensures) ∙ c .before .before .if1 .left) (sym (c .before .is-started .ensures) ∙ c .if2 .left)), sym (pick-no _ _ _ refl))
 
 pub message-spec : {M : Type 1} → statement M
 message-spec =
     tie.close
     (tie.spec
-    other-form-requires
+    wrong-form-requires
     returns
     is-started-requires
     is-word-requires

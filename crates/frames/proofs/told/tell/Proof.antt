@@ -40,23 +40,29 @@ group-requires c κs = search needs
 enum-known-frame-4 : tie.Need-enum-known-frame-4
 enum-known-frame-4 c = search needs
 
-fault-set-requires : tie.Need-fault-set-requires
-fault-set-requires c κs = search needs
+channel-requires : tie.Need-channel-requires
+channel-requires c κs = search needs
 
 enum-known-frame-5 : tie.Need-enum-known-frame-5
 enum-known-frame-5 c = search needs
 
-start-requires : tie.Need-start-requires
-start-requires c κs = search needs
+fault-set-requires : tie.Need-fault-set-requires
+fault-set-requires c κs = search needs
 
 enum-known-frame-6 : tie.Need-enum-known-frame-6
 enum-known-frame-6 c = search needs
 
-later-notice-requires : tie.Need-later-notice-requires
-later-notice-requires c κs = search needs
+start-requires : tie.Need-start-requires
+start-requires c κs = search needs
 
 enum-known-frame-7 : tie.Need-enum-known-frame-7
 enum-known-frame-7 c = search needs
+
+later-notice-requires : tie.Need-later-notice-requires
+later-notice-requires c κs = search needs
+
+enum-known-frame-8 : tie.Need-enum-known-frame-8
+enum-known-frame-8 c = search needs
 
 cast-message : tie.Need-cast-message
 cast-message c = search needs
@@ -69,6 +75,18 @@ message-requires c κs = search needs
 
 spoken-requires : tie.Need-spoken-requires
 spoken-requires c κs = search needs
+
+enum-known-frame-9 : tie.Need-enum-known-frame-9
+enum-known-frame-9 c = search needs
+
+cast-broadcast : tie.Need-cast-broadcast
+cast-broadcast c = search needs
+
+broadcast-requires : tie.Need-broadcast-requires
+broadcast-requires c κs = search needs
+
+spoken-requires-2 : tie.Need-spoken-requires-2
+spoken-requires-2 c κs = search needs
 
 returns : tie.Need-returns
 unfolding causeIn saidAfter
@@ -92,25 +110,36 @@ returns-5 c = told-by _ _ _ _ _ _ (c .before .before .frame3 .given .1) (c .grou
 
 returns-6 : tie.Need-returns-6
 unfolding causeIn saidAfter
-returns-6 c = told-by _ _ _ _ _ _ (c .before .before .frame4 .given .1) (c .fault-set .ensures .0) (c .fault-set .ensures .1) (either _ _)
+returns-6 c = told-by _ _ _ _ _ _ (c .before .before .frame4 .given .1) (c .channel .ensures .0) (c .channel .ensures .1) (either _ _)
 
 returns-7 : tie.Need-returns-7
 unfolding causeIn saidAfter
-returns-7 c = told-by _ _ _ _ _ _ (c .before .before .frame5 .given .1) (c .start .ensures .0) (c .start .ensures .1) (either _ _)
+returns-7 c = told-by _ _ _ _ _ _ (c .before .before .frame5 .given .1) (c .fault-set .ensures .0) (c .fault-set .ensures .1) (either _ _)
+
+returns-8 : tie.Need-returns-8
+unfolding causeIn saidAfter
+returns-8 c = told-by _ _ _ _ _ _ (c .before .before .frame6 .given .1) (c .start .ensures .0) (c .start .ensures .1) (either _ _)
 
 same-length : tie.Need-same-length
 same-length c = search needs
 
-returns-8 : tie.Need-returns-8
+returns-9 : tie.Need-returns-9
 unfolding causeIn saidAfter
-returns-8 c = told-by _ _ _ _ _ _ (c .before .before .before .before .before .frame6 .given .1) (c .before .before .later-notice .ensures .0) (c .before .before .later-notice .ensures .1) (changed-later _ _ _ _ _ (c .before .before .later-notice .ensures .2))
+returns-9 c = told-by _ _ _ _ _ _ (c .before .before .before .before .before .frame7 .given .1) (c .before .before .later-notice .ensures .0) (c .before .before .later-notice .ensures .1) (changed-later _ _ _ _ _ (c .before .before .later-notice .ensures .2))
 
 same-length-2 : tie.Need-same-length-2
 same-length-2 c = search needs
 
-returns-9 : tie.Need-returns-9
+returns-10 : tie.Need-returns-10
 unfolding causeIn saidAfter after
-returns-9 c = told-by _ _ _ _ _ _ (c .before .before .before .before .before .before .frame7 .given .1) (c .before .before .before .message .ensures .0) (λ z. c .spoken .ensures) (changed-words _ _ _ _ _ (c .before .before .before .message .ensures .1))
+returns-10 c = told-by _ _ _ _ _ _ (c .before .before .before .before .before .before .frame8 .given .1) (c .before .before .before .message .ensures .0) (λ z. c .spoken .ensures) (changed-words _ _ _ _ _ (c .before .before .before .message .ensures .1))
+
+same-length-3 : tie.Need-same-length-3
+same-length-3 c = search needs
+
+returns-11 : tie.Need-returns-11
+unfolding causeIn saidAfter after
+returns-11 c = told-by _ _ _ _ _ _ (c .before .before .before .before .before .before .frame9 .given .1) (c .before .before .before .broadcast .ensures .0) (λ z. c .spoken2 .ensures) (changed-words _ _ _ _ _ (c .before .before .before .broadcast .ensures .1))
 
 pub tell-spec : {M : Type 1} → statement M
 tell-spec =
@@ -127,16 +156,22 @@ tell-spec =
     enum-known-frame-3
     group-requires
     enum-known-frame-4
-    fault-set-requires
+    channel-requires
     enum-known-frame-5
-    start-requires
+    fault-set-requires
     enum-known-frame-6
-    later-notice-requires
+    start-requires
     enum-known-frame-7
+    later-notice-requires
+    enum-known-frame-8
     cast-message
     cast-message-2
     message-requires
     spoken-requires
+    enum-known-frame-9
+    cast-broadcast
+    broadcast-requires
+    spoken-requires-2
     returns
     returns-2
     returns-3
@@ -144,7 +179,10 @@ tell-spec =
     returns-5
     returns-6
     returns-7
-    same-length
     returns-8
+    same-length
+    returns-9
     same-length-2
-    returns-9)
+    returns-10
+    same-length-3
+    returns-11)
