@@ -30,3 +30,15 @@ static int same(const hulmayek_record *a, const hulmayek_record *b) {
 static int took(const hulmayek_record *r, unsigned at, uint32_t notice) {
     return r->taken == 1 && r->at == at && r->notice == notice;
 }
+
+/* A record with something in each part, so that a part that is lost shows. */
+static inline hulmayek_record full(void) {
+    hulmayek_record r = hulmayek_start();
+    r.round = HULMAYEK_ROUNDS - 1;
+    for (size_t j = 0; j < HULMAYEK_TERMINALS; j++) {
+        r.notes[j].edition = (uint16_t)(j + 1000);
+        r.notes[j].count = (uint8_t)(j + 1);
+        for (size_t i = 0; i < HULMAYEK_ROUNDS; i++) r.notes[j].values[i] = (uint16_t)(100 * j + i + 1);
+    }
+    return r;
+}

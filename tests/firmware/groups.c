@@ -60,18 +60,6 @@ static void source(void) {
     expect(a.number == 0 && took(&a.after, 0, L7) && a.after.round == 1, "the source plays its round");
 }
 
-/* A record with something in each part, so that a part that is lost shows. */
-static hulmayek_record full(void) {
-    hulmayek_record r = hulmayek_start();
-    r.round = HULMAYEK_ROUNDS - 1;
-    for (size_t j = 0; j < HULMAYEK_TERMINALS; j++) {
-        r.notes[j].edition = (uint16_t)(j + 1000);
-        r.notes[j].count = (uint8_t)(j + 1);
-        for (size_t i = 0; i < HULMAYEK_ROUNDS; i++) r.notes[j].values[i] = (uint16_t)(100 * j + i + 1);
-    }
-    return r;
-}
-
 static void refused(size_t n, hulmayek_groups groups, uint32_t heard, hulmayek_record r, size_t len, int number, const char *what) {
     static const uint32_t said[21] = {L7};
     hulmayek_answer a = hulmayek_group_step(n, 0, groups, 4, heard, r, said, len);

@@ -3,13 +3,11 @@
 use Prim.Native.Nat.{ℕ, zero, suc, _+_, _-_, _≤_, _<_}
 use mathlib.Core.Path.{_≡_, refl, sym, ap, _∙_, subst}
 use mathlib.Core.Logic.{_⊎_, ⊎-elim}
-use mathlib.Core.Bool.{Bool, true, false, not}
+use mathlib.Core.Bool.{Bool, true, false}
 use mathlib.Core.List.{List}
 use native.Mathlib.Omega.{arith}
-use lib.Dec.{eqb}
 use lib.ListN.{length}
 use borrow.Author.Tests.{eq-eqb, ne-eqb}
-use Rattle.sets.specs.Tests.{_and_}
 use Rattle.sets.specs.Sets.{mem}
 use Rattle.sets.proofs.Bools.{clash, decide, and-i, and-no-l, not-i, pick-yes, pick-no, pick-case}
 use Rattle.sets.proofs.Laws.{equal-or-not}
@@ -17,12 +15,12 @@ use Rattle.quorum.specs.Notice.{noticeOf, editionOf, layoutOf, silent, firstEdi
 use Rattle.quorum.proofs.Notices.{edition-notice, layout-notice, silent-zero, first-silence, first-said, first-edition-le, first-notice}
 use Rattle.terminal.specs.declared.State.{State}
 use Rattle.terminal.specs.declared.State.the-variants.{Waiting, Taken}
-use Rattle.terminal.specs.Rule.{Spoken, View, start, sourceStart, spokenBy, heldBy, step, saysIn}
+use Rattle.terminal.specs.Rule.{Spoken, View, sourceStart, spokenBy, step, saysIn}
 use Rattle.terminal.specs.Regular.{Regular}
 use Rattle.terminal.specs.Channel.{firstHearing, wordOr, sharedStep}
 use Rattle.terminal.proofs.Laws as laws
 use Rattle.terminal.proofs.Laws.{notedEdition, start-regular, source-start-regular, start-edition, source-start-edition, held-waiting, held-taken}
-use Rattle.terminal.proofs.Unheard.{SameView, step-view}
+use Rattle.terminal.proofs.Unheard.{step-view}
 use Rattle.terminal.proofs.SharedChannel.{first-waits, first-deaf, first-taken, word-said, shared-round, shared-notes, shared-first, shared-else, shared-regular}
 use Rattle.plan.specs.declared.Plan.{Plan}
 use Rattle.plan.specs.Plan as plan
@@ -32,12 +30,12 @@ use Rattle.closure.specs.FaultSet.{isFaultSet, besideSource, isSharedFaultSet}
 use Rattle.closure.specs.Verdict.{verdict}
 use Rattle.closure.proofs.Faults.{fault-source, shared-below, shared-beside, mem-beside}
 use Rattle.propagation.specs.Run.{Office, oneNotice, startRecord, lastIssued, Rising, Quiet, site}
-use Rattle.propagation.specs.Demand3.{Good, Demand3}
-use Rattle.propagation.specs.Channel.{SharedScript, sharedSite, carried, toAll, trustedSite, AsTrusted, Layouts, Agreement}
+use Rattle.propagation.specs.Demand3.{Good}
+use Rattle.propagation.specs.Channel.{SharedScript, sharedSite, carried, toAll, AsTrusted, Layouts, Agreement}
 use Rattle.propagation.proofs.Offices.{one-rises}
 use Rattle.propagation.proofs.Steps.{spoken-noted, holds-source}
 use Rattle.propagation.proofs.Rounds.{word, stepped, source-at-start, other-at-start, at-start, at-quiet, word-good, word-faulty, says-then-at, says-why}
-use Rattle.propagation.proofs.Safety.{Safe, state-cases, not-both, same-time, same-held, safe, source-taken, next-state}
+use Rattle.propagation.proofs.Safety.{Safe, state-cases, not-both, safe, source-taken, next-state}
 use Rattle.propagation.proofs.Demand3.{demand3}
 use Rattle.propagation.proofs.SharedRounds.{sharedWord, shared-start, shared-next, shared-good, shared-bad, shared-small}
 

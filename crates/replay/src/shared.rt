@@ -1,5 +1,4 @@
 // The calls on a shared channel: the step, the check of a set, the run by value and over records that are lent.
-ghost use Prim.Native.Nat.{_≤_};
 use super::calls;
 use super::lent;
 use super::lent::Lent;

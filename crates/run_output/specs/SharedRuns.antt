@@ -5,7 +5,6 @@ use mathlib.Core.Path.{_≡_}
 use mathlib.Core.Bool.{true}
 use mathlib.Core.List.{List}
 use Rattle.quorum.specs.Notice.{noticeOf, layoutOf}
-use Rattle.terminal.specs.declared.State.{State}
 use Rattle.terminal.specs.declared.State.the-variants.{Taken}
 use Rattle.closure.specs.Verdict.{verdict}
 use Rattle.propagation.specs.Demand3.{Good}

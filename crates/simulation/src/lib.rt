@@ -8,7 +8,6 @@ ghost use mathlib.Core.List.{[]};
 ghost use lib.ListN.{length, getD};
 ghost use Rattle.faults.specs.Check.{faultNumberOf};
 ghost use Rattle.simulation.specs.Turns.{carried, recordOf, sharedRecordOf, firstTurn, CanPlay, leftAfter};
-ghost use Rattle.faults.specs.Check.{sharedFaultCauseOf};
 ghost use Rattle.quorum.specs.Notice.{noticeOf};
 ghost use Rattle.simulation.specs.Channel.{sharedStartSound, sharedListsFit, sharedRunCause, sharedTurnsOf, sharedRecordsAfter, sharedArrayAfter, AgreementHolds};
 ghost use Rattle.simulation.specs.Answer.{numberOf, officeSound, listsFit, givenCause, runCause, turnsOf, recordsAfter, arrayAfter, Demand3Holds};

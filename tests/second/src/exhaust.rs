@@ -48,19 +48,27 @@ pub struct Totals {
 
 /// Plays the whole space; a violation is told with the plan it was found on.
 pub fn exhaust(fault: Fault) -> Result<Totals, String> {
+    every_plan(check_plan, fault)
+}
+
+/// What is checked of one plan.
+type Check = fn(&Plan, &mut Totals, Fault) -> Result<(), String>;
+
+/// The check on every plan of three terminals.
+pub(crate) fn every_plan(check: Check, fault: Fault) -> Result<Totals, String> {
     let mut totals = Totals::default();
     for bound in all_bounds() {
         for links in subsets(&all_links()) {
             let mut plan = Plan::with(TERMINALS, 0, bound.clone());
             plan.links = links.into_iter().collect();
-            check_plan(&plan, &mut totals, fault).map_err(|what| format!("{what}: {plan:?}"))?;
+            check(&plan, &mut totals, fault).map_err(|what| format!("{what}: {plan:?}"))?;
         }
     }
     Ok(totals)
 }
 
 /// Every f, every group, and every two different groups in either order.
-pub(crate) fn all_bounds() -> Vec<Bound> {
+fn all_bounds() -> Vec<Bound> {
     let groups: Vec<Set> = subsets(&[1, 2])
         .into_iter()
         .map(|members| members.into_iter().collect())
@@ -74,7 +82,7 @@ pub(crate) fn all_bounds() -> Vec<Bound> {
     bounds
 }
 
-pub(crate) fn all_links() -> Vec<(u32, u32)> {
+fn all_links() -> Vec<(u32, u32)> {
     let pairs = (0..TERMINALS).flat_map(|from| (0..TERMINALS).map(move |to| (from, to)));
     pairs.filter(|(from, to)| from != to).collect()
 }

@@ -1,7 +1,7 @@
 //! The whole space of sites with three terminals and one radio for all: every plan, every bad set, with
 //! the source or without it, and every script of two rounds over silence, a smaller and a greater lie.
 
-use crate::exhaust::{all_bounds, all_links, subsets, Totals, ROUNDS, TERMINALS};
+use crate::exhaust::{every_plan, subsets, Totals, ROUNDS, TERMINALS};
 use crate::faults::Fault;
 use crate::notice::{notice, OLD_EDITION};
 use crate::plan::{Plan, Set};
@@ -15,15 +15,7 @@ const WORDS: [u16; 3] = [0, 3, 9];
 
 /// Plays the whole space; a violation is told with the plan it was found on.
 pub fn exhaust_shared(fault: Fault) -> Result<Totals, String> {
-    let mut totals = Totals::default();
-    for bound in all_bounds() {
-        for links in subsets(&all_links()) {
-            let mut plan = Plan::with(TERMINALS, 0, bound.clone());
-            plan.links = links.into_iter().collect();
-            check_plan(&plan, &mut totals, fault).map_err(|what| format!("{what}: {plan:?}"))?;
-        }
-    }
-    Ok(totals)
+    every_plan(check_plan, fault)
 }
 
 /// Someone can be kept waiting exactly if the plan fails, and nobody is ever told two things.

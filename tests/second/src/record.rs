@@ -52,7 +52,7 @@ use crate::rng::Rng;
 use crate::run::{issue, run};
 use crate::shared_files::WAYS as SHARED_WAYS;
 use crate::sites::{noisy_site, wrong_lists, Site};
-use crate::step::{step, Record, Row, State, PLACES, ROWS};
+use crate::step::{step, Place, Record, Row, State, PLACES, ROWS};
 use crate::steps::{step_case, StepCase};
 use crate::verdict::{fault_cause, witness_check};
 use std::fs;
@@ -559,7 +559,7 @@ fn answered_plan(plan: &Plan) -> Vec<u8> {
     .concat()
 }
 
-pub(crate) fn answered_head(n: u32, source: u32, bound: &Bound) -> Vec<u8> {
+fn answered_head(n: u32, source: u32, bound: &Bound) -> Vec<u8> {
     [
         &pair(n as u16)[..],
         &pair(source as u16),
@@ -941,18 +941,24 @@ fn board_call(seed: u64, index: u64) -> (Vec<u8>, Vec<u8>) {
         record,
         said,
     } = step_case(seed, index);
-    // A board that is told f has no place for a group.
-    if place.bound.sort == Sort::Number {
-        place.bound = Bound::f(place.bound.number);
-    }
     let (bytes, record) = board_record(&mut rng, record);
-    let mut call = answered_head(place.n, place.source, &place.bound);
-    call.extend(pair(place.number as u16));
-    call.extend(quad(&place.heard));
-    call.extend(&bytes);
+    let mut call = board_head(&mut place, &bytes);
     call.extend(number_bytes(&said));
     let answer = step(&place, record, &said, Fault::None);
     (call, board_line(answer, &bytes))
+}
+
+/// Where the board stands, and the bytes of its record. A board that is told f has no place for a
+/// group.
+pub(crate) fn board_head(place: &mut Place, record: &[u8]) -> Vec<u8> {
+    if place.bound.sort == Sort::Number {
+        place.bound = Bound::f(place.bound.number);
+    }
+    let mut call = answered_head(place.n, place.source, &place.bound);
+    call.extend(pair(place.number as u16));
+    call.extend(quad(&place.heard));
+    call.extend(record);
+    call
 }
 
 /// A first byte that is neither 0 nor 1, or a waiting record with a round or a notice.

@@ -3,11 +3,11 @@
 
 use crate::channel::{flooded_channel, some_channel};
 use crate::faults::Fault;
-use crate::groups::{Bound, Sort};
+use crate::groups::Bound;
 use crate::lent::{shared_read_case, ReadCase, LATER_PLACES, WORD_PLACES};
 use crate::plan::{set_of, Plan};
 use crate::record::{
-    answered_head, answered_record, board_line, board_record, head_bytes, noise, number, pair,
+    answered_record, board_head, board_line, board_record, head_bytes, noise, number, pair,
     plan_bytes, quad, read_of, record_bytes, rng_for, whole_call, write_lines, Call, LENT_RECORDS,
     RUN,
 };
@@ -64,15 +64,8 @@ fn shared_board(seed: u64, index: u64) -> (Vec<u8>, Vec<u8>) {
         default,
         said,
     } = shared_step_case(seed, index);
-    // A board that is told f has no place for a group.
-    if place.bound.sort == Sort::Number {
-        place.bound = Bound::f(place.bound.number);
-    }
     let (bytes, record) = board_record(&mut rng, record);
-    let mut call = answered_head(place.n, place.source, &place.bound);
-    call.extend(pair(place.number as u16));
-    call.extend(quad(&place.heard));
-    call.extend(&bytes);
+    let mut call = board_head(&mut place, &bytes);
     call.extend(pair(default));
     call.extend(layout_bytes(&said));
     let answer = shared_step(&place, record, default, &said, Fault::None);

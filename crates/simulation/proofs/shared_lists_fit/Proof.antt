@@ -5,7 +5,6 @@ use Rattle.sets.proofs.Bools.{and-yes, and-no-l}
 use Rattle.simulation.specs.Channel.{sharedListsFit}
 use Rattle.simulation.proofs.SharedCauses.{shared-words-le}
 use native.Mathlib.Omega.{arith}
-use borrow.Author.Needs.{needs}
 use Rattle.simulation.proofs.shared_lists_fit.Statement.{statement}
 use Rattle.simulation.proofs.shared_lists_fit.Tie as tie
 

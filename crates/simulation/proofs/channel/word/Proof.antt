@@ -1,6 +1,6 @@
 -- The place is that of the script; past the list's end there is silence. Assumes nothing.
 use Prim.Native.Nat.{_+_, _-_, _*_}
-use mathlib.Core.Path.{sym, ap, _∙_}
+use mathlib.Core.Path.{sym, ap}
 use lib.ListN.{List·getD-eq-default}
 use Rattle.quorum.specs.Notice.{layoutOf}
 use Rattle.quorum.specs.Words.{sharedPlaceOf}
