@@ -3,3 +3,4 @@ pub mod Faults
 pub mod Growth
 pub mod Witness
 pub mod Deaf
+pub mod Quote

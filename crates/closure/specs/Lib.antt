@@ -4,3 +4,4 @@ pub mod Closure
 pub mod Verdict
 pub mod Answer
 pub mod Deaf
+pub mod Quote

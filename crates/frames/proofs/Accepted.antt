@@ -23,7 +23,7 @@ use Rattle.lines.specs.Frames.{frameOf}
 use Rattle.frames.specs.declared.Progress.{Progress}
 use Rattle.frames.specs.declared.Reader.{Reader}
 use Rattle.frames.specs.Lines.{Line, ended, cut, linesFrom}
-use Rattle.frames.specs.Reading.{mostBytes, planReader, runReader, archiveReader, stageOf, inPlan, isStarted, isShared, listsNone, nothingRead, Lists, noLater, nothingSaid, badSetCause, causeIn, endsLinks, linksCause, endCause, after, saidAfter, Reading, refusal, told, reading, whole, planReading, archiveReading, runReading}
+use Rattle.frames.specs.Reading.{mostBytes, planReader, runReader, archiveReader, stageOf, inPlan, isStarted, isShared, listsNone, nothingRead, Lists, noLater, nothingSaid, badSetCause, causeIn, lineCause, endsLinks, linksCause, endCause, after, saidAfter, Reading, refusal, told, reading, whole, planReading, archiveReading, runReading}
 use Rattle.frames.proofs.Unless.{unless-refused}
 use Rattle.frames.proofs.EndLaws.{links-listed, end-here}
 use Rattle.frames.proofs.Built.{Built, Whole, built-whole, built-twenty}
@@ -173,7 +173,7 @@ told-refused reader p said k [] = unless-refused (linksCause reader p) 0 _ (λ n
 told-refused reader p said k (cut line ∷ rest) = λ n. refl
 told-refused reader p said k (ended line ∷ rest) =
     unless-refused (endCause reader p (frameOf (reader .kinds) line)) 0 _
-    (unless-refused (causeIn p said (frameOf (reader .kinds) line)) k _
+    (unless-refused (lineCause reader p said (frameOf (reader .kinds) line)) k _
     (told-refused reader (after p (frameOf (reader .kinds) line)) (saidAfter p said (frameOf (reader .kinds) line)) (k + 1) rest))
 
 pub reading-refused : (reader : Reader) (text : List ℕ) → (reading reader text .number ≡ 0 → ⊥) → reading reader text .progress ≡ nothingRead

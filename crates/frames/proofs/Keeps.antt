@@ -7,13 +7,13 @@ use mathlib.Core.List.{List, [], _∷_, _++_}
 use native.Mathlib.Omega.{arith}
 use lib.Dec.{eqb, leb}
 use lib.ListN.{length, length-append}
-use borrow.Author.Tests.{eq-eqb, ne-eqb, eqb-true, eqb-false, ltb-true, leb-true, leb-false}
+use borrow.Author.Tests.{eq-eqb, ne-eqb, eqb-true, eqb-false, ltb-true, leb-true, leb-false, le-ltb}
 use Rattle.sets.specs.Tests.{_and_, _or_}
 use Rattle.sets.specs.Causes.{_gives_, firstCause}
 use Rattle.sets.proofs.Bools.{clash, and-l, and-r, and-i, and-yes, or-l, or-r, or-e, not-i, not-yes, not-no, pick-case}
 use Rattle.sets.proofs.Causes.{cause-here, cause-none}
 use Rattle.sets.proofs.Laws.{equal-or-not}
-use Rattle.quorum.specs.Quorum.{mostGroups, listed, inRange, others}
+use Rattle.quorum.specs.Quorum.{mostTerminals, mostGroups, listed, inRange, others}
 use Rattle.quorum.specs.Words.{startSound}
 use Rattle.plan.specs.Plan.{hears}
 use Rattle.lines.specs.declared.Form.{Form}
@@ -28,8 +28,9 @@ use Rattle.frames.specs.declared.Stage.the-variants.{Nothing, Links, Sha
 use Rattle.frames.specs.declared.Progress.{Progress}
 use Rattle.frames.specs.declared.Reader.{Reader}
 use Rattle.frames.specs.Lines.{Line, ended, cut, lastLine, linesFrom}
-use Rattle.frames.specs.Reading.{mostBytes, stageOf, isAt, inPlan, isStarted, formOf, otherForm, isShared, wrongForm, hasEdition, kindRead, lists, roundsOf, nothingRead, Lists, nothingSaid, headCause, linkCause, groupCause, channelCause, badSetCause, faultSetCause, startCause, laterCause, messageCause, broadcastCause, causeIn, linksCause, endCause, after, saidAfter, Reading, refusal, told, reading}
+use Rattle.frames.specs.Reading.{mostBytes, stageOf, isAt, inPlan, isStarted, formOf, otherForm, isShared, wrongForm, hasEdition, kindRead, lists, roundsOf, nothingRead, Lists, nothingSaid, headCause, linkCause, groupCause, channelCause, badSetCause, faultSetCause, startCause, laterCause, messageCause, broadcastCause, causeIn, headAbove, lineCause, linksCause, endCause, after, saidAfter, Reading, refusal, told, reading}
 use Rattle.frames.proofs.Unless.{unless-read}
+use Rattle.frames.proofs.Limits.{limit-none, limit-unless}
 use Rattle.frames.proofs.Built.{Built, head-built, link-built, group-built}
 
 -- ---- an accepted frame
@@ -211,6 +212,27 @@ module _ (p : Progress) (said : Lists) where
   frame-built (Message form round from to edition layout) i h = i (λ z. omega (arith, message-accepted form round from to edition layout h))
   frame-built (Broadcast round from layout) i h = i (λ z. omega (arith, broadcast-accepted round from layout h))
 
+-- ---- a reader that takes every plan's terminals: its limit refuses nothing
+
+head-below : (most : ℕ) (p : Progress) (said : Lists) (frame : Frame) → mostTerminals ≤ most → causeIn p said frame ≡ 0 → headAbove most frame ≡ false
+unfolding headAbove inRange
+head-below most p said Foreign m h = refl
+head-below most p said Unknown m h = refl
+head-below most p said (Head n source f) m h =
+    let t = leb-true n mostTerminals (and-l _ _ (and-r _ _ (head-accepted p said n source f h .1))) in le-ltb most n (omega arith)
+head-below most p said (Link from to) m h = refl
+head-below most p said (Group s) m h = refl
+head-below most p said (Channel layout) m h = refl
+head-below most p said (FaultSet s) m h = refl
+head-below most p said (Start form edition layout rounds) m h = refl
+head-below most p said (Later round edition layout) m h = refl
+head-below most p said (Message form round from to edition layout) m h = refl
+head-below most p said (Broadcast round from layout) m h = refl
+
+pub limit-free : (reader : Reader) (p : Progress) (said : Lists) (frame : Frame) → mostTerminals ≤ reader .most
+    → lineCause reader p said frame ≡ causeIn p said frame
+limit-free reader p said frame m = limit-unless reader p said frame (head-below (reader .most) p said frame m)
+
 -- ---- the lines: what every accepted frame leaves, after the first and after a later one, an accepted file leaves
 
 -- a text that is not empty has a line
@@ -230,10 +252,14 @@ module _ (reader : Reader) (p : Progress) (said : Lists) (k : ℕ) (line : List 
   abbrev next : Reading
   next = told reader (after p frame) (saidAfter p said frame) (k + 1) rest
 
-  pub line-ends : (Q : Reading → Type 0) → (endCause reader p frame ≡ 0 → causeIn p said frame ≡ 0 → next .number ≡ 0 → Q next)
+  pub line-causes : (Q : Reading → Type 0) → (endCause reader p frame ≡ 0 → lineCause reader p said frame ≡ 0 → next .number ≡ 0 → Q next)
       → told reader p said k (ended line ∷ rest) .number ≡ 0 → Q (told reader p said k (ended line ∷ rest))
   unfolding told
-  line-ends Q f = unless-read (endCause reader p frame) 0 _ Q (λ a. unless-read (causeIn p said frame) k next Q (f a))
+  line-causes Q f = unless-read (endCause reader p frame) 0 _ Q (λ a. unless-read (lineCause reader p said frame) k next Q (f a))
+
+  pub line-ends : (Q : Reading → Type 0) → (endCause reader p frame ≡ 0 → causeIn p said frame ≡ 0 → next .number ≡ 0 → Q next)
+      → told reader p said k (ended line ∷ rest) .number ≡ 0 → Q (told reader p said k (ended line ∷ rest))
+  line-ends Q f = line-causes Q (λ a c. f a (limit-none reader p said frame c .0))
 
   pub line-read : (Q : Reading → Type 0) → (causeIn p said frame ≡ 0 → next .number ≡ 0 → Q next)
       → told reader p said k (ended line ∷ rest) .number ≡ 0 → Q (told reader p said k (ended line ∷ rest))

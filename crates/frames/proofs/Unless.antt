@@ -23,3 +23,7 @@ module _ (cause line : ℕ) (r : Reading) where
   pub unless-refused : ((r .number ≡ 0 → ⊥) → r .progress ≡ nothingRead) → (unless cause line r .number ≡ 0 → ⊥) → unless cause line r .progress ≡ nothingRead
   unless-refused f =
       pick-case (λ (x : Reading). (x .number ≡ 0 → ⊥) → x .progress ≡ nothingRead) (eqb cause 0) r (refusal cause line) (λ e. f) (λ e n. refl)
+
+  -- a number that neither the cause nor the rest has
+  pub unless-never : {number : ℕ} → (cause ≡ number → ⊥) → (r .number ≡ number → ⊥) → unless cause line r .number ≡ number → ⊥
+  unless-never {number} f g = pick-case (λ (x : Reading). x .number ≡ number → ⊥) (eqb cause 0) r (refusal cause line) (λ e. g) (λ e. f)

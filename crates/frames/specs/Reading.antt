@@ -14,7 +14,7 @@ use Rattle.quorum.specs.Quorum.{mostTerminals, mostGroups, noGroups, atMost, li
 use Rattle.quorum.specs.Notice.{Edition, Layout, noticeOf}
 use Rattle.quorum.specs.Words.{mostRounds, mostWords, startSound, placeOf, sharedPlaceOf}
 use Rattle.plan.specs.declared.Plan.{Plan}
-use Rattle.plan.specs.Plan.{heardBy, hears}
+use Rattle.plan.specs.Plan.{mostQuoted, heardBy, hears}
 use Rattle.plan.specs.Deaf.{deafSet}
 use Rattle.faults.specs.Check.{faultCauseOf, sharedFaultCauseOf}
 use Rattle.lines.specs.declared.Form.{Form}
@@ -45,15 +45,19 @@ planKinds = 2 ^ 1 + 2 ^ 2 + 2 ^ 7
 abbrev pub runKinds : Set
 runKinds = 2 ^ 1 + 2 ^ 2 + 2 ^ 3 + 2 ^ 4 + 2 ^ 5 + 2 ^ 7 + 2 ^ 8 + 2 ^ 9
 
--- the readers of new plans and of runs, and that of the archive, which opens plans with a deaf terminal too (document 02, P6)
+-- the readers of new plans and of runs; that of the archive, which opens plans with a deaf terminal too (document 02, P6); and that of the quoting desk,
+-- which takes fewer terminals (document 02, P5)
 abbrev pub planReader : Reader
-planReader = record { kinds = planKinds; archive = false }
+planReader = record { kinds = planKinds; archive = false; most = mostTerminals }
 
 abbrev pub runReader : Reader
-runReader = record { kinds = runKinds; archive = false }
+runReader = record { kinds = runKinds; archive = false; most = mostTerminals }
 
 abbrev pub archiveReader : Reader
-archiveReader = record { kinds = planKinds; archive = true }
+archiveReader = record { kinds = planKinds; archive = true; most = mostTerminals }
+
+abbrev pub quoteReader : Reader
+quoteReader = record { kinds = planKinds; archive = false; most = mostQuoted }
 
 -- ---- what is known after some lines
 
@@ -245,6 +249,24 @@ causeIn p said (Later round edition layout) = laterCause p round edition layout
 causeIn p said (Message form round from to edition layout) = messageCause p (said .words) form round from to edition layout
 causeIn p said (Broadcast round from layout) = broadcastCause p (said .words) round from layout
 
+-- a head with more terminals than the reader takes
+unfoldable pub headAbove : (most : ℕ) → Frame → Bool
+headAbove most Foreign = false
+headAbove most Unknown = false
+headAbove most (Head n source f) = ltb most n
+headAbove most (Link from to) = false
+headAbove most (Group s) = false
+headAbove most (Channel layout) = false
+headAbove most (FaultSet s) = false
+headAbove most (Start form edition layout rounds) = false
+headAbove most (Later round edition layout) = false
+headAbove most (Message form round from to edition layout) = false
+headAbove most (Broadcast round from layout) = false
+
+-- the causes of a line, by this reader: 14 comes after 3 and 4, and a head has no other (document 02, P5)
+unfoldable pub lineCause : Reader → Progress → Lists → Frame → ℕ
+lineCause reader p said frame = firstCause (given (causeIn p said frame) ∷ headAbove (reader .most) frame gives 14 ∷ [])
+
 -- ---- where the links end (document 02, P6 and P10): at the first line after the head that passes 1 and 2 and is not a link, nor, where groups are
 -- listed, a group; or else at the end of the file
 
@@ -374,7 +396,7 @@ told reader p said k [] = unless (linksCause reader p) 0 (record { number = 0; l
 told reader p said k (cut line ∷ rest) = refusal 1 k
 told reader p said k (ended line ∷ rest) =
     unless (endCause reader p (frameOf (reader .kinds) line)) 0
-    (unless (causeIn p said (frameOf (reader .kinds) line)) k
+    (unless (lineCause reader p said (frameOf (reader .kinds) line)) k
     (told reader (after p (frameOf (reader .kinds) line)) (saidAfter p said (frameOf (reader .kinds) line)) (k + 1) rest))
 
 -- the file's length comes first of all
@@ -391,6 +413,9 @@ planReading text = reading planReader text
 
 unfoldable pub archiveReading : (text : List ℕ) → Reading
 archiveReading text = reading archiveReader text
+
+unfoldable pub quoteReading : (text : List ℕ) → Reading
+quoteReading text = reading quoteReader text
 
 unfoldable pub runReading : (text : List ℕ) → Reading
 runReading text = whole (reading runReader text)

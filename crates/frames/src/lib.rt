@@ -1,4 +1,5 @@
-// Hexadecimal lines: the readers of plan files, new ones and those of the archive, and of run files.
+// Hexadecimal lines: the readers of plan files, new ones, those of the archive and of the quoting desk,
+// and of run files.
 mod deaf;
 mod ends;
 mod told;
@@ -6,7 +7,7 @@ mod told;
 ghost use mathlib.Core.Path.{_≡_};
 ghost use Prim.Native.Nat.{_+_, _<_, _≤_};
 ghost use lib.ListN.{length};
-ghost use Rattle.frames.specs.Reading.{mostBytes, stageOf, formOf, hasEdition, isAt, inPlan, isStarted, otherForm, isShared, wrongForm, unstarted, planned, nothingRead, both, nothingSaid, refusal, reading, planReading, archiveReading, fileRead, archiveRead, runFile, wordsRead, laterRead};
+ghost use Rattle.frames.specs.Reading.{mostBytes, stageOf, formOf, hasEdition, isAt, inPlan, isStarted, otherForm, isShared, wrongForm, unstarted, planned, nothingRead, both, nothingSaid, refusal, reading, planReading, archiveReading, quoteReading, fileRead, archiveRead, runFile, wordsRead, laterRead};
 ghost use Rattle.frames.specs.Pass.{Going};
 use lines::Form;
 use plan::Plan;
@@ -25,11 +26,17 @@ const PLAN_KINDS: u32 = 134;
 
 const RUN_KINDS: u32 = 958;
 
-// What a reader opens: the kinds of frame that it knows, and whether plans with a deaf terminal too, as
-// that of the archive does.
+// The terminals of a plan, and those that the quoting desk may send.
+const MOST_TERMINALS: u8 = 20;
+
+const MOST_QUOTED: u8 = 12;
+
+// What a reader opens: the kinds of frame that it knows, whether plans with a deaf terminal too, as
+// that of the archive does, and how many terminals it takes.
 pub struct Reader {
     pub kinds: u32,
     pub archive: bool,
+    pub most: u8,
 }
 
 // How far a file was read: nothing; the head and perhaps links; groups too; the default layout of a
@@ -246,7 +253,7 @@ fn pass(
                 cause: end,
             };
         }
-        let told = told::tell(known, words, later, frame);
+        let told = told::tell(reader, known, words, later, frame);
         if told.cause != 0 {
             return Cursor {
                 progress: known,
@@ -325,11 +332,26 @@ pub fn read_plan(text: &[u8]) -> FileRead
     let reader = Reader {
         kinds: PLAN_KINDS,
         archive: false,
+        most: MOST_TERMINALS,
     };
     read(reader, text, &mut words, &mut later)
 }
 
-// The plan of such a file, whoever is deaf, and the deaf terminals.
+// The same for the quoting desk: the plan has at most twelve terminals.
+pub fn read_quote(text: &[u8]) -> FileRead
+    ensures { λ r. ⌜ r ≡ fileRead (quoteReading (now (text .entry))) ⌝ }
+{
+    let mut words = [0u32; MOST_WORDS];
+    let mut later = [0u32; MOST_ROUNDS];
+    let reader = Reader {
+        kinds: PLAN_KINDS,
+        archive: false,
+        most: MOST_QUOTED,
+    };
+    read(reader, text, &mut words, &mut later)
+}
+
+// The plan of a plan file, whoever is deaf, and the deaf terminals.
 pub fn read_archive(text: &[u8]) -> ArchiveRead
     ensures { λ r. ⌜ r ≡ archiveRead (archiveReading (now (text .entry))) ⌝ }
 {
@@ -338,6 +360,7 @@ pub fn read_archive(text: &[u8]) -> ArchiveRead
     let reader = Reader {
         kinds: PLAN_KINDS,
         archive: true,
+        most: MOST_TERMINALS,
     };
     let file = read(reader, text, &mut words, &mut later);
     ArchiveRead {
@@ -370,6 +393,7 @@ pub fn read_run(text: &[u8], words: &mut [u32], later: &mut [u32]) -> FileRead
     let reader = Reader {
         kinds: RUN_KINDS,
         archive: false,
+        most: MOST_TERMINALS,
     };
     let file = read(reader, text, &mut said, &mut issued);
     if file.number != 0 {

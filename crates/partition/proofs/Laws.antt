@@ -10,15 +10,16 @@ use Rattle.sets.specs.Sets.{mem, mask, size}
 use Rattle.sets.proofs.Bools.{pick-yes, pick-no, pick-case}
 use Rattle.sets.proofs.Laws.{count-le}
 use Rattle.plan.specs.declared.Plan.{Plan}
-use Rattle.plan.specs.Plan.{causeOf}
-use Rattle.plan.proofs.Laws.{Sound, sound}
+use Rattle.plan.specs.Plan.{causeWithin, causeOf, tooMany}
+use Rattle.plan.proofs.Laws.{Sound, sound, few-cause, within-sound}
 use Rattle.closure.specs.Closure.{reached, cutOff}
 use Rattle.closure.specs.Verdict.{Ahead, defeats, Found, none, found, bestBelow, verdictOf, verdict, accepts}
 use Rattle.closure.proofs.Witness.{IsBest, best-below, verdict-fail, witness-accepted}
+use Rattle.closure.proofs.Quote.{many-refused}
 use Rattle.partition.specs.declared.Judgement.the-variants.{Pass, Fail}
 use Rattle.partition.specs.declared.search.Best.{Best}
 use Rattle.partition.specs.Answer.{answered, Reply, replyOf}
-use Rattle.closure.specs.Answer.{Answer, refused, judged, answerOf}
+use Rattle.closure.specs.Answer.{Answer, refused, judged, answerWithin}
 use Rattle.partition.specs.Search.{StandsFor}
 
 -- ---- the search's memory read as a verdict
@@ -57,13 +58,21 @@ memory-below p best = go (bestBelow p (2 ^ p .n)) (best-below p (2 ^ p .n))
 
 -- ---- the answer by the plan's cause
 
-pub answer-judged : (p : Plan) (a : Answer) → causeOf p ≡ 0 → a ≡ judged (verdict p) → a ≡ answerOf p
-unfolding answerOf
-answer-judged p a e q = q ∙ sym (pick-yes _ _ _ (eq-eqb (causeOf p) 0 e))
+module _ (most : ℕ) (p : Plan) where
+  pub answer-many : tooMany most p ≡ true → refused 14 ≡ answerWithin most p
+  answer-many h = sym (many-refused most p h)
 
-pub answer-refused : (p : Plan) (k : ℕ) → k ≡ causeOf p → (k ≡ 0 → ⊥) → refused k ≡ answerOf p
-unfolding answerOf
-answer-refused p k e z = ap refused e ∙ sym (pick-no _ _ _ (ne-eqb (causeOf p) 0 (λ y. z (e ∙ y))))
+  -- where the limit refuses nothing
+  module _ (few : tooMany most p ≡ false) where
+    pub answer-judged : (a : Answer) → causeOf p ≡ 0 → a ≡ judged (verdict p) → a ≡ answerWithin most p
+    unfolding answerWithin
+    answer-judged a e q = q ∙ sym (pick-yes _ _ _ (eq-eqb (causeWithin most p) 0 (few-cause most p few ∙ e)))
+
+    pub answer-refused : (k : ℕ) → k ≡ causeOf p → (k ≡ 0 → ⊥) → refused k ≡ answerWithin most p
+    unfolding answerWithin
+    answer-refused k e z =
+        let w : k ≡ causeWithin most p = e ∙ sym (few-cause most p few) in
+        ap refused w ∙ sym (pick-no _ _ _ (ne-eqb (causeWithin most p) 0 (λ y. z (w ∙ y))))
 
 -- ---- for callers
 
@@ -87,12 +96,12 @@ pub record Failed (p : Plan) (a : Answer) : Type 0 where
   pub least : (s : ℕ) → defeats p s ≡ true → Ahead p (a .f) s
   pub checked : accepts p (a .f) (a .l) (a .r) ≡ true
 
-pub answer-fails : (p : Plan) → answerOf p .failed ≡ 1 → Failed p (answerOf p)
-unfolding answerOf judged
-answer-fails p =
-    pick-case (λ (a : Answer). a .failed ≡ 1 → Failed p a) (eqb (causeOf p) 0) (judged (verdict p)) (refused (causeOf p))
+pub answer-fails : (most : ℕ) (p : Plan) → answerWithin most p .failed ≡ 1 → Failed p (answerWithin most p)
+unfolding answerWithin judged
+answer-fails most p =
+    pick-case (λ (a : Answer). a .failed ≡ 1 → Failed p a) (eqb (causeWithin most p) 0) (judged (verdict p)) (refused (causeWithin most p))
     (λ e h.
-    let c = eqb-true (causeOf p) 0 e in
+    let c = within-sound most p (eqb-true (causeWithin most p) 0 e) in
     let v = pick-one (verdict p .passed) h in
     let w = verdict-fail p v in
     record {
@@ -105,9 +114,10 @@ answer-fails p =
     })
     (λ e h. absurd (omega arith))
 
-pub with-check : (p : Plan) (a : Answer) → a ≡ answerOf p → (a ≡ answerOf p) × (a .failed ≡ 1 → accepts p (a .f) (a .l) (a .r) ≡ true)
-with-check p a e =
-    (e, subst (λ (x : Answer). x .failed ≡ 1 → accepts p (x .f) (x .l) (x .r) ≡ true) (sym e) (λ h. answer-fails p h .checked))
+pub with-check : (most : ℕ) (p : Plan) (a : Answer) → a ≡ answerWithin most p
+    → (a ≡ answerWithin most p) × (a .failed ≡ 1 → accepts p (a .f) (a .l) (a .r) ≡ true)
+with-check most p a e =
+    (e, subst (λ (x : Answer). x .failed ≡ 1 → accepts p (x .f) (x .l) (x .r) ≡ true) (sym e) (λ h. answer-fails most p h .checked))
 
 -- ---- the witness check's reply by the plan's cause
 

@@ -15,6 +15,7 @@ abbrev pub answered : Judgement → Answer
 answered judgement.Pass = record { number = 0; failed = 0; f = 0; l = 0; r = 0 }
 answered (judgement.Fail w) = record { number = 0; failed = 1; f = w .f; l = w .l; r = w .r }
 answered judgement.WrongRange = refused 4
+answered judgement.TooMany = refused 14
 answered judgement.WrongLink = refused 5
 answered judgement.WrongGroups = refused 17
 

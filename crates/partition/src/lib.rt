@@ -10,7 +10,7 @@ ghost use mathlib.Core.Bool.{true};
 ghost use Rattle.plan.specs.Plan.{causeOf};
 ghost use Rattle.closure.specs.Verdict.{verdict, accepts};
 ghost use Rattle.partition.specs.Answer.{answered, replied, replyOf};
-ghost use Rattle.closure.specs.Answer.{judged, answerOf};
+ghost use Rattle.closure.specs.Answer.{judged, answerWithin, answerOf, quoteOf};
 use plan::Plan;
 use plan::Soundness;
 
@@ -26,6 +26,7 @@ pub enum Judgement {
     Pass,
     Fail(Witness),
     WrongRange,
+    TooMany,
     WrongLink,
     WrongGroups,
 }
@@ -55,12 +56,15 @@ fn judge(p: Plan) -> Judgement
     Judgement::Fail(Witness { f: f, l: l, r: r })
 }
 
-// Pass, or fail with the least witness, or why the record is no plan. What a fail lists is accepted
-// by the witness check.
-pub fn verdict(p: Plan) -> Judgement
-    ensures { λ r. ⌜ answered r ≡ answerOf p ⌝ }
+// The same for whoever may send at most so many terminals, or why the record is no plan that he may
+// send. What a fail lists is accepted by the witness check.
+fn judge_within(most: usize, p: Plan) -> Judgement
+    ensures { λ r. ⌜ answered r ≡ answerWithin most p ⌝ }
     ensures { λ r. ⌜ (answered r .failed ≡ 1 → accepts p (answered r .f) (answered r .l) (answered r .r) ≡ true) ⌝ }
 {
+    if plan::too_many(most, p) {
+        return Judgement::TooMany;
+    }
     let soundness = plan::check(p);
     match soundness {
         Soundness::Sound => judge(p),
@@ -68,6 +72,23 @@ pub fn verdict(p: Plan) -> Judgement
         Soundness::WrongLink => Judgement::WrongLink,
         Soundness::WrongGroups => Judgement::WrongGroups,
     }
+}
+
+// Pass, or fail with the least witness, or why the record is no plan: for the planner, who may send
+// every plan.
+pub fn verdict(p: Plan) -> Judgement
+    ensures { λ r. ⌜ answered r ≡ answerOf p ⌝ }
+    ensures { λ r. ⌜ (answered r .failed ≡ 1 → accepts p (answered r .f) (answered r .l) (answered r .r) ≡ true) ⌝ }
+{
+    judge_within(20, p)
+}
+
+// The same for the quoting desk, which may send at most twelve terminals.
+pub fn quote(p: Plan) -> Judgement
+    ensures { λ r. ⌜ answered r ≡ quoteOf p ⌝ }
+    ensures { λ r. ⌜ (answered r .failed ≡ 1 → accepts p (answered r .f) (answered r .l) (answered r .r) ≡ true) ⌝ }
+{
+    judge_within(12, p)
 }
 
 // Whether three sets are a witness against the plan. Who proposed them does not matter.

@@ -2,7 +2,7 @@
 ghost use mathlib.Core.Path.{_≡_};
 ghost use lib.ListN.{getD};
 ghost use Rattle.sets.specs.Sets.{all};
-ghost use Rattle.plan.specs.Plan.{numberOf, rowSound, causeOf};
+ghost use Rattle.plan.specs.Plan.{numberOf, rowSound, causeOf, tooMany};
 use quorum::Bound;
 
 // rows[b] is the set of terminals that b hears.
@@ -60,4 +60,16 @@ pub fn check(p: Plan) -> Soundness
         return Soundness::WrongLink;
     }
     Soundness::WrongRange
+}
+
+// The range is sound, and the plan has more terminals than may be sent.
+pub fn too_many(most: usize, p: Plan) -> bool
+    ensures { λ r. ⌜ r ≡ tooMany most p ⌝ }
+{
+    let bound = p.bound;
+    let kind = bound.kind;
+    if quorum::in_range(p.n, p.source, kind) {
+        return most < p.n;
+    }
+    false
 }

@@ -2,13 +2,13 @@
 use Prim.Native.Nat.{ℕ}
 use mathlib.Core.Path.{_≡_, refl, sym, _∙_}
 use mathlib.Core.Logic.{⊎-elim}
-use mathlib.Core.Bool.{Bool, true, false}
+use mathlib.Core.Bool.{Bool, true, false, not}
 use mathlib.Core.List.{List, [], _∷_}
 use lib.Dec.{eqb}
 use borrow.Author.Tests.{eqb-true, eqb-false, eq-eqb, ne-eqb}
-use Rattle.sets.specs.Tests.{pick}
+use Rattle.sets.specs.Tests.{_and_, pick}
 use Rattle.sets.specs.Causes.{Cause, _gives_, firstCause, given}
-use Rattle.sets.proofs.Bools.{decide, not-i, not-yes, pick-yes, pick-no}
+use Rattle.sets.proofs.Bools.{clash, decide, and-l, and-r, not-e, not-i, not-yes, pick-yes, pick-no, pick-case}
 
 -- a row whose test holds decides, one whose test fails is passed over
 pub cause-here : (test : Bool) (number : ℕ) (rest : List Cause) → test ≡ true → firstCause (test gives number ∷ rest) ≡ number
@@ -39,8 +39,24 @@ given-passes number rest e = cause-later _ number rest (not-yes (eq-eqb number 0
 pub given-decides : (number : ℕ) (rest : List Cause) → (number ≡ 0 → ⊥) → firstCause (given number ∷ rest) ≡ number
 given-decides number rest z = cause-here _ number rest (not-i (ne-eqb number 0 z))
 
+pub given-is : (number : ℕ) (rest : List Cause) (k : ℕ) → number ≡ k → (k ≡ 0 → ⊥) → firstCause (given number ∷ rest) ≡ k
+given-is number rest k e z = given-decides number rest (λ y. z (sym e ∙ y)) ∙ e
+
 pub given-none : (number : ℕ) (rest : List Cause) → firstCause (given number ∷ rest) ≡ 0 → (number ≡ 0) × (firstCause rest ≡ 0)
 given-none number rest h =
     ⊎-elim (λ e. (eqb-true number 0 e, sym (given-passes number rest (eqb-true number 0 e)) ∙ h))
     (λ e. let z = eqb-false number 0 e in absurd (z (sym (given-decides number rest z) ∙ h)))
     (decide (eqb number 0))
+
+-- ---- a number that no row of the table has
+
+unfoldable pub lacks : (k : ℕ) → List Cause → Bool
+lacks k [] = true
+lacks k (test gives number ∷ rest) = not (eqb number k) and lacks k rest
+
+pub cause-lacks : (k : ℕ) (rows : List Cause) → (k ≡ 0 → ⊥) → lacks k rows ≡ true → firstCause rows ≡ k → ⊥
+unfolding firstCause lacks
+cause-lacks k [] z l = λ h. z (sym h)
+cause-lacks k (test gives number ∷ rest) z l =
+    pick-case (λ (c : ℕ). c ≡ k → ⊥) test number (firstCause rest)
+    (λ t h. clash (eq-eqb number k h) (not-e _ (and-l _ _ l))) (λ t. cause-lacks k rest z (and-r _ _ l))

@@ -7,12 +7,13 @@ use native.Mathlib.Omega.{arith}
 use borrow.Author.Tests.{eq-eqb}
 use Rattle.sets.proofs.Bools.{pick-yes, pick-no}
 use Rattle.sets.proofs.Laws.{equal-or-not}
+use Rattle.quorum.specs.Quorum.{mostTerminals}
 use Rattle.plan.specs.declared.Plan.{Plan}
-use Rattle.plan.specs.Plan.{causeOf}
+use Rattle.plan.specs.Plan.{causeWithin, causeOf}
 use Rattle.plan.specs.Deaf.{deafSet}
 use Rattle.closure.specs.Closure.{reached, cutOff}
 use Rattle.closure.specs.Verdict.{verdict}
-use Rattle.closure.specs.Answer.{judged, answerOf}
+use Rattle.closure.specs.Answer.{judged, answerWithin, answerOf}
 use Rattle.closure.proofs.Witness.{verdict-fail}
 use Rattle.closure.proofs.Deaf.{deaf-fails}
 use Rattle.frames.specs.Reading.{Reading, refusal, planReading, archiveReading, fileRead}
@@ -26,11 +27,11 @@ use Rattle.verdict_output.specs.Deaf.{onFile, DeafPrinted}
 -- the line of a plan with a deaf terminal
 module _ (p : Plan) (sound : causeOf p ≡ 0) (some : deafSet p ≡ 0 → ⊥) where
   answer-is : answerOf p ≡ record { number = 0; failed = 1; f = 0; l = reached p 0; r = cutOff p 0 }
-  unfolding answerOf judged
+  unfolding answerOf answerWithin judged causeOf
   answer-is =
       let d = deaf-fails p some in
       let w = verdict-fail p (d .failed) in
-      pick-yes _ _ _ (eq-eqb (causeOf p) 0 sound)
+      pick-yes _ _ _ (eq-eqb (causeWithin mostTerminals p) 0 sound)
       ∙ (λ i. record {
         number = 0;
         failed = (pick-no (verdict p .passed) 0 1 (d .failed)) i;
@@ -46,11 +47,11 @@ module _ (p : Plan) (sound : causeOf p ≡ 0) (some : deafSet p ≡ 0 → ⊥) w
 module _ (file : List ℕ) where
   same : planReading file ≡ archiveReading file → verdictText file ≡ archiveText file
   unfolding verdictText archiveText
-  same e = ap (λ (r : Reading). verdictOn (fileRead r)) e
+  same e = ap (λ (r : Reading). verdictOn mostTerminals (fileRead r)) e
 
   fifteen : planReading file ≡ refusal 15 0 → verdictText file ≡ refusalLine 15 0
   unfolding verdictText verdictOn
-  fifteen e = ap (λ (r : Reading). verdictOn (fileRead r)) e ∙ refused-is (fileRead (refusal 15 0)) _ (λ z. omega arith)
+  fifteen e = ap (λ (r : Reading). verdictOn mostTerminals (fileRead r)) e ∙ refused-is (fileRead (refusal 15 0)) _ (λ z. omega arith)
 
   either : (verdictText file ≡ archiveText file) ⊎ (verdictText file ≡ refusalLine 15 0)
   either =
@@ -62,7 +63,7 @@ module _ (file : List ℕ) where
 
   fails : archiveReading file .number ≡ 0 → (deafSet (onFile file) ≡ 0 → ⊥)
       → archiveText file ≡ verdictLine 1 0 (reached (onFile file) 0) (cutOff (onFile file) 0)
-  unfolding archiveText verdictOn
+  unfolding archiveText verdictOn answerOf
   fails z some =
       answered-is (fileRead (archiveReading file)) (answerText (answerOf (onFile file))) z
       ∙ deaf-line (onFile file) (archived-sound file z .0) some

@@ -6,7 +6,7 @@ use native.Mathlib.Omega.{arith}
 use lib.Dec.{eqb}
 use lib.ListN.{length}
 use Rattle.sets.proofs.Bools.{pick-case}
-use Rattle.closure.specs.Answer.{Answer, answerOf}
+use Rattle.closure.specs.Answer.{Answer, answerWithin}
 use Rattle.frames.specs.declared.FileRead.{FileRead}
 use Rattle.output.specs.OnFile.{refusalLine, answerOn}
 use Rattle.output.proofs.Laws.{refusal-length, on-length, whole-text}
@@ -19,10 +19,10 @@ answer-length a =
     pick-case (λ (t : List ℕ). length t ≤ 23) (eqb (a .number) 0) (verdictLine (a .failed) (a .f) (a .l) (a .r)) (refusalLine (a .number) 0)
     (λ h. omega (arith, verdict-length (a .failed) (a .f) (a .l) (a .r))) (λ h. omega (arith, refusal-length (a .number) 0))
 
-verdict-short : (read : FileRead) → length (verdictOn read) ≤ 23
+verdict-short : (most : ℕ) (read : FileRead) → length (verdictOn most read) ≤ 23
 unfolding verdictOn
-verdict-short read = on-length read _ 23 (omega arith) (λ z. answer-length (answerOf (read .progress .plan)))
+verdict-short most read = on-length read _ 23 (omega arith) (λ z. answer-length (answerWithin most (read .progress .plan)))
 
-pub verdict-fits : (read : FileRead) (room : ℕ) → 23 ≤ room
-    → answerOn read (verdictOn read) room ≡ record { number = read .number; line = read .line; len = length (verdictOn read) }
-verdict-fits read room h = whole-text read (verdictOn read) room (omega (arith, verdict-short read))
+pub verdict-fits : (most : ℕ) (read : FileRead) (room : ℕ) → 23 ≤ room
+    → answerOn read (verdictOn most read) room ≡ record { number = read .number; line = read .line; len = length (verdictOn most read) }
+verdict-fits most read room h = whole-text read (verdictOn most read) room (omega (arith, verdict-short most read))

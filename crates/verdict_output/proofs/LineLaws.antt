@@ -14,15 +14,14 @@ use Rattle.closure.proofs.Faults.{fault-below}
 use Rattle.closure.proofs.Growth.{reached-below}
 use Rattle.closure.proofs.Witness.{cut-below}
 use Rattle.partition.specs.declared.Judgement.{Judgement}
-use Rattle.partition.specs.declared.Judgement.the-variants.{Pass, Fail, WrongRange, WrongLink, WrongGroups}
+use Rattle.partition.specs.declared.Judgement.the-variants.{Pass, Fail, WrongRange, TooMany, WrongLink, WrongGroups}
 use Rattle.partition.specs.Answer.{answered}
-use Rattle.closure.specs.Answer.{Answer, answerOf}
+use Rattle.closure.specs.Answer.{Answer, answerWithin}
 use Rattle.partition.proofs.Laws.{Failed, answer-fails}
 use Rattle.frames.specs.declared.FileRead.{FileRead}
 use Rattle.text.specs.Digits.{hexByte, hexPair, hexTriple}
 use Rattle.text.specs.Texts.{joined}
-use Rattle.output.specs.OnFile.{refusalLine}
-use Rattle.output.proofs.Laws.{refused-is, answered-is}
+use Rattle.output.specs.OnFile.{refusalLine, textOn}
 use Rattle.verdict_output.specs.Verdict.{verdictLine, answerText, verdictOn}
 
 -- ---- F, L and R fit three bytes
@@ -38,13 +37,15 @@ failed-small p a w =
       below (p .n) (a .r) t (subst (λ (s : ℕ). s < 2 ^ p .n) (sym (w .r-is)) (cut-below p (a .f))),
     )
 
-pub answer-small : (p : Plan) (j : Judgement) → answered j ≡ answerOf p → (answered j .f < 16777216) × (answered j .l < 16777216) × (answered j .r < 16777216)
-answer-small p Pass e = omega arith
-answer-small p (Fail w) e =
-    failed-small p (answered (Fail w)) (subst (Failed p) (sym e) (answer-fails p (sym (ap (λ (a : Answer). a .failed) e))))
-answer-small p WrongRange e = omega arith
-answer-small p WrongLink e = omega arith
-answer-small p WrongGroups e = omega arith
+pub answer-small : (most : ℕ) (p : Plan) (j : Judgement) → answered j ≡ answerWithin most p
+    → (answered j .f < 16777216) × (answered j .l < 16777216) × (answered j .r < 16777216)
+answer-small most p Pass e = omega arith
+answer-small most p (Fail w) e =
+    failed-small p (answered (Fail w)) (subst (Failed p) (sym e) (answer-fails most p (sym (ap (λ (a : Answer). a .failed) e))))
+answer-small most p WrongRange e = omega arith
+answer-small most p TooMany e = omega arith
+answer-small most p WrongLink e = omega arith
+answer-small most p WrongGroups e = omega arith
 
 -- such a set is its low three bytes
 pub low : (bytes : List ℕ) (s : ℕ) {last : List ℕ} → s < 16777216 → last ≡ joined bytes (hexTriple (s % 16777216)) → last ≡ joined bytes (hexTriple s)
@@ -72,11 +73,8 @@ module _ (j found : Judgement) (t : List ℕ) (e : j ≡ found) where
 
 -- ---- the line on a plan file
 
-module _ (read : FileRead) (t : List ℕ) where
-  pub verdict-refused : (read .number ≡ 0 → ⊥) → t ≡ refusalLine (read .number) (read .line) → t ≡ verdictOn read
-  unfolding verdictOn
-  verdict-refused n a = a ∙ sym (refused-is read (answerText (answerOf (read .progress .plan))) n)
-
-  pub verdict-told : (a : Answer) → read .number ≡ 0 → a ≡ answerOf (read .progress .plan) → t ≡ answerText a → t ≡ verdictOn read
-  unfolding verdictOn
-  verdict-told a z e s = s ∙ ap answerText e ∙ sym (answered-is read _ z)
+-- by a file and a judgement that were found to be these
+pub verdict-is : (most : ℕ) (read file : FileRead) (a : Answer) (t : List ℕ) → read ≡ file → a ≡ answerWithin most (read .progress .plan)
+    → t ≡ textOn read (answerText a) → t ≡ verdictOn most file
+unfolding verdictOn
+verdict-is most read file a t e j h = h ∙ ap (λ (x : Answer). textOn read (answerText x)) j ∙ ap (verdictOn most) e

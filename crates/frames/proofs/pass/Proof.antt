@@ -57,7 +57,7 @@ returns-3 : tie.Need-returns-3
 returns-3 c = let g = c .before .before .before .before .before .before .before .before .before .before .before .before .before .before .before .before .before .before .before .before .before .pre in
     let e = c .before .before .before .before .before .before .before .before .tell .ensures in
     let z = c .before .before .if3 .left in
-    (λ y. pass-told _ _ _ _ _ (g .0) (g .1) (c .before .before .before .before .before .before .before .before .before .before .before .before .before .before .before .before .if1 .taken) _ (c .before .before .before .before .before .before .before .before .before .before .before .before .before .frame-of .ensures) _ (c .before .before .before .before .before .before .before .before .before .before .before .before .end-cause .ensures) (c .before .before .before .before .before .before .before .before .before .before .before .if2 .left) _ (e .0) _ _ z (e .1 z) (e .2) (c .before .before .before .before .before .before .before .before .tell .kept .1 .0) (c .before .before .before .before .before .before .before .before .tell .kept .1 .1 .0), λ n. absurd (n refl))
+    (λ y. pass-told _ _ _ _ _ (g .0) (g .1) (c .before .before .before .before .before .before .before .before .before .before .before .before .before .before .before .before .if1 .taken) _ (c .before .before .before .before .before .before .before .before .before .before .before .before .before .frame-of .ensures) _ (c .before .before .before .before .before .before .before .before .before .before .before .before .end-cause .ensures) (c .before .before .before .before .before .before .before .before .before .before .before .if2 .left) _ (e .0) _ _ z (e .1 z) (e .2) (c .before .before .before .before .before .before .before .before .tell .kept .1 .1 .0) (c .before .before .before .before .before .before .before .before .tell .kept .1 .1 .1 .0), λ n. absurd (n refl))
 
 returns-4 : tie.Need-returns-4
 returns-4 c = let g = c .before .before .before .before .before .pre in (λ z. pass-grows _ _ _ _ _ (g .0) (g .1) (c .if1 .left), λ n. absurd (n (g .0 .accepted)))

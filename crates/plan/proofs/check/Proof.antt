@@ -1,8 +1,8 @@
 use mathlib.Core.Path.{sym, _∙_}
 use Rattle.sets.proofs.Bools.{not-i, not-yes}
 use Rattle.sets.proofs.Causes.{cause-here, cause-later}
-use Rattle.plan.specs.Plan.{heardBy, linksSound, causeOf}
-use Rattle.plan.proofs.Laws.{tested}
+use Rattle.plan.specs.Plan.{heardBy, linksSound}
+use Rattle.plan.proofs.Laws.{range-cause, later-cause, tested}
 use borrow.Author.Needs.{needs}
 use Rattle.plan.proofs.check.Statement.{statement}
 use Rattle.plan.proofs.check.Tie as tie
@@ -31,18 +31,17 @@ returns c = sym (tested _ (record { range = sym (c .before .before .before .befo
 
 -- src/lib.rt:58:13
 returns-2 : tie.Need-returns-2
-unfolding causeOf linksSound heardBy
-returns-2 c = sym (cause-later _ 4 _ (not-yes (sym (c .before .before .before .before .before .in-range .ensures) ∙ c .before .before .before .before .if1 .taken)) ∙ cause-later _ 5 _ (not-yes (sym (c .before .before .before .links-sound .ensures) ∙ c .before .before .if2 .taken)) ∙ cause-here _ 17 _ (not-i (sym (c .before .groups-sound .ensures) ∙ c .if3 .left)))
+unfolding linksSound heardBy
+returns-2 c = sym (later-cause _ (sym (c .before .before .before .before .before .in-range .ensures) ∙ c .before .before .before .before .if1 .taken) ∙ cause-later _ 5 _ (not-yes (sym (c .before .before .before .links-sound .ensures) ∙ c .before .before .if2 .taken)) ∙ cause-here _ 17 _ (not-i (sym (c .before .groups-sound .ensures) ∙ c .if3 .left)))
 
 -- src/lib.rt:60:9
 returns-3 : tie.Need-returns-3
-unfolding causeOf linksSound heardBy
-returns-3 c = sym (cause-later _ 4 _ (not-yes (sym (c .before .before .before .in-range .ensures) ∙ c .before .before .if1 .taken)) ∙ cause-here _ 5 _ (not-i (sym (c .before .links-sound .ensures) ∙ c .if2 .left)))
+unfolding linksSound heardBy
+returns-3 c = sym (later-cause _ (sym (c .before .before .before .in-range .ensures) ∙ c .before .before .if1 .taken) ∙ cause-here _ 5 _ (not-i (sym (c .before .links-sound .ensures) ∙ c .if2 .left)))
 
 -- src/lib.rt:47:1
 returns-4 : tie.Need-returns-4
-unfolding causeOf
-returns-4 c = sym (cause-here _ 4 _ (not-i (sym (c .before .in-range .ensures) ∙ c .if1 .left)))
+returns-4 c = sym (range-cause _ (sym (c .before .in-range .ensures) ∙ c .if1 .left))
 
 pub check-spec : {M : Type 1} → statement M
 check-spec =

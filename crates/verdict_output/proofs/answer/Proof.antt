@@ -2,7 +2,7 @@
 use mathlib.Core.Path.{refl}
 use native.Mathlib.Omega.{arith}
 use borrow.Author.Needs.{needs}
-use Rattle.partition.specs.declared.Judgement.the-variants.{Pass, Fail, WrongRange, WrongLink, WrongGroups}
+use Rattle.partition.specs.declared.Judgement.the-variants.{Pass, Fail, WrongRange, TooMany, WrongLink, WrongGroups}
 use Rattle.verdict_output.proofs.LineLaws.{says-verdict, says-refusal}
 use Rattle.verdict_output.proofs.answer.Statement.{statement}
 use Rattle.verdict_output.proofs.answer.Tie as tie
@@ -37,6 +37,12 @@ enum-told-4 c = search needs
 refusal-requires-3 : tie.Need-refusal-requires-3
 refusal-requires-3 c κs = search needs
 
+enum-told-5 : tie.Need-enum-told-5
+enum-told-5 c = search needs
+
+refusal-requires-4 : tie.Need-refusal-requires-4
+refusal-requires-4 c κs = search needs
+
 returns : tie.Need-returns
 returns c = says-verdict _ Pass _ (c .before .enum-told .given .1) refl (c .line .ensures)
 
@@ -47,10 +53,13 @@ returns-3 : tie.Need-returns-3
 returns-3 c = says-refusal _ WrongRange _ (c .before .enum-told2 .given .1) (λ z. omega arith) (c .refusal .ensures)
 
 returns-4 : tie.Need-returns-4
-returns-4 c = says-refusal _ WrongLink _ (c .before .enum-told3 .given .1) (λ z. omega arith) (c .refusal2 .ensures)
+returns-4 c = says-refusal _ TooMany _ (c .before .enum-told3 .given .1) (λ z. omega arith) (c .refusal2 .ensures)
 
 returns-5 : tie.Need-returns-5
-returns-5 c = says-refusal _ WrongGroups _ (c .before .enum-told4 .given .1) (λ z. omega arith) (c .refusal3 .ensures)
+returns-5 c = says-refusal _ WrongLink _ (c .before .enum-told4 .given .1) (λ z. omega arith) (c .refusal3 .ensures)
+
+returns-6 : tie.Need-returns-6
+returns-6 c = says-refusal _ WrongGroups _ (c .before .enum-told5 .given .1) (λ z. omega arith) (c .refusal4 .ensures)
 
 pub answer-spec : {M : Type 1} → statement M
 answer-spec =
@@ -66,8 +75,11 @@ answer-spec =
     refusal-requires-2
     enum-told-4
     refusal-requires-3
+    enum-told-5
+    refusal-requires-4
     returns
     returns-2
     returns-3
     returns-4
-    returns-5)
+    returns-5
+    returns-6)

@@ -2,10 +2,9 @@
 use mathlib.Core.Path.{sym, _∙_}
 use native.Mathlib.Omega.{arith}
 use borrow.Author.Needs.{needs}
-use Rattle.sets.proofs.Bools.{not-i}
-use Rattle.sets.proofs.Causes.{cause-here}
-use Rattle.frames.specs.Reading.{headCause}
-use Rattle.frames.proofs.TellLaws.{head-next, head-right, head-wrong}
+use borrow.Author.Tests.{lt-ltb, le-ltb}
+use Rattle.sets.proofs.Causes.{cause-here, cause-last, given-passes, given-is}
+use Rattle.frames.proofs.TellLaws.{head-next, head-right, head-wrong, head-late}
 use Rattle.frames.proofs.told.head.Statement.{statement}
 use Rattle.frames.proofs.told.head.Tie as tie
 
@@ -18,18 +17,27 @@ is-at-requires c κs = search needs
 in-range-requires : tie.Need-in-range-requires
 in-range-requires c κs = search needs
 
+returns : tie.Need-returns
+returns c =
+    let right = head-right _ _ _ _ _ (c .before .before .before .before .before .before .kind-read .ensures) (sym (c .before .before .before .before .before .is-at .ensures) ∙ c .before .before .before .before .if1 .taken) (sym (c .before .before .before .in-range .ensures) ∙ c .before .before .if2 .taken) in
+    (sym (given-passes _ _ right ∙ cause-here _ 14 _ (lt-ltb _ _ (c .if3 .taken))), λ z. absurd (omega arith))
+
 planned-requires : tie.Need-planned-requires
 planned-requires c κs = search needs
 
-returns : tie.Need-returns
-returns c = (sym (head-right _ _ _ _ _ (c .before .before .before .before .before .kind-read .ensures) (sym (c .before .before .before .before .is-at .ensures) ∙ c .before .before .before .if1 .taken) (sym (c .before .before .in-range .ensures) ∙ c .before .if2 .taken)), λ z. c .planned .ensures ∙ head-next _ _ _ _ _ (c .before .before .before .before .before .kind-read .ensures))
-
 returns-2 : tie.Need-returns-2
-returns-2 c = (sym (head-wrong _ _ _ _ _ (c .before .before .before .before .kind-read .ensures) (sym (c .before .before .before .is-at .ensures) ∙ c .before .before .if1 .taken) (sym (c .before .in-range .ensures) ∙ c .if2 .left)), λ z. absurd (omega arith))
+returns-2 c =
+    let kind = c .before .before .before .before .before .before .before .kind-read .ensures in
+    let right = head-right _ _ _ _ _ kind (sym (c .before .before .before .before .before .before .is-at .ensures) ∙ c .before .before .before .before .before .if1 .taken) (sym (c .before .before .before .before .in-range .ensures) ∙ c .before .before .before .if2 .taken) in
+    (sym (given-passes _ _ right ∙ cause-last _ 14 (le-ltb _ _ (c .before .if3 .left))), λ z. c .planned .ensures ∙ head-next _ _ _ _ _ kind)
 
 returns-3 : tie.Need-returns-3
-unfolding headCause
-returns-3 c = (sym (cause-here _ _ _ (not-i (sym (c .before .is-at .ensures) ∙ c .if1 .left))), λ z. absurd (omega arith))
+returns-3 c =
+    (sym (given-is _ _ 4 (head-wrong _ _ _ _ _ (c .before .before .before .before .kind-read .ensures) (sym (c .before .before .before .is-at .ensures) ∙ c .before .before .if1 .taken) (sym (c .before .in-range .ensures) ∙ c .if2 .left)) (λ z. omega arith)), λ z. absurd (omega arith))
+
+returns-4 : tie.Need-returns-4
+returns-4 c =
+    (sym (given-is _ _ 3 (head-late _ _ _ _ (sym (c .before .is-at .ensures) ∙ c .if1 .left)) (λ z. omega arith)), λ z. absurd (omega arith))
 
 pub head-spec : {M : Type 1} → statement M
 head-spec =
@@ -38,7 +46,8 @@ head-spec =
     kind-read-requires
     is-at-requires
     in-range-requires
-    planned-requires
     returns
+    planned-requires
     returns-2
-    returns-3)
+    returns-3
+    returns-4)
