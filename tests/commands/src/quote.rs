@@ -246,13 +246,11 @@ fn under_the_head(checks: &mut Checks) {
         ("ff", &["020001", "020001"], "ff060003"),
     ];
     for (limit, under, wanted) in table {
-        for (terminals, by_quote) in [("0c", wanted), ("0d", REFUSED), ("14", REFUSED)] {
+        for (terminals, by_quote) in [("0c", wanted), ("0d", REFUSED)] {
             let head = format!("01{terminals}00{limit}");
             let file = lines(&[&[head.as_str()], under].concat());
+            prints(checks, "verdict", file.as_bytes(), wanted);
             prints(checks, "quote", file.as_bytes(), by_quote);
-            if terminals != "14" {
-                prints(checks, "verdict", file.as_bytes(), wanted);
-            }
         }
     }
     let no_line_end = b"010d0001\n020001";
