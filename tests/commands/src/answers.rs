@@ -24,7 +24,12 @@ pub fn check(checks: &mut Checks) {
 
 fn ways_to_give_a_file(checks: &mut Checks) {
     let example = lines(&EXAMPLE);
-    for words in [vec!["verdict"], vec!["verdict", "-"], vec!["archive"]] {
+    for words in [
+        vec!["verdict"],
+        vec!["verdict", "-"],
+        vec!["archive"],
+        vec!["quote"],
+    ] {
         let done = checks.call_with(&words, example.as_bytes());
         checks.ends(&format!("{words:?} of input"), &done, 0, VERDICT, "");
     }
@@ -60,7 +65,7 @@ fn programs(checks: &mut Checks) {
     let other_order = lines(&["01040001", "020203", "020002", "020103", "020001"]);
     let example = lines(&EXAMPLE);
     let run_text = format!("{TEXT}bad 1\nvalue 7\nrounds 3\nround 2: 1 says 9 to 3\n");
-    let table: [(&str, &str, String); 11] = [
+    let table: [(&str, &str, String); 13] = [
         ("run", &run, states.clone()),
         ("run", &run_text, states.clone()),
         ("explain", &run, format!("{states}{told}")),
@@ -72,6 +77,8 @@ fn programs(checks: &mut Checks) {
         ("verdict", TEXT, VERDICT.into()),
         ("archive", TEXT, VERDICT.into()),
         ("archive", &run_text, VERDICT.into()),
+        ("quote", TEXT, VERDICT.into()),
+        ("quote", &run_text, VERDICT.into()),
     ];
     for (word, input, wanted) in table {
         let done = checks.call_with(&[word], input.as_bytes());
@@ -102,17 +109,19 @@ fn one_word(checks: &mut Checks) {
 }
 
 /// The names that a row's words and lines stand for.
-const FILES: [(&str, &str); 6] = [
+const FILES: [(&str, &str); 8] = [
     ("good", "01020000\n020001\n"),
     ("failing", TEXT),
     ("deaf", "01020000\n"),
     ("deaf text", "terminals 2\nsource 0\nbound 0\n"),
+    ("wide", "010d0000\n"),
+    ("wide text", "terminals 13\nsource 0\nbound 0\n"),
     ("refused", "01150001\n"),
     ("missing", ""),
 ];
 
 /// Words, status and lines, without the folder of the files.
-const MANY: [(&[&str], i32, &[&str]); 10] = [
+const MANY: [(&[&str], i32, &[&str]); 14] = [
     (
         &["verdict", "good", "failing"],
         0,
@@ -153,6 +162,41 @@ const MANY: [(&[&str], i32, &[&str]); 10] = [
             "deaf: ff0f0000",
             "deaf text: refused, the whole file: terminal 1 hears nobody; a new plan must have no such terminal, and './hulmayek archive FILE' opens a plan that is on file already (cause 15)",
             "good: 8100000000000000000000",
+        ],
+    ),
+    (
+        &["quote", "good", "failing"],
+        0,
+        &[
+            "good: 8100000000000000000000",
+            "failing: 8101000002000005000008",
+        ],
+    ),
+    (
+        &["quote", "wide", "good", "wide text", "deaf"],
+        1,
+        &[
+            "wide: ff0e0001",
+            "good: 8100000000000000000000",
+            "wide text: refused, line 1 (terminals 13): the quoting desk takes at most 12 terminals; './hulmayek verdict FILE' judges up to 20 (cause 14)",
+            "deaf: ff0f0000",
+        ],
+    ),
+    (
+        &["quote", "missing", "wide", "refused"],
+        2,
+        &[
+            "missing: there is no file 'missing'",
+            "wide: ff0e0001",
+            "refused: ff040001",
+        ],
+    ),
+    (
+        &["archive", "wide", "wide text"],
+        0,
+        &[
+            "wide: 8101000000000001001ffe",
+            "wide text: 8101000000000001001ffe",
         ],
     ),
     (

@@ -87,10 +87,11 @@ fn first_use(checks: &mut Checks, copy: &Copy) {
 
 /// A word has the programs proved that it asks, and no other; `verdict` has its own by now. What is
 /// proved for one word serves the others that ask it.
-const EACH_WORD: [(&str, &str); 13] = [
+const EACH_WORD: [(&str, &str); 15] = [
     ("verdict", ""),
     ("check", "archive"),
     ("archive", ""),
+    ("quote", "quote"),
     ("run", "run"),
     ("trace", ""),
     ("explain", "verdict archive run rewrite"),
@@ -101,6 +102,7 @@ const EACH_WORD: [(&str, &str); 13] = [
     ("show", ""),
     ("rewrite", ""),
     ("verdict", ""),
+    ("quote", ""),
 ];
 
 fn each_word(checks: &mut Checks, copy: &Copy) {
@@ -129,6 +131,10 @@ fn several_words(checks: &mut Checks, copy: &Copy) {
         ("check", "archive", call("archive")),
         ("check", "verdict", String::new()),
         ("verdict", "verdict", call("verdict")),
+        ("verdict", "quote", String::new()),
+        ("explain", "quote", String::new()),
+        ("quote", "quote", call("quote")),
+        ("quote", "verdict", String::new()),
     ];
     for (word, gone, wanted) in table {
         copy.remove(&format!("target/bin/{gone}"));
@@ -152,6 +158,7 @@ fn newer_sources(checks: &mut Checks, copy: &Copy) {
         ("crates.txt", rt_call(copy)),
         ("tools/site/src/main.rs", cargo.clone()),
         ("tools/site/Cargo.toml", cargo),
+        ("crates/quote/src/main.rt", String::new()),
         ("crates/other/src/lib.rt", String::new()),
         ("README.md", String::new()),
     ];

@@ -3,9 +3,9 @@
 use crate::checks::{done, read, Checks};
 use std::process::Command;
 
-const WORDS: [&str; 13] = [
-    "check", "explain", "draw", "mend", "with-bad", "trace", "verdict", "archive", "run", "show",
-    "plan", "rewrite", "test",
+const WORDS: [&str; 14] = [
+    "check", "explain", "draw", "mend", "with-bad", "trace", "verdict", "archive", "quote", "run",
+    "show", "plan", "rewrite", "test",
 ];
 const ONE_FILE: [&str; 7] = [
     "explain", "draw", "mend", "trace", "show", "plan", "rewrite",
@@ -81,6 +81,7 @@ fn frames_page(checks: &mut Checks) {
         "04    edition (2), layout (2), ",
         "08    round, edition (2), ",
         "05    round, from, to, ",
+        " 14 n above 12",
         " 15 a terminal",
         " 16 edition 0 in 04 or 08",
         " 17 a seventeenth group",
@@ -90,7 +91,7 @@ fn frames_page(checks: &mut Checks) {
 }
 
 /// Calls that no file can mend.
-const WRONG: [(&[&str], &str); 12] = [
+const WRONG: [(&[&str], &str); 13] = [
     (
         &["mend", "--calls=x", "plans/a.txt"],
         "'--calls=x' has no number after the '='",
@@ -119,6 +120,7 @@ const WRONG: [(&[&str], &str); 12] = [
     ),
     (&["verdict", "--mend"], "'verdict' has no option '--mend'"),
     (&["archive", "--csv"], "'archive' has no option '--csv'"),
+    (&["quote", "--mend"], "'quote' has no option '--mend'"),
     (
         &["with-bad", "plans/a.txt"],
         "'with-bad' wants a file and terminals, as in: with-bad FILE 4 7",
@@ -175,12 +177,14 @@ fn unwritable_output(checks: &mut Checks) {
         ("check $'a\\xffb'", bytes),
         ("verdict plans/h.hex >/dev/full", full),
         ("archive plans/b.hex >/dev/full", full),
+        ("quote plans/h.hex >/dev/full", full),
         ("explain plans/h.txt >/dev/full", full),
         ("check plans/a.txt >/dev/full", full),
         ("draw plans/h.txt >/dev/full", full),
         ("help >/dev/full", page),
         ("--version >/dev/full", "the version could not be printed"),
         ("verdict plans/h.hex >&-", closed),
+        ("quote plans/h.hex >&-", closed),
         ("check plans/a.txt >&-", closed),
         ("help >&-", closed),
     ];

@@ -2,6 +2,8 @@
 //! archive opens it (document 02, P6). What each word makes of such a plan is worked out by hand.
 
 use crate::checks::{lines, Checks};
+use crate::plans::files_in;
+use crate::quote::alike;
 
 pub fn check(checks: &mut Checks) {
     for site in SITES {
@@ -93,7 +95,7 @@ fn refusal(hear: &str) -> String {
 
 fn refused_as_new(checks: &mut Checks, site: &Site) {
     let frames = lines(site.frames);
-    for word in ["verdict", "run"] {
+    for word in ["verdict", "quote", "run"] {
         let done = checks.call_with(&[word], frames.as_bytes());
         let label = format!("{word} of {:?}", site.frames);
         checks.ends(&label, &done, 1, "ff0f0000\n", "");
@@ -184,9 +186,11 @@ fn where_the_links_end(checks: &mut Checks) {
         ("run", &["01020000", "020001", "03000001"], "ff070003"),
     ];
     for (word, frames, wanted) in table {
-        let done = checks.call_with(&[word], lines(frames).as_bytes());
-        let label = format!("{word} of {frames:?}");
-        checks.ends(&label, &done, 1, &format!("{wanted}\n"), "");
+        for word in alike(word) {
+            let done = checks.call_with(&[word], lines(frames).as_bytes());
+            let label = format!("{word} of {frames:?}");
+            checks.ends(&label, &done, 1, &format!("{wanted}\n"), "");
+        }
     }
 }
 
@@ -270,23 +274,14 @@ fn plan_of_a_run(checks: &mut Checks) {
 /// Of the plans and runs in this repository drawing B alone is for the archive.
 fn committed_plans(checks: &mut Checks) {
     let mut deaf = Vec::new();
-    for folder in ["plans", "plans/bench", "plans/runs", "runs"] {
-        let files = std::fs::read_dir(checks.top.join(folder)).expect("a folder of plans");
-        for file in files.map(|entry| entry.expect("a file").path()) {
-            let name = file.file_name().unwrap_or_default().to_string_lossy();
-            let file = format!("{folder}/{name}");
-            if !name.ends_with(".txt") && !name.ends_with(".hex") {
-                continue;
-            }
-            let is_run = folder.ends_with("runs");
-            let word = if is_run { "run" } else { "verdict" };
-            let done = checks.call(&[word, &file]);
-            if done.out == "ff0f0000\n" || done.err.ends_with("(cause 15)\n") {
-                deaf.push(file);
-            }
+    for file in files_in(checks, &["plans", "plans/bench", "plans/runs", "runs"]) {
+        let is_run = file.contains("runs/");
+        let word = if is_run { "run" } else { "verdict" };
+        let done = checks.call(&[word, &file]);
+        if done.out == "ff0f0000\n" || done.err.ends_with("(cause 15)\n") {
+            deaf.push(file);
         }
     }
-    deaf.sort_unstable();
     let wanted = "plans/b.hex plans/b.txt";
     checks.same("plans for the archive", wanted, &deaf.join(" "));
 }

@@ -3,6 +3,7 @@
 
 use crate::answers::EXAMPLE;
 use crate::checks::{lines, Checks};
+use crate::quote::alike;
 
 pub fn check(checks: &mut Checks) {
     for row in &AFTER_GROUPS {
@@ -179,14 +180,11 @@ pub fn refused(checks: &mut Checks, Row(program, answer, why, _): &Row, frames: 
         line => format!("line {line} ({})", frames[line - 1]),
     };
     let told = format!("refused, {place}: {why} (cause {cause})");
-    let done = checks.call(&[program, &file]);
-    checks.ends(
-        &format!("{program} of {frames:?}"),
-        &done,
-        1,
-        &format!("{answer}\n"),
-        "",
-    );
+    for word in alike(program) {
+        let done = checks.call(&[word, &file]);
+        let label = format!("{word} of {frames:?}");
+        checks.ends(&label, &done, 1, &format!("{answer}\n"), "");
+    }
     let done = checks.call(&["explain", &file]);
     let wanted = format!("{answer}\n{told}\n");
     checks.ends(&format!("explain of {frames:?}"), &done, 1, &wanted, "");
@@ -239,10 +237,12 @@ fn with_a_bound(checks: &mut Checks) {
 
 pub fn answered(checks: &mut Checks, table: &[(&str, Vec<&str>, &str)]) {
     for (word, frames, wanted) in table {
-        let done = checks.call_with(&[word], lines(frames).as_bytes());
         let status = i32::from(wanted.starts_with("ff"));
-        let label = format!("{word} of {frames:?}");
-        checks.ends(&label, &done, status, &format!("{wanted}\n"), "");
+        for word in alike(word) {
+            let done = checks.call_with(&[word], lines(frames).as_bytes());
+            let label = format!("{word} of {frames:?}");
+            checks.ends(&label, &done, status, &format!("{wanted}\n"), "");
+        }
     }
 }
 
@@ -305,7 +305,7 @@ fn kind_that_is_lacking(checks: &mut Checks) {
     let done = checks.call_with(&["check"], frames.as_bytes());
     let why = "refused, line 8 (03000002): kind 03, a run's bad set: 'archive' has 01, 02 and 07 only (cause 2)";
     checks.tells("check of a run's frames with groups", &done, 1, why);
-    for word in ["verdict", "archive", "rewrite"] {
+    for word in ["verdict", "archive", "quote", "rewrite"] {
         let done = checks.call_with(&[word], frames.as_bytes());
         checks.ends(&format!("{word} of them"), &done, 1, "ff020008\n", "");
     }

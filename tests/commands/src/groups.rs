@@ -224,7 +224,7 @@ fn explained(checks: &mut Checks, text: &str, told: &[&str]) {
     let done = checks.call_with(&["explain"], text.as_bytes());
     checks.ends(&label("explain"), &done, 0, &wanted, "");
     let frame = format!("{}\n", told[0]);
-    for word in ["verdict", "archive"] {
+    for word in ["verdict", "archive", "quote"] {
         let done = checks.call_with(&[word], text.as_bytes());
         checks.ends(&label(word), &done, 0, &frame, "");
     }

@@ -17,6 +17,7 @@ mod groups;
 mod mends;
 mod pictures;
 mod plans;
+mod quote;
 mod readme;
 mod reasons;
 mod runs;
@@ -33,7 +34,7 @@ use std::process::ExitCode;
 
 type Topic = (&'static str, fn(&mut Checks));
 
-const TOPICS: [Topic; 14] = [
+const TOPICS: [Topic; 15] = [
     ("answers", answers::check),
     ("calls", calls::check),
     ("plans", plans::check),
@@ -41,6 +42,7 @@ const TOPICS: [Topic; 14] = [
     ("text", text_form::check),
     ("runs", runs::check),
     ("deaf", deaf::check),
+    ("quote", quote::check),
     ("groups", groups::check),
     ("editions", editions::check),
     ("shared", shared::check),
@@ -60,7 +62,9 @@ fn main() -> ExitCode {
     std::fs::create_dir_all(&room).expect("a folder for the test's files");
     let mut checks = Checks::new(top, room.clone());
     // All programs are built first, so that no check sees the waiting.
-    checks.call(&["explain", "plans/a.txt"]);
+    for word in ["explain", "quote"] {
+        checks.call(&[word, "plans/a.txt"]);
+    }
     for (name, check) in TOPICS {
         if wanted.is_empty() || wanted.iter().any(|one| one == name) {
             check(&mut checks);

@@ -84,19 +84,29 @@ pub fn check(checks: &mut Checks) {
     let known = DRAWINGS.iter().chain(&SITES).map(|row| row.0);
     let mut known: Vec<&str> = known.chain(["j"]).chain(groups::PLANS).collect();
     known.sort_unstable();
-    let folder = std::fs::read_dir(checks.top.join("plans")).expect("plans");
-    let mut there: Vec<String> = folder
-        .map(|entry| {
-            entry
-                .expect("a plan")
-                .file_name()
-                .to_string_lossy()
-                .into_owned()
-        })
-        .filter_map(|name| name.strip_suffix(".txt").map(str::to_string))
+    let files = files_in(checks, &["plans"]);
+    let mut there: Vec<&str> = files
+        .iter()
+        .filter_map(|file| file.strip_prefix("plans/")?.strip_suffix(".txt"))
         .collect();
     there.sort_unstable();
     checks.same("plans with a row here", &known.join(" "), &there.join(" "));
+}
+
+/// The committed plans and runs in these folders, in both forms, by name.
+pub fn files_in(checks: &Checks, folders: &[&str]) -> Vec<String> {
+    let mut files = Vec::new();
+    for folder in folders {
+        for entry in std::fs::read_dir(checks.top.join(folder)).expect("a folder of plans") {
+            let name = entry.expect("a file").file_name();
+            let name = name.to_string_lossy();
+            if name.ends_with(".txt") || name.ends_with(".hex") {
+                files.push(format!("{folder}/{name}"));
+            }
+        }
+    }
+    files.sort_unstable();
+    files
 }
 
 /// The committed frames are those of document 01's table.
@@ -165,13 +175,15 @@ fn judged(checks: &mut Checks, row: &Row) {
     }
 }
 
-/// Verdict of both, and explain of the frames.
+/// Verdict of both, and explain of the frames. None has more terminals than the quoting desk takes.
 fn judged_as_new(checks: &mut Checks, row: &Row, frame: &str) {
     let Row(name, n, _, _, outcome) = row;
     for form in ["hex", "txt"] {
         let file = format!("plans/{name}.{form}");
-        let done = checks.call(&["verdict", &file]);
-        checks.same(&format!("verdict of {file}"), frame, &done.out);
+        for word in ["verdict", "quote"] {
+            let done = checks.call(&[word, &file]);
+            checks.same(&format!("{word} of {file}"), frame, &done.out);
+        }
     }
     let wanted = match outcome {
         Pass(last) => format!(
@@ -255,7 +267,7 @@ fn refused_drawing(checks: &mut Checks) {
     checks.ends("verdict of j", &done, 1, "ff040001\n", "");
     let why = "refused, line 2 (terminals 1): 2 to 20 terminals are allowed (cause 4)";
     for word in [
-        "plan", "verdict", "archive", "check", "explain", "draw", "show", "mend",
+        "plan", "verdict", "archive", "quote", "check", "explain", "draw", "show", "mend",
     ] {
         let done = checks.call(&[word, "plans/j.txt"]);
         checks.tells(&format!("{word} of j.txt"), &done, 1, why);

@@ -3,6 +3,7 @@
 
 use crate::answers::EXAMPLE;
 use crate::checks::{lines, Checks};
+use crate::quote::alike;
 
 /// The program that refuses, cause, line, why, and the frames after the named start.
 struct Row(
@@ -306,8 +307,10 @@ fn refused(checks: &mut Checks, Row(program, cause, line, why, _): &Row, frames:
         line => format!("line {line} ({})", frames[line - 1]),
     };
     let told = format!("refused, {place}: {why} (cause {cause})");
-    let done = checks.call(&[program, &file]);
-    checks.ends(&format!("{program}: {why}"), &done, 1, &frame, "");
+    for word in alike(program) {
+        let done = checks.call(&[word, &file]);
+        checks.ends(&format!("{word}: {why}"), &done, 1, &frame, "");
+    }
     let done = checks.call(&["explain", &file]);
     checks.ends(
         &format!("explain: {why}"),
@@ -356,6 +359,7 @@ fn kind_that_is_lacking(checks: &mut Checks) {
         ("check", "archive"),
         ("verdict", "verdict"),
         ("archive", "archive"),
+        ("quote", "quote"),
         ("rewrite", "rewrite"),
     ] {
         let done = checks.call_with(&[word], frames.as_bytes());

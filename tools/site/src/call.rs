@@ -16,7 +16,7 @@ pub struct Call {
 
 /// The words' options; the last one has a number after it.
 const OPTIONS: [(&str, &str); 3] = [("draw", "--mend"), ("trace", "--csv"), ("mend", "--calls=")];
-const MANY_FILES: [&str; 4] = ["verdict", "archive", "check", "run"];
+const MANY_FILES: [&str; 5] = ["verdict", "archive", "quote", "check", "run"];
 
 const PASSES: u8 = 0;
 const REFUSED: u8 = 1;
@@ -94,8 +94,9 @@ impl Call {
 
     fn answer_of(&self, document: &Document, programs: &Programs) -> Result<Told, Trouble> {
         match self.word.as_str() {
-            "verdict" => asked("verdict", document.plan_frames(), document, programs),
-            "archive" => asked("archive", document.plan_frames(), document, programs),
+            program @ ("verdict" | "archive" | "quote") => {
+                asked(program, document.plan_frames(), document, programs)
+            }
             "run" => asked("run", document.frames(), document, programs),
             "rewrite" | "plan" => rewritten(document, programs),
             "check" => checked(document, programs),

@@ -42,6 +42,9 @@ pub struct Run {
 /// The most rounds of a run.
 pub const MOST_ROUNDS: u8 = 40;
 
+/// The cause of more terminals than the quoting desk takes: `quote` alone has it.
+pub const TOO_MANY: u8 = 14;
+
 /// The cause that a new plan with a deaf terminal is refused with: one other than the source that
 /// hears nobody.
 pub const DEAF: u8 = 15;

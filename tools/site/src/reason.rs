@@ -2,11 +2,13 @@
 //! looks at the file once more, and says nothing where it cannot tell.
 
 use crate::digits::bad_line;
-use crate::frames::{self, Plan, Refusal, Run, Word, DEAF, EDITION, GROUPS};
+use crate::frames::{self, Plan, Refusal, Run, Word, DEAF, EDITION, GROUPS, TOO_MANY};
 use crate::groups::{self, Limit};
 use crate::{channel, kinds, later};
 
 const LONGEST_FILE: usize = 24_576;
+const AT_THE_DESK: &str =
+    "the quoting desk takes at most 12 terminals; './hulmayek verdict FILE' judges up to 20";
 
 /// What is wrong, and what would be right.
 pub struct Reason {
@@ -137,6 +139,7 @@ impl Scene<'_> {
             9 => self.wrong_start(),
             10 => self.wrong_word(),
             11 => self.second_word(),
+            TOO_MANY => plainly(AT_THE_DESK),
             EDITION => later::wrong_edition(self),
             GROUPS => groups::refused(&self.plan, &self.named()?),
             _ => None,

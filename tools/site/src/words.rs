@@ -2,7 +2,7 @@
 
 use crate::ask::Programs;
 use crate::document::{Document, Extras};
-use crate::frames::{self, Plan, Refusal, Run, State, Verdict, DEAF, EDITION, GROUPS};
+use crate::frames::{self, Plan, Refusal, Run, State, Verdict, DEAF, EDITION, GROUPS, TOO_MANY};
 use crate::groups::{self, Limit};
 use crate::notice::Later;
 use crate::{channel, Trouble};
@@ -188,6 +188,7 @@ pub fn cause(refusal: &Refusal) -> &'static str {
             "word with round 0 or past the last, no such link, good sender, value or edition 0"
         }
         (11, _) => "second word on one link, or on a shared channel of one sender, in one round",
+        (TOO_MANY, _) => "n above 12, at the quoting desk",
         (DEAF, _) => "a terminal other than the source hears nobody",
         (EDITION, _) => "edition 0, or not above the source's last",
         (GROUPS, 0) => "no group, where the head has ff for f",
