@@ -1,14 +1,14 @@
 // The search of crates/partition/src (search.rt, bound.rt, branch.rt) in plain Rust: the same
 // functions, the same tests in the same order. tests/bench/run compiles it by `rustc -O` and
 // compares instruction counts. It reads an accepted plan file on standard input and refuses nothing.
-// groups.rs has the search for groups; hunt.rs looks for plans with a bound that are bad for it.
+// groups.rs has the search for groups; hunt.rs looks for plans that are bad for either.
 mod groups;
 
 use std::io::{Read, Write};
 use std::sync::atomic::{AtomicU64, Ordering::Relaxed};
 
-// How many parts were split, for hunt.rs.
-pub static PARTS: AtomicU64 = AtomicU64::new(0);
+// How many parts were split, and for groups how many closures were asked for: the search's work, for hunt.rs.
+pub static WORK: AtomicU64 = AtomicU64::new(0);
 
 #[derive(Clone, Copy)]
 pub struct Plan {
@@ -134,7 +134,7 @@ fn hopeless(p: &Plan, inn: u32, known: u32, rest: u32, best: u32) -> bool {
 }
 
 fn split(p: &Plan, hearers: u32, inn: u32, out: u32, known: u32, best: u32) -> u32 {
-    PARTS.fetch_add(1, Relaxed);
+    WORK.fetch_add(1, Relaxed);
     let sure = settled(p, out, known);
     let rest = left_out(p.n, inn, sure);
     if hopeless(p, inn, sure, rest, best) {

@@ -1,6 +1,7 @@
 // The search of crates/partition/src/groups.rt in plain Rust: the same functions, the same tests in
 // the same order.
-use super::{defeats, highest, key, left_out, narrowed, reach, Plan};
+use super::{defeats, highest, key, left_out, narrowed, reach, Plan, WORK};
+use std::sync::atomic::Ordering::Relaxed;
 
 pub fn fitting_none(rows: &[u32; 20], groups: &[u32; 16], a: u32) -> u32 {
     let others = groups.map(|group| a & !group);
@@ -16,6 +17,7 @@ pub fn fitting_none(rows: &[u32; 20], groups: &[u32; 16], a: u32) -> u32 {
 }
 
 fn reaches(p: &Plan, hearers: u32, all: u32, b: usize) -> bool {
+    WORK.fetch_add(1, Relaxed);
     reach(p, hearers, all & !(1 << b)) >> b & 1 == 1
 }
 

@@ -1,13 +1,14 @@
 // Plans that are bad for the search: hill climbing from given plans, a bounded number of steps each. A step
-// changes a few links, or the bound, and stays where the search then splits no fewer parts. tests/bench/run
-// counts the instructions of what is found.
+// changes a few links, or the bound or a group, and stays where the search then has no less work.
+// Nobody is deaf in what is found, so that the programs judge it. tests/bench/run counts the instructions of
+// what is found, of plans of twelve terminals (plans/bench/quote) by `quote`.
 //   rustc -O --edition 2021 -o target/bench/hunt tests/bench/hunt.rs
 //   target/bench/hunt SEED STEPS FOLDER PLAN..     the worst three go to FOLDER as 1.hex, 2.hex, 3.hex
 #[allow(dead_code)]
 #[path = "baseline.rs"]
 mod baseline;
 
-use baseline::{over, read, search, Plan, PARTS};
+use baseline::{over, read, search, Plan, WORK};
 use std::fs;
 use std::path::Path;
 use std::sync::atomic::Ordering::Relaxed;
@@ -25,17 +26,35 @@ impl Rng {
     }
 }
 
-// How many parts the search splits.
+// The search's work.
 fn cost(p: &Plan) -> u64 {
-    PARTS.store(0, Relaxed);
+    WORK.store(0, Relaxed);
     search(p, over(&p.rows, 0, 1 << p.source));
-    PARTS.load(Relaxed)
+    WORK.load(Relaxed)
 }
 
-// One to four links turned round, or seldom the bound moved by one.
+fn some_deaf(p: &Plan) -> bool {
+    (0..p.n).any(|b| b != p.source && p.rows[b] == 0)
+}
+
+// One terminal other than the source goes into a group or out of it; it may be a new group, of it alone.
+fn regrouped(rng: &mut Rng, p: &Plan) -> Plan {
+    let mut next = *p;
+    let (group, member) = (rng.below(16.min(p.listed + 1)), rng.below(p.n));
+    if member != p.source {
+        next.groups[group] ^= 1 << member;
+        next.listed = p.listed.max(group + 1);
+    }
+    next
+}
+
+// One to four links turned round, or seldom the bound moved by one, or often a group changed.
 fn changed(rng: &mut Rng, p: &Plan) -> Plan {
     let mut next = *p;
-    if rng.below(12) == 0 {
+    if p.f == 255 && rng.below(2) == 0 {
+        return regrouped(rng, p);
+    }
+    if p.f != 255 && rng.below(12) == 0 {
         let f = if rng.below(2) == 0 {
             p.f + 1
         } else {
@@ -57,9 +76,9 @@ fn climbed(rng: &mut Rng, start: Plan, steps: usize) -> (u64, Plan) {
     let mut best = (cost(&start), start);
     for _ in 0..steps {
         let next = changed(rng, &best.1);
-        let parts = cost(&next);
-        if parts >= best.0 {
-            best = (parts, next);
+        let work = cost(&next);
+        if work >= best.0 && !some_deaf(&next) {
+            best = (work, next);
         }
     }
     best
@@ -71,6 +90,9 @@ fn frames(p: &Plan) -> String {
         for to in (0..p.n).filter(|&to| (p.rows[to] >> from) & 1 == 1) {
             text += &format!("02{from:02x}{to:02x}\n");
         }
+    }
+    for group in &p.groups[..p.listed] {
+        text += &format!("07{group:06x}\n");
     }
     text
 }
@@ -87,9 +109,9 @@ fn main() {
         .iter()
         .map(|file| climbed(&mut rng, read(&fs::read(file).expect("a plan")), steps))
         .collect();
-    found.sort_by_key(|(parts, _)| std::cmp::Reverse(*parts));
-    for (number, (parts, plan)) in (1..=3).zip(&found) {
-        println!("{number}: {parts} parts");
+    found.sort_by_key(|(work, _)| std::cmp::Reverse(*work));
+    for (number, (work, plan)) in (1..=3).zip(&found) {
+        println!("{number}: {work}");
         let file = Path::new(folder).join(format!("{number}.hex"));
         fs::write(file, frames(plan)).expect("a folder");
     }
