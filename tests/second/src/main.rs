@@ -10,6 +10,7 @@ use std::process::ExitCode;
 
 const USAGE: &str = "usage:
   second verdict < FILE
+  second quote < FILE
   second run < FILE
   second archive < FILE
   second generate verdict|run SEED COUNT DIR
@@ -40,6 +41,7 @@ fn main() -> ExitCode {
 fn dispatch(words: &[&str]) -> Option<bool> {
     match words {
         ["verdict"] => Some(filter(second::verdict_text)),
+        ["quote"] => Some(filter(second::quote_text)),
         ["run"] => Some(filter(second::run_text)),
         ["archive"] => Some(filter(second::archive_text)),
         ["generate", kind, seed, count, folder] => {
