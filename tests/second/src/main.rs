@@ -14,7 +14,7 @@ const USAGE: &str = "usage:
   second run < FILE
   second archive < FILE
   second generate verdict|run SEED COUNT DIR
-  second compare PROGRAM_VERDICT PROGRAM_RUN PROGRAM_REWRITE PROGRAM_ARCHIVE SEED COUNT
+  second compare PROGRAM_VERDICT PROGRAM_RUN PROGRAM_REWRITE PROGRAM_ARCHIVE PROGRAM_QUOTE SEED COUNT
   second faults [SEED COUNT]
   second exhaust
   second record CALLS LINES
@@ -58,8 +58,8 @@ fn dispatch(words: &[&str]) -> Option<bool> {
                 Path::new(folder),
             )))
         }
-        ["compare", verdict, run, rewrite, archive, seed, count] => Some(compare::compare(
-            &[verdict, run, rewrite, archive],
+        ["compare", verdict, run, rewrite, archive, quote, seed, count] => Some(compare::compare(
+            &[verdict, run, rewrite, archive, quote],
             number(seed)?,
             number(count)?,
         )),

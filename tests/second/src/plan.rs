@@ -124,6 +124,17 @@ impl Plan {
             .collect()
     }
 
+    /// Whether links lead from the source to everyone.
+    pub fn all_reached(&self) -> bool {
+        let mut reached = Set::from([self.source]);
+        let mut work = vec![self.source];
+        while let Some(sender) = work.pop() {
+            let hearers = self.links.iter().filter(|link| link.0 == sender);
+            work.extend(hearers.map(|link| link.1).filter(|&to| reached.insert(to)));
+        }
+        reached.len() == self.n as usize
+    }
+
     /// The terminals that hear nobody. The source needs to hear nobody, so it is never one.
     pub fn deaf(&self, fault: Fault) -> Set {
         let asked = |terminal: &u32| *terminal != self.source || fault == Fault::SourceDeaf;
