@@ -6,8 +6,8 @@ pub const PLANTED: [(Fault, &str); 22] = [
     (Fault::QuoteOf11, "12 terminals not quoted"),
     (Fault::QuoteOf13, "13 terminals quoted"),
     (Fault::QuoteOf20, "any number of terminals quoted"),
-    (Fault::QuoteNot13, "cause 14 for 13 terminals alone"),
-    (Fault::QuoteNot20, "cause 14 for 20 terminals alone"),
+    (Fault::QuoteRefuses13Only, "cause 14 for 13 terminals alone"),
+    (Fault::QuoteRefuses20Only, "cause 14 for 20 terminals alone"),
     (
         Fault::GroupsQuotedUnbounded,
         "cause 14 not given where groups are listed",

@@ -43,8 +43,8 @@ pub fn too_many(n: u32, groups: bool, fault: Fault) -> bool {
         Fault::QuoteOf11 => n > 11,
         Fault::QuoteOf13 => n > 13,
         Fault::QuoteOf20 => n > MOST_TERMINALS,
-        Fault::QuoteNot13 => n == 13,
-        Fault::QuoteNot20 => n == MOST_TERMINALS,
+        Fault::QuoteRefuses13Only => n == 13,
+        Fault::QuoteRefuses20Only => n == MOST_TERMINALS,
         Fault::GroupsQuotedUnbounded if groups => false,
         _ => n > MOST_QUOTED,
     }

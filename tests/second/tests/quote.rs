@@ -7,8 +7,8 @@ use second::faults::Fault;
 use second::groups::Bound;
 use second::output::rewritten_text;
 use second::plan::{write_plan, Cause, Plan, Set};
-use second::quote;
-use second::verdict::{fault_cause, witness_check, Verdict};
+use second::quote::quote as quote_of;
+use second::verdict::{fault_cause, verdict as verdict_of, witness_check, Verdict};
 
 const PASSES: &str = "8100000000000000000000\n";
 
@@ -284,8 +284,8 @@ fn record(n: u32, bound: Bound) -> Plan {
 /// The numbers of the quoting page and of the verdict; 0 for an answer.
 fn numbers(plan: &Plan) -> (u8, u8) {
     let number = |answer: Result<Verdict, Cause>| answer.map_or_else(Cause::number, |_| 0);
-    let judged = second::verdict::verdict(plan, Fault::None);
-    (number(quote::quote(plan, Fault::None)), number(judged))
+    let judged = verdict_of(plan, Fault::None);
+    (number(quote_of(plan, Fault::None)), number(judged))
 }
 
 #[test]
@@ -311,7 +311,7 @@ fn records_are_judged_alike() {
         reached: set(&[0, 1]),
         left: (2..12).collect(),
     };
-    assert_eq!(quote::quote(&plan, Fault::None), Ok(fails));
+    assert_eq!(quote_of(&plan, Fault::None), Ok(fails));
     let mut plan = Plan::new(12, 5, 11);
     plan.links = (0..12).filter(|&to| to != 5).map(|to| (5, to)).collect();
     let passes = Verdict {
@@ -320,7 +320,7 @@ fn records_are_judged_alike() {
         reached: Set::new(),
         left: Set::new(),
     };
-    assert_eq!(quote::quote(&plan, Fault::None), Ok(passes));
+    assert_eq!(quote_of(&plan, Fault::None), Ok(passes));
 }
 
 /// Each cause of a record, with 12 terminals and with 13. What is 15 in a file is none here.

@@ -7,6 +7,7 @@ use common::{quote_bytes, refused, verdict_bytes};
 use second::faults::{Fault, Sound};
 use second::generate::{case, Kind};
 use second::plan::{number_of, Cause, Plan};
+use second::quote::quote;
 use second::quotes::{quote_case, quote_record};
 use second::reader::read_plan;
 use second::record::{self, Call};
@@ -79,7 +80,7 @@ fn records_differ_above_twelve_only() {
     let (mut many, mut others) = (0, 0);
     for index in 0..1200 {
         let plan = quote_record(5, index);
-        let quoted = second::quote::quote(&plan, Fault::None);
+        let quoted = quote(&plan, Fault::None);
         if record_too_many(&plan) {
             assert_eq!(quoted, Err(Cause::TooMany), "{plan:?}");
             many += 1;
@@ -403,8 +404,8 @@ fn planted_faults_show_where_they_should() {
         Fault::QuoteOf11,
         Fault::QuoteOf13,
         Fault::QuoteOf20,
-        Fault::QuoteNot13,
-        Fault::QuoteNot20,
+        Fault::QuoteRefuses13Only,
+        Fault::QuoteRefuses20Only,
         Fault::GroupsQuotedUnbounded,
         Fault::QuoteBeforeHead,
         Fault::QuoteBeforeSource,
