@@ -6,10 +6,12 @@ use common::bytes::Bytes;
 use common::{quote_bytes, refused, verdict_bytes};
 use second::faults::{Fault, Sound};
 use second::generate::{case, Kind};
+use second::output::quote_text;
 use second::plan::{number_of, Cause, Plan};
+use second::planted_quote::PLANTED;
 use second::quote::quote;
-use second::quotes::{quote_case, quote_record};
-use second::reader::read_plan;
+use second::quotes::{judged, quote_case, quote_record};
+use second::reader::{read_archive, read_plan, read_run};
 use second::record::{self, Call};
 use second::verdict::{verdict, Verdict};
 use std::collections::BTreeMap;
@@ -96,6 +98,7 @@ fn records_differ_above_twelve_only() {
 
 // ---- recorded files
 
+/// The recorded calls of this kind.
 fn calls_of(kind: u8) -> Vec<Call> {
     let calls = record::calls(record::SEED).into_iter();
     calls.filter(|call| call.kind == kind).collect()
@@ -274,9 +277,19 @@ fn needed_files_are_there() {
     check("recorded", &recorded, &[("as long as may be", 1)]);
     let fresh = tally((0..1800).map(|index| marks_of_quote(&quote_case(1, index))));
     check("fresh", &fresh, &NEEDED);
-    // The verdict's files have other things in them than those of the quoting page.
-    let no_14 = calls_of(b'v').iter().all(|call| call.line[0] != 14);
-    assert!(no_14 && calls_of(b'a').iter().all(|call| call.line[0] != 14));
+}
+
+/// Only the quoting page answers 14, in files and in records.
+#[test]
+fn nobody_else_answers_14() {
+    for call in record::calls(record::SEED) {
+        let number = match call.kind {
+            b'q' => continue,
+            b'j' => record_of(&call).1[0].0,
+            _ => call.line[0],
+        };
+        assert_ne!(number, 14, "kind {}", char::from(call.kind));
+    }
 }
 
 // ---- recorded records
@@ -384,17 +397,52 @@ fn needed_records_are_there() {
 /// Every number of terminals that a byte may name, up to 22, in a file and in a record.
 #[test]
 fn every_size_is_recorded() {
-    let files = calls_of(b'q');
-    let records = calls_of(b'j');
+    let calls = record::calls(record::SEED);
     for n in (0..=22).chain([255]) {
-        let named = |call: &&Call| head_of(&call.body).is_some_and(|head| head[0] == n);
-        assert!(files.iter().filter(named).count() >= 2, "{n}");
-        let held = |call: &&Call| u32::from(call.body[0]) == n;
-        assert!(records.iter().filter(held).count() >= 2, "{n}");
+        let named = |call: &&Call| match call.kind {
+            b'q' => head_of(&call.body).is_some_and(|head| head[0] == n),
+            b'j' => u32::from(call.body[0]) == n,
+            _ => false,
+        };
+        let (files, records): (Vec<&Call>, Vec<&Call>) = calls
+            .iter()
+            .filter(named)
+            .partition(|call| call.kind == b'q');
+        assert!(files.len() >= 2 && records.len() >= 2, "{n}");
     }
 }
 
 // ---- planted faults
+
+/// Whether a recorded call is answered otherwise where this fault is planted.
+fn shows(call: &Call, fault: Fault) -> bool {
+    let text = &call.body;
+    match call.kind {
+        b'q' => quote_text(text, fault) != quote_text(text, Fault::None),
+        b'j' => {
+            let plan = record_of(call).0;
+            judged(&plan, fault) != judged(&plan, Fault::None)
+        }
+        b'a' => read_archive(text, fault) != read_archive(text, Fault::None),
+        b'r' => read_run(text, fault) != read_run(text, Fault::None),
+        _ => false,
+    }
+}
+
+/// Whoever answers the recorded calls rightly has none of these faults.
+#[test]
+fn recorded_calls_show_the_planted_faults() {
+    let calls = record::calls(record::SEED);
+    let (own, others): (Vec<&Call>, Vec<&Call>) =
+        calls.iter().partition(|call| b"qj".contains(&call.kind));
+    for (fault, name) in PLANTED {
+        let asked = match fault {
+            Fault::QuoteLimitInArchive | Fault::QuoteLimitInRuns => &others,
+            _ => &own,
+        };
+        assert!(asked.iter().any(|call| shows(call, fault)), "{name}");
+    }
+}
 
 /// Which of files and records show which fault about the quoting page.
 #[test]
