@@ -1,7 +1,9 @@
 //! Every byte in the place of a digit: the same files over and over, with another byte in one place.
 
-use crate::draft::{join, link_line};
+use crate::draft::{head_line, join, link_line};
 use crate::generate::Kind;
+use crate::plan::{Plan, MOST_TERMINALS};
+use crate::quote::MOST_QUOTED;
 
 /// Where the byte stands.
 #[derive(Clone, Copy, Debug, PartialEq, Eq)]
@@ -27,31 +29,53 @@ pub fn byte_in(index: u64) -> (u8, Place) {
 /// What a digit says shows in the answer: in a run it is one of the layout, in a plan one of a
 /// link's end; past the longest frame it only tells a wrong length from a foreign character.
 pub fn file(kind: Kind, index: u64) -> Vec<u8> {
+    match kind {
+        Kind::Verdict => plan_file(MOST_TERMINALS, index),
+        Kind::Run => run_file(index),
+    }
+}
+
+/// The same for the quoting page.
+pub fn quote_file(index: u64) -> Vec<u8> {
+    plan_file(MOST_QUOTED, index)
+}
+
+/// Past the longest frame.
+const PAST: (&[u8], &[u8]) = (b"00070100000000", b"0\n");
+
+fn run_file(index: u64) -> Vec<u8> {
     let (byte, place) = byte_in(index);
-    let start: &[u8] = match kind {
-        Kind::Verdict => b"01140001\n02",
-        Kind::Run => b"01020000\n020001\n03000000\n04",
+    let (before, after): (&[u8], &[u8]) = match place {
+        Place::High => (b"", b"00701\n"),
+        Place::Low => (b"0", b"0701\n"),
+        Place::Past => PAST,
     };
-    let (before, after): (&[u8], &[u8]) = match (kind, place) {
-        (Kind::Verdict, Place::High) => (b"00", b"1\n"),
-        (Kind::Verdict, Place::Low) => (b"000", b"\n"),
-        (Kind::Run, Place::High) => (b"", b"00701\n"),
-        (Kind::Run, Place::Low) => (b"0", b"0701\n"),
-        (_, Place::Past) => (b"00070100000000", b"0\n"),
+    let start = b"01020000\n020001\n03000000\n04";
+    [start, before, &[byte], after].concat()
+}
+
+fn plan_file(terminals: u32, index: u64) -> Vec<u8> {
+    let (byte, place) = byte_in(index);
+    let (before, after): (&[u8], &[u8]) = match place {
+        Place::High => (b"00", b"1\n"),
+        Place::Low => (b"000", b"\n"),
+        Place::Past => PAST,
     };
-    let rest = if kind == Kind::Verdict && byte.is_ascii_hexdigit() {
-        others_hear()
+    let head = join(&[head_line(&Plan::new(terminals, 0, 1))]);
+    let rest = if byte.is_ascii_hexdigit() {
+        others_hear(terminals)
     } else {
         Vec::new()
     };
-    [start, before, &[byte], after, &rest].concat()
+    [&head, &b"02"[..], before, &[byte], after, &rest].concat()
 }
 
-/// Each of twenty terminals but the source hears one other, which is not enough: so nobody is deaf
-/// and only whoever hears the source too gets the notice. It is given where the byte may be read.
-fn others_hear() -> Vec<u8> {
-    let links: Vec<Vec<u8>> = (1..20)
-        .map(|hearer| link_line(hearer % 19 + 1, hearer))
+/// Each terminal but the source hears one other, which is not enough: so nobody is deaf and only
+/// whoever hears the source too gets the notice. It is given where the byte may be read.
+fn others_hear(terminals: u32) -> Vec<u8> {
+    let others = terminals - 1;
+    let links: Vec<Vec<u8>> = (1..terminals)
+        .map(|hearer| link_line(hearer % others + 1, hearer))
         .collect();
     join(&links)
 }

@@ -3,7 +3,8 @@
 use crate::characters;
 use crate::faults::Fault;
 use crate::generate::{fresh_case, Kind};
-use crate::output::{archive_text, rewritten_text, run_text, verdict_text};
+use crate::output::{archive_text, quote_text, rewritten_text, run_text, verdict_text};
+use crate::quotes::quote_case;
 use std::fs;
 use std::io::{Read, Write};
 use std::process::{Child, Command, Stdio};
@@ -93,30 +94,50 @@ fn finish(mut child: Child, output: Vec<u8>, end: Instant) -> Answer {
 struct Tested<'a> {
     name: &'static str,
     program: &'a str,
-    kind: Kind,
+    files: &'a Files,
     text: fn(&[u8], Fault) -> Vec<u8>,
 }
 
-/// The programs, in this order: verdict, run, rewrite, archive.
-fn tested<'a>(programs: &[&'a str; 4]) -> [Tested<'a>; 4] {
-    let [verdict, run, rewrite, archive] = *programs;
-    let of = |name, program, kind, text| Tested {
+/// The files of a program: those of a seed, and those with every byte in the place of a digit.
+struct Files {
+    seeded: fn(u64, u64) -> Vec<u8>,
+    characters: fn(u64) -> Vec<u8>,
+}
+
+const PLANS: Files = Files {
+    seeded: |seed, index| fresh_case(Kind::Verdict, seed, index),
+    characters: |index| characters::file(Kind::Verdict, index),
+};
+const RUNS: Files = Files {
+    seeded: |seed, index| fresh_case(Kind::Run, seed, index),
+    characters: |index| characters::file(Kind::Run, index),
+};
+const QUOTES: Files = Files {
+    seeded: quote_case,
+    characters: characters::quote_file,
+};
+
+/// The programs, in this order: verdict, run, rewrite, archive, quote.
+fn tested<'a>(programs: &[&'a str; 5]) -> [Tested<'a>; 5] {
+    let [verdict, run, rewrite, archive, quote] = *programs;
+    let of = |name, program, files, text| Tested {
         name,
         program,
-        kind,
+        files,
         text,
     };
     [
-        of("verdict", verdict, Kind::Verdict, verdict_text),
-        of("run", run, Kind::Run, run_text),
-        of("rewrite", rewrite, Kind::Verdict, rewritten_text),
-        of("archive", archive, Kind::Verdict, archive_text),
+        of("verdict", verdict, &PLANS, verdict_text),
+        of("run", run, &RUNS, run_text),
+        of("rewrite", rewrite, &PLANS, rewritten_text),
+        of("archive", archive, &PLANS, archive_text),
+        of("quote", quote, &QUOTES, quote_text),
     ]
 }
 
 /// Compares the programs, each beside the others; prints one line in all, and true if nothing
 /// differed.
-pub fn compare(programs: &[&str; 4], seed: u64, count: u64) -> bool {
+pub fn compare(programs: &[&str; 5], seed: u64, count: u64) -> bool {
     let tested = tested(programs);
     let counts: Vec<(u64, u64)> = thread::scope(|scope| {
         let started = tested
@@ -139,9 +160,9 @@ fn compare_one(tested: &Tested, seed: u64, count: u64) -> (u64, u64) {
     for index in 0..count + characters::FILES {
         cases += 1;
         let input = if index < count {
-            fresh_case(tested.kind, seed, index)
+            (tested.files.seeded)(seed, index)
         } else {
-            characters::file(tested.kind, index - count)
+            (tested.files.characters)(index - count)
         };
         if let Some(reason) = difference(tested, &input) {
             report(tested.name, seed, index, &input, &reason);

@@ -6,6 +6,9 @@ use crate::issues::{issue_case, IssueCase};
 use crate::lent::{read_answer, read_case, shared_read_case, ReadAnswer, ReadCase};
 use crate::output::{archive_text, rewritten_text, run_text, verdict_text};
 use crate::plan::{Cause, Plan, Set};
+use crate::quotes::{
+    is_short_search, judged, quote_answers, quote_case, quote_record, Judged, QuoteAnswer,
+};
 use crate::reader::{read_archive, Filed, Refusal};
 use crate::records::{record_answer, record_case, RecordAnswer, RecordCase};
 use crate::run::issue;
@@ -16,7 +19,7 @@ use crate::shared_calls::{
 use crate::sites::{site_case, Site};
 use crate::step::{shared_step, step, Record, Row, State};
 use crate::steps::{step_case, StepCase};
-use crate::{planted, planted_notices, planted_shared};
+use crate::{planted, planted_notices, planted_quote, planted_shared};
 
 /// The place that is broken. Normal use is `None`.
 #[derive(Clone, Copy, Debug, PartialEq, Eq)]
@@ -304,6 +307,28 @@ pub enum Fault {
     SharedListedByHearer,
     SharedListedAsLayouts,
     DefaultNotAnswered,
+    QuoteOf11,
+    QuoteOf13,
+    QuoteOf20,
+    QuoteRefuses13Only,
+    QuoteRefuses20Only,
+    GroupsQuotedUnbounded,
+    QuoteBeforeText,
+    QuoteBeforeKind,
+    QuoteBeforeOrder,
+    QuoteBeforeHead,
+    QuoteBeforeSource,
+    QuoteAbove20,
+    QuoteAfterLinks,
+    QuoteAfterAll,
+    QuoteWithoutLine,
+    QuoteLimitInVerdict,
+    QuoteLimitInArchive,
+    QuoteLimitInRuns,
+    DeafQuoted,
+    GroupNotQuoted,
+    QuoteAlwaysPasses,
+    QuoteWithoutSets,
 }
 
 /// All planted faults, and what is wrong in each.
@@ -311,7 +336,8 @@ pub fn planted() -> impl Iterator<Item = (Fault, &'static str)> {
     let older = planted::PLANTED.iter().copied();
     let notices = planted_notices::PLANTED.iter().copied();
     let shared = planted_shared::PLANTED.iter().copied();
-    older.chain(notices).chain(shared)
+    let quote = planted_quote::PLANTED.iter().copied();
+    older.chain(notices).chain(shared).chain(quote)
 }
 
 /// Larger sites cost time in the verdict and show no fault that smaller ones hide.
@@ -332,13 +358,17 @@ pub struct Found {
     pub shared_steps: u64,
     pub shared_sites: u64,
     pub shared_sets: u64,
+    /// Files and plan records for the quoting page.
+    pub quotes: u64,
+    pub quote_records: u64,
 }
 
 impl Found {
     pub fn all(&self) -> u64 {
         let files = self.verdicts + self.archive + self.runs + self.reads;
         let shared = self.shared_steps + self.shared_sites + self.shared_sets;
-        files + self.steps + self.records + self.sites + self.issues + shared
+        let quotes = self.quotes + self.quote_records;
+        files + self.steps + self.records + self.sites + self.issues + shared + quotes
     }
 }
 
@@ -384,6 +414,8 @@ pub struct Sound {
     shared_steps: Answered<SharedStep, Stepped>,
     shared_sites: Answered<SharedSite, Played>,
     shared_sets: Answered<(Plan, Set), Option<Cause>>,
+    quotes: Answered<Vec<u8>, QuoteAnswer>,
+    quote_records: Answered<Plan, Judged>,
 }
 
 /// What the archive prints of a file, the plan written anew, and what the archive's reader answers.
@@ -409,6 +441,13 @@ impl Sound {
         // The lists of a read are long, and few of its answers are about them.
         let reads = (0..count / 4).map(|index| read_case(seed, index));
         let reads = reads.chain((0..count / 16).map(|index| shared_read_case(seed, index)));
+        let quotes = (0..count / 4).map(|index| quote_case(seed, index));
+        let quotes = quotes.filter(|text| {
+            read_archive(text, Fault::None).map_or(true, |filed| is_short_search(&filed.plan))
+        });
+        let quote_records = (0..count / 4).map(|index| quote_record(seed, index));
+        let quote_records =
+            quote_records.filter(|plan| plan.check_head().is_err() || is_short_search(plan));
         Sound {
             verdicts: Answered::new(plans.iter().cloned(), |text, fault| {
                 verdict_text(text, fault)
@@ -435,6 +474,8 @@ impl Sound {
                 (0..count).map(|index| shared_set_case(seed, index)),
                 |(plan, bad), fault| shared_fault_cause(plan, bad, fault).err(),
             ),
+            quotes: Answered::new(quotes, |text, fault| quote_answers(text, fault)),
+            quote_records: Answered::new(quote_records, judged),
         }
     }
 
@@ -452,6 +493,8 @@ impl Sound {
             shared_steps: self.shared_steps.count(),
             shared_sites: self.shared_sites.count(),
             shared_sets: self.shared_sets.count(),
+            quotes: self.quotes.count(),
+            quote_records: self.quote_records.count(),
         }
     }
 
@@ -469,6 +512,8 @@ impl Sound {
             shared_steps: self.shared_steps.found(fault),
             shared_sites: self.shared_sites.found(fault),
             shared_sets: self.shared_sets.found(fault),
+            quotes: self.quotes.found(fault),
+            quote_records: self.quote_records.found(fault),
         }
     }
 }
@@ -534,11 +579,14 @@ fn told(found: &Found) -> String {
         shared_steps,
         shared_sites,
         shared_sets,
+        quotes,
+        quote_records,
     } = found;
     format!(
         "{verdicts} verdicts, {archive} of the archive, {runs} runs, {steps} steps, \
          {records} plan records, {sites} calls of the run, {issues} of the issue, {reads} of the reader; \
-         one radio for all: {shared_steps} steps, {shared_sites} runs, {shared_sets} bad sets"
+         one radio for all: {shared_steps} steps, {shared_sites} runs, {shared_sets} bad sets; \
+         the quoting page: {quotes} files, {quote_records} plan records"
     )
 }
 

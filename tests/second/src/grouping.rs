@@ -30,6 +30,12 @@ pub fn group_thinly(rng: &mut Rng, plan: &mut Plan) {
     list_groups(rng, plan, groups);
 }
 
+/// Boards of at most three terminals instead of f: there are few parts of them.
+pub fn board_up(rng: &mut Rng, plan: &mut Plan) {
+    let groups = boards(rng, plan, 3);
+    list_groups(rng, plan, groups);
+}
+
 /// Groups of any sort instead of f.
 pub fn group_up(rng: &mut Rng, plan: &mut Plan) {
     let mut groups = match rng.below(22) {
@@ -65,7 +71,7 @@ fn list_groups(rng: &mut Rng, plan: &mut Plan, mut groups: Vec<Set>) {
 }
 
 /// Whether nobody or one terminal is enough to keep someone waiting.
-fn fails_soon(plan: &Plan) -> bool {
+pub fn fails_soon(plan: &Plan) -> bool {
     let singles = (0..plan.n).map(|terminal| Set::from([terminal]));
     let mut few = singles.chain([Set::new()]);
     few.any(|bad| fails_with(plan, &bad))

@@ -3,9 +3,9 @@
 //! It is written from the specification alone and takes other data structures than the one
 //! it is compared with: sets are ordered sets of terminal numbers, files are split into
 //! lines, bad sets are listed by size, the closure is a work list, a row of a record is a map
-//! of the places that hold something. The programs `verdict` and `run` read new plans; `archive`
-//! and `rewrite` open those on file too, in which a terminal may be deaf. A plan bounds the bad by
-//! a number f, or by named groups that fail together. A notice is an edition and a layout; run files
+//! of the places that hold something. The programs `verdict` and `run` read new plans, and so does
+//! `quote`, of fewer terminals; `archive` and `rewrite` open those on file too, in which a terminal may
+//! be deaf. A plan bounds the bad by a number f, or by named groups that fail together. A notice is an edition and a layout; run files
 //! in the old frames have the layout alone and count as edition 1. On a site with one radio for all a
 //! bad terminal says one thing to all its hearers, and the source may be bad too.
 
@@ -34,9 +34,13 @@ pub mod plan;
 pub mod plans;
 pub mod planted;
 pub mod planted_notices;
+pub mod planted_quote;
 pub mod planted_shared;
+pub mod quote;
+pub mod quotes;
 pub mod reader;
 pub mod record;
+pub mod record_quote;
 pub mod record_shared;
 pub mod records;
 pub mod rng;
@@ -54,6 +58,11 @@ use faults::Fault;
 /// From the bytes of a plan file to the bytes that `verdict` prints.
 pub fn verdict_text(text: &[u8]) -> Vec<u8> {
     output::verdict_text(text, Fault::None)
+}
+
+/// From the bytes of a plan file to the bytes that `quote` prints.
+pub fn quote_text(text: &[u8]) -> Vec<u8> {
+    output::quote_text(text, Fault::None)
 }
 
 /// From the bytes of a plan file to the bytes that `archive` prints.

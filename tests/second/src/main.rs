@@ -10,10 +10,11 @@ use std::process::ExitCode;
 
 const USAGE: &str = "usage:
   second verdict < FILE
+  second quote < FILE
   second run < FILE
   second archive < FILE
   second generate verdict|run SEED COUNT DIR
-  second compare PROGRAM_VERDICT PROGRAM_RUN PROGRAM_REWRITE PROGRAM_ARCHIVE SEED COUNT
+  second compare PROGRAM_VERDICT PROGRAM_RUN PROGRAM_REWRITE PROGRAM_ARCHIVE PROGRAM_QUOTE SEED COUNT
   second faults [SEED COUNT]
   second exhaust
   second record CALLS LINES
@@ -40,6 +41,7 @@ fn main() -> ExitCode {
 fn dispatch(words: &[&str]) -> Option<bool> {
     match words {
         ["verdict"] => Some(filter(second::verdict_text)),
+        ["quote"] => Some(filter(second::quote_text)),
         ["run"] => Some(filter(second::run_text)),
         ["archive"] => Some(filter(second::archive_text)),
         ["generate", kind, seed, count, folder] => {
@@ -56,8 +58,8 @@ fn dispatch(words: &[&str]) -> Option<bool> {
                 Path::new(folder),
             )))
         }
-        ["compare", verdict, run, rewrite, archive, seed, count] => Some(compare::compare(
-            &[verdict, run, rewrite, archive],
+        ["compare", verdict, run, rewrite, archive, quote, seed, count] => Some(compare::compare(
+            &[verdict, run, rewrite, archive, quote],
             number(seed)?,
             number(count)?,
         )),

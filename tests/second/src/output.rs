@@ -2,8 +2,9 @@
 
 use crate::faults::Fault;
 use crate::notice::{Form, Notice};
-use crate::plan::{number_of, Plan, Set};
-use crate::reader::{read_archive, read_plan, read_run, Refusal};
+use crate::plan::{number_of, Cause, Plan, Set};
+use crate::quote::quote;
+use crate::reader::{read_archive, read_plan, read_quote, read_run, Refusal};
 use crate::run::run_file;
 use crate::step::{Record, State};
 use crate::verdict::{verdict, Verdict};
@@ -93,25 +94,35 @@ pub fn refusal_line(refusal: Refusal) -> Vec<u8> {
     line(&[0xff, refusal.cause.number(), high, low])
 }
 
-/// The verdict's line on a plan that was read.
-fn judged(plan: &Plan, fault: Fault) -> Result<Vec<u8>, Refusal> {
-    let answer = verdict(plan, fault).map_err(|cause| Refusal { cause, line: 0 })?;
+/// The line of what was judged of a plan that was read.
+fn judged(answer: Result<Verdict, Cause>, fault: Fault) -> Result<Vec<u8>, Refusal> {
+    let answer = answer.map_err(|cause| Refusal { cause, line: 0 })?;
     Ok(verdict_line(&answer, fault))
 }
 
 /// The verdict's line on a new plan's file, or why the file is refused.
 pub fn verdict_answer(text: &[u8], fault: Fault) -> Result<Vec<u8>, Refusal> {
-    judged(&read_plan(text, fault)?, fault)
+    judged(verdict(&read_plan(text, fault)?, fault), fault)
+}
+
+/// The same for the quoting page.
+pub fn quote_answer(text: &[u8], fault: Fault) -> Result<Vec<u8>, Refusal> {
+    judged(quote(&read_quote(text, fault)?, fault), fault)
 }
 
 /// The verdict's line on any plan's file, deaf or not, or why the file is refused.
 pub fn archive_answer(text: &[u8], fault: Fault) -> Result<Vec<u8>, Refusal> {
-    judged(&read_archive(text, fault)?.plan, fault)
+    judged(verdict(&read_archive(text, fault)?.plan, fault), fault)
 }
 
 /// All of the program `verdict`, from text to text.
 pub fn verdict_text(text: &[u8], fault: Fault) -> Vec<u8> {
     verdict_answer(text, fault).unwrap_or_else(refusal_line)
+}
+
+/// All of the program `quote`, from text to text.
+pub fn quote_text(text: &[u8], fault: Fault) -> Vec<u8> {
+    quote_answer(text, fault).unwrap_or_else(refusal_line)
 }
 
 /// All of the program `archive`, from text to text.

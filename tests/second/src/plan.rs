@@ -20,6 +20,7 @@ pub enum Cause {
     Kind,
     Order,
     Head,
+    TooMany,
     LinkEnd,
     LinkTwice,
     Group,
@@ -50,6 +51,7 @@ impl Cause {
             Cause::WordTwice => 11,
             Cause::Length => 12,
             Cause::Record => 13,
+            Cause::TooMany => 14,
             Cause::Deaf => 15,
             Cause::Edition => 16,
             Cause::Group => 17,
@@ -89,10 +91,16 @@ impl Plan {
         self.check_groups(fault)
     }
 
-    pub fn check_links(&self, fault: Fault) -> Result<(), Cause> {
-        if !head_in_range(self.n, self.source, &self.bound) {
-            return Err(Cause::Head);
+    pub fn check_head(&self) -> Result<(), Cause> {
+        if head_in_range(self.n, self.source, &self.bound) {
+            Ok(())
+        } else {
+            Err(Cause::Head)
         }
+    }
+
+    pub fn check_links(&self, fault: Fault) -> Result<(), Cause> {
+        self.check_head()?;
         if fault == Fault::GroupsBeforeLinkEnds {
             self.check_groups(fault)?;
         }
@@ -114,6 +122,17 @@ impl Plan {
             .filter(|link| link.1 == hearer)
             .map(|link| link.0)
             .collect()
+    }
+
+    /// Whether links lead from the source to everyone.
+    pub fn all_reached(&self) -> bool {
+        let mut reached = Set::from([self.source]);
+        let mut work = vec![self.source];
+        while let Some(sender) = work.pop() {
+            let hearers = self.links.iter().filter(|link| link.0 == sender);
+            work.extend(hearers.map(|link| link.1).filter(|&to| reached.insert(to)));
+        }
+        reached.len() == self.n as usize
     }
 
     /// The terminals that hear nobody. The source needs to hear nobody, so it is never one.

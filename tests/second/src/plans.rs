@@ -203,6 +203,14 @@ pub fn deafen(rng: &mut Rng, plan: &mut Plan) {
     plan.links.retain(|link| !deaf.contains(&link.1));
 }
 
+/// Two terminals of three or more hear each other alone, so that nothing reaches them.
+pub fn cut_off(rng: &mut Rng, plan: &mut Plan) {
+    let others = source_first(rng, plan).split_off(1);
+    let pair = [others[0], others[1]];
+    plan.links.retain(|link| !pair.contains(&link.1));
+    plan.links.extend([(pair[0], pair[1]), (pair[1], pair[0])]);
+}
+
 /// Lets whoever is deaf hear somebody.
 pub fn mend(rng: &mut Rng, plan: &mut Plan) {
     for hearer in plan.deaf(Fault::None) {

@@ -8,6 +8,7 @@ use crate::output::GROUPS_LISTED;
 use crate::plan::{
     bound_holds, head_in_range, link_in_range, members_allowed, set_of, Cause, Plan, Set,
 };
+use crate::quote;
 use crate::run::{last_round, rises};
 use crate::shared::set_cause;
 use std::collections::BTreeMap;
@@ -49,6 +50,12 @@ pub fn read_plan(text: &[u8], fault: Fault) -> Result<Plan, Refusal> {
     read(text, Reader::Plan, fault).map(|reading| reading.file.plan)
 }
 
+/// A new plan from the quoting page.
+pub fn read_quote(text: &[u8], fault: Fault) -> Result<Plan, Refusal> {
+    let read = read(text, Reader::Quote, fault).map(|reading| reading.file.plan);
+    quote::told_late(text, read, fault)
+}
+
 /// A plan from the archive.
 pub fn read_archive(text: &[u8], fault: Fault) -> Result<Filed, Refusal> {
     let plan = read(text, Reader::Archive, fault)?.file.plan;
@@ -62,10 +69,11 @@ pub fn read_run(text: &[u8], fault: Fault) -> Result<RunFile, Refusal> {
 }
 
 /// Who reads. Only the archive opens plans with deaf terminals; nobody opens one that has ff for f
-/// and no group.
+/// and no group. Only the quoting page is bounded to few terminals.
 #[derive(Clone, Copy, PartialEq, Eq)]
 enum Reader {
     Plan,
+    Quote,
     Archive,
     Run,
 }
@@ -74,6 +82,7 @@ impl Reader {
     fn knows(self, kind: u8, fault: Fault) -> bool {
         match kind {
             1 | 2 => true,
+            7 if fault == Fault::GroupNotQuoted => self != Reader::Quote,
             7 => fault != Fault::GroupKindUnknown,
             8 if fault == Fault::NoticeUnknown => false,
             8 if fault == Fault::NoticeKnownInPlans => true,
@@ -95,8 +104,19 @@ impl Reader {
     fn refuses_deaf(self, fault: Fault) -> bool {
         match self {
             Reader::Plan => true,
+            Reader::Quote => fault != Fault::DeafQuoted,
             Reader::Archive => fault == Fault::DeafInArchive,
             Reader::Run => fault != Fault::DeafNotInRuns,
+        }
+    }
+
+    /// Whether the head is asked for cause 14.
+    fn refuses_many(self, fault: Fault) -> bool {
+        match self {
+            Reader::Plan => fault == Fault::QuoteLimitInVerdict,
+            Reader::Quote => !quote::is_late(fault),
+            Reader::Archive => fault == Fault::QuoteLimitInArchive,
+            Reader::Run => fault == Fault::QuoteLimitInRuns,
         }
     }
 }
@@ -160,6 +180,7 @@ fn read(text: &[u8], reader: Reader, fault: Fault) -> Result<Reading, Refusal> {
     let first = if fault == Fault::LinesFromZero { 0 } else { 1 };
     for (line, piece) in (first..).zip(text.split_inclusive(|&byte| byte == 10)) {
         if let Err(found) = reading.take_line(piece, fault) {
+            let found = reading.hidden_by_many(found, piece, fault);
             // What is wrong with the whole plan is told with line 0, wherever it was seen.
             let line = if found.whole { 0 } else { line };
             return refuse(found.cause, line, fault);
@@ -176,6 +197,10 @@ fn refuse(cause: Cause, line: u16, fault: Fault) -> Result<Reading, Refusal> {
         (Fault::KindAndOrderExchanged, Cause::Kind) => Cause::Order,
         (Fault::KindAndOrderExchanged, Cause::Order) => Cause::Kind,
         _ => cause,
+    };
+    let line = match (fault, cause) {
+        (Fault::QuoteWithoutLine, Cause::TooMany) => 0,
+        _ => line,
     };
     Err(Refusal { cause, line })
 }
@@ -259,6 +284,14 @@ impl Reading {
             (Fault::NoGroupBeforeText, Cause::Text) => self.check_no_group(at, fault),
             (Fault::NoGroupBeforeKind, Cause::Kind) => self.check_no_group(at, fault),
             _ => Ok(()),
+        }
+    }
+
+    /// The planted faults by which cause 14 hides another one of the line.
+    fn hidden_by_many(&self, found: Found, piece: &[u8], fault: Fault) -> Found {
+        match quote::hides_on_line(found.cause, piece, fault) {
+            true if self.reader == Reader::Quote => Cause::TooMany.into(),
+            _ => found,
         }
     }
 
@@ -357,7 +390,11 @@ impl Reading {
         } else {
             Bound::f(number)
         };
-        lowest(&[(!head_in_range(n, source, &bound), Cause::Head)])?;
+        let many = self.reader.refuses_many(fault) && quote::too_many(n, listed, fault);
+        lowest(&[
+            (many, Cause::TooMany),
+            (!head_in_range(n, source, &bound), Cause::Head),
+        ])?;
         self.file.plan = Plan::with(n, source, bound);
         self.stage = Stage::Links;
         Ok(())

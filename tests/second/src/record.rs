@@ -23,6 +23,10 @@
 //! with the default (2) before what was said, and that in layouts. `N` has a plan, a fault set (4), the
 //! start's layout, the default, the rounds and the words, one a sender and round; `L` has the five
 //! records before the words. `C` has what `c` has. Their answers are those of `s`, `n`, `l` and `c`.
+//!
+//! Of the quoting page (src/record_quote.rs) `q` has a file, as `v` has. `j` has a plan; its answer is
+//! what the verdict says of it and then what the quoting page says: number, whether it fails (1), F, L
+//! and R (4 each), zeros beside a refusal.
 
 use crate::characters;
 use crate::damage::plant;
@@ -38,11 +42,15 @@ use crate::lent::{
 };
 use crate::notice::{notice, Form, Notice};
 use crate::office::Manner;
-use crate::output::{archive_answer, digits, refusal_line, run_answer, verdict_answer};
+use crate::output::{
+    archive_answer, digits, quote_answer, refusal_line, run_answer, verdict_answer,
+};
 use crate::place::{placed, THERE};
 use crate::plan::{number_of, set_of, write_plan, Cause, Plan, Set};
 use crate::plans::{deaf_plan, deep_plan, mend, strong_plan, thin_plan, weak_plan};
+use crate::quotes::CHAINS;
 use crate::reader::{read_archive, read_run, Refusal, RunFile};
+use crate::record_quote::{chain_call, judged_call, judged_chain_call, quote_call, sized_call};
 use crate::record_shared::{
     channel_call, channel_read_call, flooded_call, shared_file_call, shared_file_read_call,
     shared_lent_call, shared_set_call, shared_site_call, shared_step_call, small_shared_call,
@@ -101,7 +109,7 @@ pub fn write(calls_file: &Path, lines_file: &Path) -> io::Result<()> {
 type Maker = fn(u64, u64) -> Call;
 
 /// Every kind of call, and how many of it.
-const KINDS: [(Maker, u64); 40] = [
+const KINDS: [(Maker, u64); 45] = [
     (verdict_call, 600),
     (run_call, 600),
     (edge_call, 150),
@@ -142,6 +150,11 @@ const KINDS: [(Maker, u64); 40] = [
     (shared_file_call, 2 * SHARED_WAYS.len() as u64),
     (channel_read_call, 82),
     (shared_file_read_call, SHARED_WAYS.len() as u64),
+    (quote_call, 306),
+    (chain_call, CHAINS),
+    (sized_call, 3),
+    (judged_call, 260),
+    (judged_chain_call, CHAINS),
 ];
 
 /// The calls of each kind. Of the long ones a few are enough.
@@ -201,7 +214,7 @@ fn written(number: u8, length: usize, list: &[u8]) -> Vec<u8> {
     [&[number], &pair(length as u16)[..], list].concat()
 }
 
-/// A wrong file's number comes before that of a short list: it is lower, or it is 15 or 17, which
+/// A wrong file's number comes before that of a short list: it is lower, or it is 14, 15 or 17, which
 /// stand before the lower ones of their places. The file's line of text is put where there is room for it.
 fn answered(answer: Result<Vec<u8>, Refusal>, room: usize) -> Vec<u8> {
     let file = answer
@@ -238,6 +251,10 @@ pub(crate) const RUN: Text = Text {
     letter: b'r',
     answer: run_answer,
 };
+pub(crate) const QUOTE: Text = Text {
+    letter: b'q',
+    answer: quote_answer,
+};
 const ARCHIVE: Text = Text {
     letter: b'a',
     answer: archive_answer,
@@ -259,7 +276,7 @@ fn text_call(text: Text, file: Vec<u8>, room: impl FnOnce(usize) -> usize) -> Ca
 }
 
 /// The same with any room.
-fn roomed_call(text: Text, file: Vec<u8>, seed: u64, index: u64) -> Call {
+pub(crate) fn roomed_call(text: Text, file: Vec<u8>, seed: u64, index: u64) -> Call {
     let mut rng = rng_for(seed, text.letter, index);
     text_call(text, file, |length| room_for(&mut rng, length, 400))
 }

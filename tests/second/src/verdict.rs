@@ -3,9 +3,10 @@
 use crate::faults::Fault;
 use crate::groups::{part_of_one, Rule};
 use crate::plan::{bound_holds, members_allowed, rule_holds, set_of, Cause, Neighbours, Plan, Set};
+use crate::quote;
 
 /// The answer on a plan: F, L and R of the witness, or three empty sets where it passes.
-#[derive(Clone, Debug, PartialEq, Eq)]
+#[derive(Clone, Debug, Default, PartialEq, Eq)]
 pub struct Verdict {
     pub fails: bool,
     pub bad: Set,
@@ -14,6 +15,9 @@ pub struct Verdict {
 }
 
 pub fn verdict(plan: &Plan, fault: Fault) -> Result<Verdict, Cause> {
+    if fault == Fault::QuoteLimitInVerdict {
+        quote::check(plan, fault)?;
+    }
     plan.check(fault)?;
     let search = Search::of(plan, fault);
     let found = match fault {
@@ -26,13 +30,7 @@ pub fn verdict(plan: &Plan, fault: Fault) -> Result<Verdict, Cause> {
         }
         _ => search.least(&(0..plan.n).collect()),
     };
-    let none = Verdict {
-        fails: false,
-        bad: Set::new(),
-        reached: Set::new(),
-        left: Set::new(),
-    };
-    Ok(found.unwrap_or(none))
+    Ok(found.unwrap_or_default())
 }
 
 /// Whether F is a bad set of the plan.

@@ -2,8 +2,8 @@
 
 mod common;
 
-use common::{archive_bytes, refused, run_bytes, verdict_bytes};
-use second::characters::{byte_in, file, Place, FILES};
+use common::{archive_bytes, quote_bytes, refused, run_bytes, verdict_bytes};
+use second::characters::{byte_in, file, quote_file, Place, FILES};
 use second::generate::Kind;
 use second::record;
 use std::collections::BTreeSet;
@@ -58,25 +58,42 @@ fn in_a_layout() {
     }
 }
 
+/// What is printed of a plan of so many terminals, in which the source is heard by whoever the byte
+/// tells, and by nobody else.
+fn by_link(terminals: u32, byte: u8, place: Place, value: Option<u32>) -> String {
+    let told = |end: u32| match end {
+        0 => refused(5, 2),
+        end if end >= terminals => refused(5, 2),
+        end => {
+            let reached = 1 + 2u32.pow(end);
+            let cut_off = 2u32.pow(terminals) - 1 - reached;
+            format!("8101000000{reached:06x}{cut_off:06x}\n")
+        }
+    };
+    match (place, value) {
+        (Place::High, Some(value)) => told(16 * value + 1),
+        (Place::Low, Some(value)) => told(value),
+        _ => untold(byte, place, value.is_some(), 2),
+    }
+}
+
 #[test]
 fn in_a_link() {
     for (index, byte, place, value) in places() {
-        let told = |end: u32| match end {
-            1..20 => {
-                let reached = 1 + 2u32.pow(end);
-                let cut_off = 0xf_ffff - reached;
-                format!("8101000000{reached:06x}{cut_off:06x}\n")
-            }
-            _ => refused(5, 2),
-        };
-        let expected = match (place, value) {
-            (Place::High, Some(value)) => told(16 * value + 1),
-            (Place::Low, Some(value)) => told(value),
-            _ => untold(byte, place, value.is_some(), 2),
-        };
+        let expected = by_link(20, byte, place, value);
         let text = file(Kind::Verdict, index);
         assert_eq!(verdict_bytes(&text), expected, "byte {byte}, {place:?}");
         assert_eq!(archive_bytes(&text), expected, "byte {byte}, {place:?}");
+        assert_eq!(quote_bytes(&text), refused(14, 1), "byte {byte}, {place:?}");
+    }
+}
+
+#[test]
+fn in_a_quoted_link() {
+    for (index, byte, place, value) in places() {
+        let expected = by_link(12, byte, place, value);
+        let text = quote_file(index);
+        assert_eq!(quote_bytes(&text), expected, "byte {byte}, {place:?}");
     }
 }
 

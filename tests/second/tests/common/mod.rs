@@ -51,6 +51,10 @@ pub fn verdict(words: &str) -> String {
     verdict_bytes(&file(words))
 }
 
+pub fn quote(words: &str) -> String {
+    quote_bytes(&file(words))
+}
+
 pub fn run(words: &str) -> String {
     run_bytes(&file(words))
 }
@@ -61,6 +65,10 @@ pub fn archive(words: &str) -> String {
 
 pub fn archive_bytes(text: &[u8]) -> String {
     String::from_utf8_lossy(&second::archive_text(text)).into_owned()
+}
+
+pub fn quote_bytes(text: &[u8]) -> String {
+    String::from_utf8_lossy(&second::quote_text(text)).into_owned()
 }
 
 pub fn verdict_bytes(text: &[u8]) -> String {
