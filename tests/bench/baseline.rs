@@ -35,17 +35,17 @@ pub fn over(rows: &[u32; 20], f: u32, a: u32) -> u32 {
     found
 }
 
-fn hearing(p: &Plan, a: u32) -> u32 {
+fn turn(p: &Plan, l: u32, wall: u32) -> u32 {
     if p.f == 255 {
-        return groups::fitting_none(&p.rows, &p.groups, a);
+        return groups::sweep(p, l, wall);
     }
-    over(&p.rows, p.f as u32, a)
+    l | (over(&p.rows, p.f as u32, l) & !wall)
 }
 
 fn spread(p: &Plan, s: u32, wall: u32) -> u32 {
     let mut l = s;
     loop {
-        let next = l | (hearing(p, l) & !wall);
+        let next = turn(p, l, wall);
         if next == l {
             return l;
         }

@@ -1,19 +1,27 @@
-// The search of crates/partition/src/groups.rt in plain Rust: the same functions, the same tests in
-// the same order.
+// The search of crates/partition/src/groups.rt in plain Rust, and the turn of search.rt by groups: the same functions,
+// the same tests in the same order.
 use super::{defeats, highest, key, left_out, narrowed, reach, Plan, WORK};
 use std::sync::atomic::Ordering::Relaxed;
 
-pub fn fitting_none(rows: &[u32; 20], groups: &[u32; 16], a: u32) -> u32 {
-    let others = groups.map(|group| a & !group);
-    let mut found = 0;
-    for b in 0..20 {
-        let mut missed = false;
-        for &other in &others {
-            missed |= rows[b] & other == 0;
-        }
-        found |= (!missed as u32) << b;
+fn enough(groups: &[u32; 16], who: u32) -> bool {
+    let mut found = false;
+    for group in groups {
+        found |= who & !group == 0;
     }
-    found
+    !found
+}
+
+pub fn sweep(p: &Plan, l: u32, wall: u32) -> u32 {
+    let mut r = l;
+    let mut rest = left_out(p.n, wall, l);
+    while rest != 0 {
+        let b = highest(rest);
+        if enough(&p.groups, p.rows[b] & r) {
+            r |= 1 << b;
+        }
+        rest &= !(1 << b);
+    }
+    r
 }
 
 fn reaches(p: &Plan, hearers: u32, all: u32, b: usize) -> bool {

@@ -87,6 +87,11 @@ pub over-low : (p : Plan) → Sound p → (g a o : ℕ) → o ≡ over (p .rows)
 over-low p s g a o e =
     subst (λ (x : ℕ). x < 2 ^ p .n) (sym (e ∙ over-enough p s g a)) (mask-lt (p .n) (λ b. enough (p .n) (atMost g) (λ i. hears p b i and mem i a)))
 
+-- a row's terminals that are in a, as one word
+pub row-hears : (p : Plan) → Sound p → (a b : ℕ) → b < p .n → enough 32 (p .bound) (λ i. mem i (bitAnd (heardBy p b) a)) ≡ hearsEnough p b a
+unfolding hearsEnough
+row-hears p s a b k = ap (enough 32 (p .bound)) (λ j i. mem-and i (heardBy p b) a j) ∙ row-enough p s (p .bound) a b k
+
 pub hearing-is : (p : Plan) → Sound p → (a : ℕ) → hearing (p .rows) (p .bound) a ≡ mask (p .n) (λ b. hearsEnough p b a)
 unfolding hearsEnough
 hearing-is p s a = hearing-enough p s (p .bound) a

@@ -28,7 +28,7 @@ use Rattle.frames.specs.declared.Stage.the-variants.{Nothing, Links, Sha
 use Rattle.frames.specs.declared.Progress.{Progress}
 use Rattle.frames.specs.declared.Reader.{Reader}
 use Rattle.frames.specs.Lines.{Line, ended, cut, lastLine, linesFrom}
-use Rattle.frames.specs.Reading.{mostBytes, stageOf, isAt, inPlan, isStarted, formOf, otherForm, isShared, wrongForm, hasEdition, kindRead, lists, roundsOf, nothingRead, Lists, nothingSaid, headCause, linkCause, groupCause, channelCause, badSetCause, faultSetCause, startCause, laterCause, messageCause, broadcastCause, causeIn, headAbove, lineCause, linksCause, endCause, after, saidAfter, Reading, refusal, told, reading}
+use Rattle.frames.specs.Reading.{mostBytes, stageOf, isAt, inPlan, isStarted, formOf, otherForm, isShared, wrongForm, hasEdition, kindRead, lists, roundsOf, nothingRead, Lists, nothingSaid, headCause, linkCause, groupCause, channelCause, badSetCause, faultSetCause, startCause, laterCause, messageCause, broadcastCause, causeIn, lineCause, linksCause, endCause, after, saidAfter, Reading, refusal, told, reading}
 use Rattle.frames.proofs.Unless.{unless-read}
 use Rattle.frames.proofs.Limits.{limit-none, limit-unless}
 use Rattle.frames.proofs.Built.{Built, head-built, link-built, group-built}
@@ -214,24 +214,13 @@ module _ (p : Progress) (said : Lists) where
 
 -- ---- a reader that takes every plan's terminals: its limit refuses nothing
 
-head-below : (most : ℕ) (p : Progress) (said : Lists) (frame : Frame) → mostTerminals ≤ most → causeIn p said frame ≡ 0 → headAbove most frame ≡ false
-unfolding headAbove inRange
-head-below most p said Foreign m h = refl
-head-below most p said Unknown m h = refl
-head-below most p said (Head n source f) m h =
-    let t = leb-true n mostTerminals (and-l _ _ (and-r _ _ (head-accepted p said n source f h .1))) in le-ltb most n (omega arith)
-head-below most p said (Link from to) m h = refl
-head-below most p said (Group s) m h = refl
-head-below most p said (Channel layout) m h = refl
-head-below most p said (FaultSet s) m h = refl
-head-below most p said (Start form edition layout rounds) m h = refl
-head-below most p said (Later round edition layout) m h = refl
-head-below most p said (Message form round from to edition layout) m h = refl
-head-below most p said (Broadcast round from layout) m h = refl
-
 pub limit-free : (reader : Reader) (p : Progress) (said : Lists) (frame : Frame) → mostTerminals ≤ reader .most
     → lineCause reader p said frame ≡ causeIn p said frame
-limit-free reader p said frame m = limit-unless reader p said frame (head-below (reader .most) p said frame m)
+unfolding inRange
+limit-free reader p said frame m =
+    limit-unless reader p said frame
+    (λ n source f e z.
+    let t = leb-true n mostTerminals (and-l _ _ (and-r _ _ (head-accepted p said n source f z .1))) in le-ltb (reader .most) n (omega arith))
 
 -- ---- the lines: what every accepted frame leaves, after the first and after a later one, an accepted file leaves
 

@@ -1,12 +1,15 @@
 -- The causes of a line by a reader: those of its frame, and 14 of a head with more terminals than the reader takes. Assumes nothing.
-use mathlib.Core.Path.{_≡_, sym, _∙_}
+use Prim.Native.Nat.{ℕ}
+use mathlib.Core.Path.{_≡_, refl, sym, _∙_}
 use mathlib.Core.Logic.{⊎-elim}
 use mathlib.Core.Bool.{true, false}
 use mathlib.Core.List.{[]}
 use native.Mathlib.Omega.{arith}
+use lib.Dec.{ltb}
 use Rattle.sets.proofs.Causes.{cause-here, cause-last, cause-none, given-passes, given-decides, given-none}
 use Rattle.sets.proofs.Laws.{equal-or-not}
 use Rattle.lines.specs.declared.Frame.{Frame}
+use Rattle.lines.specs.declared.Frame.the-variants.{Foreign, Unknown, Head, Link, Group, Channel, FaultSet, Start, Later, Message, Broadcast}
 use Rattle.frames.specs.declared.Progress.{Progress}
 use Rattle.frames.specs.declared.Reader.{Reader}
 use Rattle.frames.specs.Reading.{Lists, causeIn, headAbove, lineCause}
@@ -17,7 +20,7 @@ module _ (reader : Reader) (p : Progress) (said : Lists) (frame : Frame) where
   limit-none h = let a = given-none _ _ h in (a .0, cause-none _ 14 [] (λ z. omega arith) (a .1) .0)
 
   -- the frame's own causes come first
-  pub limit-refused : (causeIn p said frame ≡ 0 → ⊥) → lineCause reader p said frame ≡ causeIn p said frame
+  limit-refused : (causeIn p said frame ≡ 0 → ⊥) → lineCause reader p said frame ≡ causeIn p said frame
   unfolding lineCause
   limit-refused n = given-decides _ _ n
 
@@ -30,5 +33,26 @@ module _ (reader : Reader) (p : Progress) (said : Lists) (frame : Frame) where
   unfolding lineCause
   limit-below h = ⊎-elim (λ z. given-passes _ _ z ∙ cause-last _ _ h ∙ sym z) (λ n. given-decides _ _ n) (equal-or-not (causeIn p said frame) 0)
 
-  pub limit-unless : (causeIn p said frame ≡ 0 → headAbove (reader .most) frame ≡ false) → lineCause reader p said frame ≡ causeIn p said frame
-  limit-unless h = ⊎-elim (λ z. limit-below (h z)) limit-refused (equal-or-not (causeIn p said frame) 0)
+-- of every accepted head
+abbrev pub Below : (most : ℕ) → Progress → Lists → Frame → Type 0
+Below most p said frame = (n source f : ℕ) → frame ≡ Head n source f → causeIn p said (Head n source f) ≡ 0 → ltb most n ≡ false
+
+head-below : (most : ℕ) (p : Progress) (said : Lists) (frame : Frame) → Below most p said frame → causeIn p said frame ≡ 0 → headAbove most frame ≡ false
+unfolding headAbove
+head-below most p said Foreign h z = refl
+head-below most p said Unknown h z = refl
+head-below most p said (Head n source f) h z = h n source f refl z
+head-below most p said (Link from to) h z = refl
+head-below most p said (Group s) h z = refl
+head-below most p said (Channel layout) h z = refl
+head-below most p said (FaultSet s) h z = refl
+head-below most p said (Start form edition layout rounds) h z = refl
+head-below most p said (Later round edition layout) h z = refl
+head-below most p said (Message form round from to edition layout) h z = refl
+head-below most p said (Broadcast round from layout) h z = refl
+
+pub limit-unless : (reader : Reader) (p : Progress) (said : Lists) (frame : Frame) → Below (reader .most) p said frame
+    → lineCause reader p said frame ≡ causeIn p said frame
+limit-unless reader p said frame h =
+    ⊎-elim (λ z. limit-below reader p said frame (head-below (reader .most) p said frame h z)) (limit-refused reader p said frame)
+    (equal-or-not (causeIn p said frame) 0)

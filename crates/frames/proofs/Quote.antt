@@ -25,7 +25,7 @@ use Rattle.frames.specs.Lines.{Line, ended, cut, linesFrom}
 use Rattle.frames.specs.Reading.{mostBytes, planKinds, planReader, quoteReader, stageOf, isAt, isShared, nothingRead, Lists, nothingSaid, headCause, linkCause, groupCause, channelCause, badSetCause, faultSetCause, startCause, laterCause, messageCause, broadcastCause, causeIn, headAbove, lineCause, endsLinks, linksCause, endCause, linked, grouped, after, saidAfter, Reading, refusal, unless, told, reading, planReading, quoteReading}
 use Rattle.frames.specs.Quote.{quotedAbove, firstAbove, fileAbove, Quoting}
 use Rattle.frames.proofs.Unless.{unless-none, unless-some, unless-never}
-use Rattle.frames.proofs.Limits.{limit-none, limit-refused, limit-above, limit-unless}
+use Rattle.frames.proofs.Limits.{limit-none, limit-above, limit-unless}
 use Rattle.frames.proofs.EndLaws.{links-elsewhere, end-none}
 use Rattle.frames.proofs.Keeps.{plan-stage, head-accepted, frame-stage, limit-free, line-causes, end-read, text-read}
 use Rattle.frames.proofs.TellLaws.{head-right}
@@ -68,20 +68,6 @@ quoted-most text h = reading-most quoteReader text h
 
 -- ---- after the head a limit does not matter
 
-later-below : (most : ℕ) (p : Progress) (said : Lists) (frame : Frame) → (stageOf (p .stage) ≡ 0 → ⊥) → causeIn p said frame ≡ 0 → headAbove most frame ≡ false
-unfolding headAbove
-later-below most p said Foreign s h = refl
-later-below most p said Unknown s h = refl
-later-below most p said (Head n source f) s h = absurd (s (head-accepted p said n source f h .0))
-later-below most p said (Link from to) s h = refl
-later-below most p said (Group x) s h = refl
-later-below most p said (Channel layout) s h = refl
-later-below most p said (FaultSet x) s h = refl
-later-below most p said (Start form edition layout rounds) s h = refl
-later-below most p said (Later round edition layout) s h = refl
-later-below most p said (Message form round from to edition layout) s h = refl
-later-below most p said (Broadcast round from layout) s h = refl
-
 -- two readers that differ in their limits alone
 module _ (kinds : ℕ) (archive : Bool) (a b : ℕ) where
   abbrev one : Reader
@@ -112,14 +98,14 @@ module _ (kinds : ℕ) (archive : Bool) (a b : ℕ) where
   same-later p said k (cut line ∷ rest) s = refl
   same-later p said k (ended line ∷ rest) s =
       same-line p said k line rest
-      (limit-unless one p said (frameOf kinds line) (later-below a p said (frameOf kinds line) s)
-      ∙ sym (limit-unless other p said (frameOf kinds line) (later-below b p said (frameOf kinds line) s)))
+      (limit-unless one p said (frameOf kinds line) (λ n source f e z. absurd (s (head-accepted p said n source f z .0)))
+      ∙ sym (limit-unless other p said (frameOf kinds line) (λ n source f e z. absurd (s (head-accepted p said n source f z .0)))))
       (λ z.
       same-later (after p (frameOf kinds line)) (saidAfter p said (frameOf kinds line)) (k + 1) rest (frame-stage p said (frameOf kinds line) z))
 
 -- ---- the first line
 
--- it is accepted and too long for the quoting desk, or if accepted not so
+-- it is accepted, and has too many for the quoting desk
 above-accepted : (frame : Frame) → quotedAbove frame ≡ true → (causeIn nothingRead nothingSaid frame ≡ 0) × (headAbove mostQuoted frame ≡ true)
 unfolding causeIn headAbove isAt
 above-accepted Foreign h = clash h refl
@@ -133,20 +119,6 @@ above-accepted (Start form edition layout rounds) h = clash h refl
 above-accepted (Later round edition layout) h = clash h refl
 above-accepted (Message form round from to edition layout) h = clash h refl
 above-accepted (Broadcast round from layout) h = clash h refl
-
-below-accepted : (frame : Frame) → quotedAbove frame ≡ false → causeIn nothingRead nothingSaid frame ≡ 0 → headAbove mostQuoted frame ≡ false
-unfolding headAbove
-below-accepted Foreign h z = refl
-below-accepted Unknown h z = refl
-below-accepted (Head n source f) h z = sym (and-yes _ _ (head-accepted nothingRead nothingSaid n source f z .1)) ∙ h
-below-accepted (Link from to) h z = refl
-below-accepted (Group s) h z = refl
-below-accepted (Channel layout) h z = refl
-below-accepted (FaultSet s) h z = refl
-below-accepted (Start form edition layout rounds) h z = refl
-below-accepted (Later round edition layout) h z = refl
-below-accepted (Message form round from to edition layout) h z = refl
-below-accepted (Broadcast round from layout) h z = refl
 
 abbrev quoted : List Line → Reading
 quoted lines = told quoteReader nothingRead nothingSaid 1 lines
@@ -170,7 +142,8 @@ lines-alike [] h = refl
 lines-alike (cut line ∷ rest) h = refl
 lines-alike (ended line ∷ rest) h =
     same-line planKinds false mostQuoted mostTerminals nothingRead nothingSaid 1 line rest
-    (limit-unless quoteReader nothingRead nothingSaid (frameOf planKinds line) (below-accepted (frameOf planKinds line) h)
+    (limit-unless quoteReader nothingRead nothingSaid (frameOf planKinds line)
+    (λ n source f e z. sym (and-yes _ _ (head-accepted nothingRead nothingSaid n source f z .1)) ∙ sym (ap quotedAbove e) ∙ h)
     ∙ sym (limit-free planReader nothingRead nothingSaid (frameOf planKinds line) (omega arith)))
     (λ z.
     same-later planKinds false mostQuoted mostTerminals (after nothingRead (frameOf planKinds line)) (saidAfter nothingRead nothingSaid (frameOf planKinds line))

@@ -12,7 +12,7 @@ use Rattle.lines.specs.declared.Frame.{Frame}
 use Rattle.lines.specs.declared.Frame.the-variants.{Foreign, Unknown, Head, Link, Group, Channel, FaultSet, Start, Later, Message, Broadcast}
 use Rattle.lines.specs.Frames.{frameOf}
 use Rattle.frames.specs.Lines.{Line, ended, cut, linesFrom}
-use Rattle.frames.specs.Reading.{mostBytes, planKinds, kindRead, Reading, refusal, planReading, quoteReading}
+use Rattle.frames.specs.Reading.{mostBytes, planKinds, kindRead, refusal, planReading, quoteReading}
 
 -- a head that is accepted where it comes first, f in range or ff, with more terminals than the quoting desk takes
 abbrev pub quotedAbove : Frame → Bool

@@ -28,7 +28,7 @@ use Rattle.closure.specs.Closure.{reached, cutOff}
 use Rattle.closure.proofs.Faults.{fault-below, fault-bound, hears-enough-mono}
 use Rattle.closure.proofs.Growth.{joins-enough, reached-closed}
 use Rattle.closure.proofs.Witness.{cut-below, cut-good, cut-unreached, defeats-fault, defeats-cuts}
-use Rattle.partition.specs.Search.{key, Inside, Apart, Settled, Hopeless, Closed, Spread, Grown}
+use Rattle.partition.specs.Search.{key, Inside, Apart, Settled, Hopeless, Closed, Swept, Spread, Grown}
 use Rattle.faults.specs.Rows.{over, hearing}
 use Rattle.faults.proofs.Rows.{hearing-mem, hearing-below, over-hearing, over-why, over-low, word-of}
 use Rattle.partition.proofs.Members.{outside-i, count-split, count-join, grows, inside-le, key-later, size-twenty}
@@ -44,40 +44,36 @@ pub record Spreading (p : Plan) (s wall l : ℕ) : Type 0 where
 pub spreading-start : (p : Plan) (s wall : ℕ) → s < 2 ^ p .n → Spreading p s wall s
 spreading-start p s wall h = record { below = h; has = λ i m. m; least = λ t i c. i }
 
-module _ (p : Plan) (sound : Sound p) (s wall l o : ℕ) (w : wall < 2 ^ 32) (h : Spreading p s wall l) (e : o ≡ hearing (p .rows) (p .bound) l) where
+-- and after a turn
+module _ {p : Plan} {s wall l r : ℕ} (h : Spreading p s wall l) (t : Swept p wall l r) where
+  pub spreading-next : Spreading p s wall r
+  spreading-next = record { below = t .below; has = λ i m. t .has i (h .has i m); least = λ u i c. t .least u (h .least u i c) c }
+
+  pub spreading-less : (r ≡ l → ⊥) → p .n - count (p .n) (λ i. mem i r) < p .n - count (p .n) (λ i. mem i l)
+  spreading-less z = grows (p .n) l r (h .below) (t .below) (t .has) z
+
+  pub spreading-ends : r ≡ l → Spread p s wall l
+  spreading-ends q = record { below = h .below; has = h .has; closed = t .ends q; least = h .least }
+
+-- a turn in which all join at once who hear enough
+module _ (p : Plan) (sound : Sound p) (wall l o : ℕ) (w : wall < 2 ^ 32) (h : l < 2 ^ p .n) (e : o ≡ hearing (p .rows) (p .bound) l) where
   outer : (b : ℕ) → b < p .n → mem b (4294967295 - wall) ≡ not (mem b wall)
   outer b k = mem-not 32 b wall w (let t = sound .twenty in omega arith)
 
-  joining : (t : ℕ) → Inside s t → Closed p wall t → Inside (bitAnd o (4294967295 - wall)) t
+  joining : (t : ℕ) → Inside l t → Closed p wall t → Inside (bitAnd o (4294967295 - wall)) t
   joining t i c b m =
       let both = sym (mem-and b o (4294967295 - wall)) ∙ m in
       let k = mem-below (p .n) b o (hearing-below p sound l o e) (and-l _ _ both) in
-      c b k (not-e _ (sym (outer b k) ∙ and-r _ _ both))
-      (hears-enough-mono p b l t (λ a x. h .least t i c a) (sym (hearing-mem p sound l o b e k) ∙ and-l _ _ both))
+      c b k (not-e _ (sym (outer b k) ∙ and-r _ _ both)) (hears-enough-mono p b l t (λ a x. i a) (sym (hearing-mem p sound l o b e k) ∙ and-l _ _ both))
 
-  pub spreading-next : Spreading p s wall (bitOr l (bitAnd o (4294967295 - wall)))
-  spreading-next = record {
-    below =
-        or-lt (p .n) l (bitAnd o (4294967295 - wall)) (h .below)
-        (lt-of-le-of-lt (and-le-l o (4294967295 - wall)) (hearing-below p sound l o e));
-    has = λ i m. mem-or i l (bitAnd o (4294967295 - wall)) ∙ or-l _ _ (h .has i m);
-    least = λ t i c b m. ⊎-elim (h .least t i c b) (joining t i c b) (or-e _ _ (sym (mem-or b l (bitAnd o (4294967295 - wall))) ∙ m));
-  }
-
-  pub spreading-less : (bitOr l (bitAnd o (4294967295 - wall)) ≡ l → ⊥)
-      → p .n - count (p .n) (λ i. mem i (bitOr l (bitAnd o (4294967295 - wall)))) < p .n - count (p .n) (λ i. mem i l)
-  spreading-less z =
-      grows (p .n) l (bitOr l (bitAnd o (4294967295 - wall))) (h .below) (spreading-next .below)
-      (λ i m. mem-or i l (bitAnd o (4294967295 - wall)) ∙ or-l _ _ m) z
-
-  pub spreading-ends : bitOr l (bitAnd o (4294967295 - wall)) ≡ l → Spread p s wall l
-  spreading-ends q = record {
-    below = h .below;
-    has = h .has;
-    closed = λ b k g y.
+  pub swept-at-once : Swept p wall l (bitOr l (bitAnd o (4294967295 - wall)))
+  swept-at-once = record {
+    below = or-lt (p .n) l (bitAnd o (4294967295 - wall)) h (lt-of-le-of-lt (and-le-l o (4294967295 - wall)) (hearing-below p sound l o e));
+    has = λ i m. mem-or i l (bitAnd o (4294967295 - wall)) ∙ or-l _ _ m;
+    least = λ t i c b m. ⊎-elim (i b) (joining t i c b) (or-e _ _ (sym (mem-or b l (bitAnd o (4294967295 - wall))) ∙ m));
+    ends = λ q b k g y.
         sym (ap (mem b) q) ∙ mem-or b l (bitAnd o (4294967295 - wall))
         ∙ or-r _ _ (mem-and b o (4294967295 - wall) ∙ and-i _ _ (hearing-mem p sound l o b e k ∙ y) (outer b k ∙ not-i g));
-    least = h .least;
   }
 
 -- ---- inn with all that it forces

@@ -1,18 +1,18 @@
 -- The search for groups: what each return is the least of, and what each call is given. Assumes nothing.
 use Prim.Native.Nat.{ℕ, _+_, _^_, _≤_, _<_}
-use mathlib.Core.Path.{_≡_, refl, sym, ap, _∙_, subst}
+use mathlib.Core.Path.{_≡_, sym, ap, _∙_, subst}
 use mathlib.Core.Logic.{_⊎_, inl, inr, ⊎-elim}
-use mathlib.Core.Bool.{Bool, true, false, not}
+use mathlib.Core.Bool.{true, false, not}
 use native.Mathlib.Nat.{le-trans, lt-of-lt-of-le, lt-of-le-of-lt}
 use native.Mathlib.Omega.{arith}
 use lib.Bits.{bitOr, or-lt}
 use lib.Dec.{eqb}
 use lib.Pow.{pow-mono, pow-pos}
-use borrow.Author.Tests.{ltb-true, lt-ltb, eqb-true, eq-eqb}
+use borrow.Author.Tests.{ltb-true, lt-ltb, eqb-true}
 use Rattle.sets.specs.Tests.{_and_, _implies_}
 use Rattle.sets.specs.Sets.{mem, count, size, all, within, with, outside}
-use Rattle.sets.proofs.Bools.{clash, decide, and-l, and-r, and-i, and-no-r, or-l, or-r, not-i, not-e, not-yes, no-by, implies-i, implies-e}
-use Rattle.sets.proofs.Laws.{below-or-not, mem-zero, mem-below, mask-lt, all-i, all-at, some-i, some-at, some-member, count-more, subset-fewer}
+use Rattle.sets.proofs.Bools.{clash, decide, and-l, and-r, and-i, or-l, or-r, not-i, not-e, no-by, implies-i, implies-e}
+use Rattle.sets.proofs.Laws.{below-or-not, mem-zero, mem-below, mask-lt, all-i, all-at, some-i, some-at, some-member, subset-fewer}
 use Rattle.sets.proofs.Masks.{mem-or}
 use Rattle.quorum.specs.declared.BoundKind.{BoundKind}
 use Rattle.quorum.specs.declared.BoundKind.the-variants.{Groups}
@@ -28,7 +28,7 @@ use Rattle.closure.proofs.Growth.{joins-source, reached-closed, reached-shrinks
 use Rattle.closure.proofs.Witness.{cut-below, cut-good, cut-unreached, defeats-fault, defeats-cuts}
 use Rattle.partition.specs.Search.{direct, less, key, Inside, Between, Least, Cutting, Hopeful, Together, PartOfOne, Earlier, Any}
 use Rattle.partition.proofs.Rows.{direct-mem}
-use Rattle.partition.proofs.Members.{outside-mem, outside-i, outside-below, inside-le, key-mono, mem-less, less-le, less-holds}
+use Rattle.partition.proofs.Members.{outside-mem, outside-i, outside-below, inside-le, key-mono, mem-less, less-le, less-fewer, less-holds}
 use Rattle.partition.proofs.Halves.{left-to, only-inn, Half, out-low, keeps-out, out-why, fewer-without, inn-low, keeps-inn, inn-why, fewer-with, half-of}
 use Rattle.partition.proofs.Leasts.{stays, least-among, least-then}
 
@@ -168,9 +168,6 @@ pub hopeful-start : (p : Plan) (all hopeful : ℕ) → hopeful < 2 ^ p .n → Ho
 hopeful-start p all hopeful h = record { below = h; kept = λ b k m. inl m }
 
 module _ (p : Plan) (sound : Sound p) (all hopeful rest b : ℕ) (h : Hopeful p all hopeful rest) (m : mem b rest ≡ true) where
-  pub one-low : b < 32
-  one-low = let k = mem-below (p .n) b rest (h .below) m in let t = sound .twenty in omega arith
-
   less-is : (i : ℕ) → i < 32 → mem i (less rest b) ≡ mem i rest and not (eqb i b)
   less-is = mem-less rest b
 
@@ -187,10 +184,7 @@ module _ (p : Plan) (sound : Sound p) (all hopeful rest b : ℕ) (h : Hopeful p 
   }
 
   pub hopeful-less : count (p .n) (λ i. mem i (less rest b)) < count (p .n) (λ i. mem i rest)
-  hopeful-less =
-      count-more (p .n) (λ i. mem i (less rest b)) (λ i. mem i rest)
-      (λ i k v. and-l _ _ (sym (less-is i (let t = sound .twenty in omega arith)) ∙ v)) b (mem-below (p .n) b rest (h .below) m)
-      (less-is b one-low ∙ and-no-r _ _ (not-yes (eq-eqb b b refl))) m
+  hopeful-less = less-fewer (p .n) rest b (sound .twenty) (h .below) m
 
 pub hopeful-none : (p : Plan) (all hopeful rest : ℕ) → Hopeful p all hopeful rest → rest ≡ 0 → Hopeful p all hopeful 0
 hopeful-none p all hopeful rest h z = subst (λ (x : ℕ). Hopeful p all hopeful x) z h

@@ -13,8 +13,8 @@ use borrow.Author.Tests.{eqb-true, eq-eqb, ltb-false}
 use mir.Val.{boolByte}
 use Rattle.sets.specs.Tests.{_and_, _or_, _implies_}
 use Rattle.sets.specs.Sets.{bit, mem, count, mask, size, singleton, with, outside}
-use Rattle.sets.proofs.Bools.{clash, and-r, and-i, or-l, or-r, or-e, not-i, no-by, same-test, implies-e}
-use Rattle.sets.proofs.Laws.{all-at, mask-lt, mem-mask, set-ext, mem-above, mem-below, count-le, count-width, subset-fewer}
+use Rattle.sets.proofs.Bools.{clash, and-l, and-r, and-i, and-no-r, or-l, or-r, or-e, not-i, not-yes, no-by, same-test, implies-e}
+use Rattle.sets.proofs.Laws.{all-at, mask-lt, mem-mask, set-ext, mem-above, mem-below, count-le, count-more, count-width, subset-fewer}
 use Rattle.sets.proofs.Masks.{mem-and, mem-not, mem-shift}
 use Rattle.sets.proofs.Operations.{singleton-narrow, or-with, test-inside}
 use Rattle.partition.specs.Search.{less, key, Inside, SomeOf}
@@ -63,6 +63,12 @@ less-le s b = and-le-l s (4294967295 - singleton 32 b)
 pub less-by : (s b one : ℕ) → one ≡ singleton 32 b → bitAnd s (4294967295 - one) ≡ less s b
 unfolding less
 less-by s b one e = ap (λ (x : ℕ). bitAnd s (4294967295 - x)) e
+
+pub less-fewer : (n s b : ℕ) → n ≤ 20 → s < 2 ^ n → mem b s ≡ true → count n (λ i. mem i (less s b)) < count n (λ i. mem i s)
+less-fewer n s b t h m =
+    let k = mem-below n b s h m in
+    count-more n (λ i. mem i (less s b)) (λ i. mem i s) (λ i l v. and-l _ _ (sym (mem-less s b i (omega arith)) ∙ v)) b k
+    (mem-less s b b (omega arith) ∙ and-no-r _ _ (not-yes (eq-eqb b b refl))) m
 
 -- what lies in a set and lacks the one lies in the rest
 pub less-holds : (n all b s : ℕ) → n ≤ 20 → s < 2 ^ n → Inside s all → mem b s ≡ false → Inside s (less all b)

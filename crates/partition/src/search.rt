@@ -1,11 +1,12 @@
 // The words that the search computes from a sound plan, and its answer.
 ghost use mathlib.Core.Path.{_≡_};
 ghost use Prim.Native.Nat.{_<_, _≤_, _^_};
-ghost use Rattle.sets.specs.Sets.{outside};
+ghost use Rattle.sets.specs.Tests.{pick};
+ghost use Rattle.sets.specs.Sets.{with, outside};
 ghost use Rattle.plan.specs.Plan.{causeOf};
 ghost use Rattle.closure.specs.Closure.{reached};
 ghost use Rattle.closure.specs.Verdict.{bestBelow};
-ghost use Rattle.partition.specs.Search.{direct, Spread, StandsFor, Least, Any};
+ghost use Rattle.partition.specs.Search.{direct, Swept, Spread, StandsFor, Least, Any};
 use super::branch;
 use super::groups;
 use plan::Plan;
@@ -17,6 +18,48 @@ pub(crate) struct Best {
     pub set: u32,
 }
 
+// The set with b, if b joins it.
+fn joined(l: u32, b: usize, joins: bool) -> u32
+    ensures { λ r. ⌜ r ≡ pick joins (with 32 l b) l ⌝ }
+{
+    if joins {
+        return sets::with(l, b);
+    }
+    l
+}
+
+// A turn by groups: of those outside l and the wall, one after the other, whoever hears enough that are in
+// by then. To look at these alone saves more than to compare many at once.
+fn sweep(p: Plan, l: u32, wall: u32) -> u32
+    requires { ⌜ (causeOf p ≡ 0) × (l < 2 ^ p .n) ⌝ }
+    ensures { λ r. ⌜ Swept p wall l r ⌝ }
+{
+    let rows = p.rows;
+    let mut r = l;
+    let mut rest = outside(p.n, wall, l);
+    while rest != 0 {
+        let b = branch::highest(rest);
+        let bound = p.bound;
+        r = joined(r, b, quorum::enough(bound, rows[b] & r));
+        rest = rest & !sets::singleton(b);
+    }
+    r
+}
+
+// A turn: by a bound f all join at once who hear enough.
+fn turn(p: Plan, l: u32, wall: u32) -> u32
+    requires { ⌜ (causeOf p ≡ 0) × (l < 2 ^ p .n) ⌝ }
+    ensures { λ r. ⌜ Swept p wall l r ⌝ }
+{
+    let rows = p.rows;
+    let bound = p.bound;
+    let kind = bound.kind;
+    match kind {
+        BoundKind::Most(f) => l | (faults::over(rows, f as u32, l) & !wall),
+        BoundKind::Groups(_) => sweep(p, l, wall),
+    }
+}
+
 // S with whoever joins it turn by turn: outside the wall, and hearing enough that are in. It stops where
 // a turn adds nobody.
 pub(crate) fn spread(p: Plan, s: u32, wall: u32) -> u32
@@ -25,9 +68,7 @@ pub(crate) fn spread(p: Plan, s: u32, wall: u32) -> u32
 {
     let mut l = s;
     loop {
-        let rows = p.rows;
-        let bound = p.bound;
-        let next = l | (faults::hearing(rows, bound, l) & !wall);
+        let next = turn(p, l, wall);
         if next == l {
             return l;
         }

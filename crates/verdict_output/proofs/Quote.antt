@@ -1,6 +1,6 @@
 -- What is printed for the quoting desk, by the laws of its reader and of its answer. Assumes nothing.
 use Prim.Native.Nat.{ℕ, _≤_}
-use mathlib.Core.Path.{_≡_, refl, sym, ap, _∙_}
+use mathlib.Core.Path.{_≡_, sym, ap, _∙_}
 use mathlib.Core.Logic.{⊎-elim}
 use mathlib.Core.Bool.{true, false}
 use mathlib.Core.List.{List}
@@ -9,10 +9,10 @@ use Rattle.sets.proofs.Laws.{equal-or-not}
 use Rattle.quorum.specs.Quorum.{mostTerminals}
 use Rattle.plan.specs.Plan.{mostQuoted}
 use Rattle.plan.proofs.Laws.{few-terminals}
-use Rattle.closure.specs.Answer.{Answer, answerWithin, answerOf}
+use Rattle.closure.specs.Answer.{Answer, answerOf}
 use Rattle.closure.proofs.Quote.{few-answered}
 use Rattle.frames.specs.declared.FileRead.{FileRead}
-use Rattle.frames.specs.Reading.{Reading, refusal, planReading, quoteReading, fileRead}
+use Rattle.frames.specs.Reading.{Reading, refusal, quoteReading, fileRead}
 use Rattle.frames.specs.Quote.{fileAbove}
 use Rattle.frames.proofs.Quote.{quoting, quoted-most}
 use Rattle.output.specs.OnFile.{refusalLine, textOn}

@@ -6,11 +6,6 @@ use Rattle.plan.proofs.Laws.{range-cause, later-cause, tested}
 use borrow.Author.Needs.{needs}
 use Rattle.plan.proofs.check.Statement.{statement}
 use Rattle.plan.proofs.check.Tie as tie
-use Rattle.plan.proofs.check.Reads as reads
-use Rattle.plan.proofs.check.Lts as lts
-use Rattle.plan.proofs.links_sound.Reads as links-sound-reads
-use Rattle.quorum.proofs.groups_sound.Reads as groups-sound-reads
-use Rattle.quorum.proofs.in_range.Reads as in-range-reads
 
 -- src/lib.rt:53:8
 in-range-requires : tie.Need-in-range-requires
