@@ -150,7 +150,7 @@ module _ (kinds : ℕ) where
     unfolding told
     line-goes e =
         unless-none (endCause reader p (frameOf (reader .kinds) line)) 0 _ e
-        ∙ ap (λ (c : ℕ). unless c k told-next) (limit-free reader p said (frameOf (reader .kinds) line) m)
+        ∙ ap (λ (c : ℕ). unless c k told-next) (limit-free (reader .most) p said (frameOf (reader .kinds) line) m)
 
   -- so the archive's reading goes on with every line whose frame is accepted, and to the end, where no group is missing
   pub kept-line : (p : Progress) (said : Lists) (k : ℕ) (line : List ℕ) (rest : List Line) (frame : Frame) → frameOf kinds line ≡ frame

@@ -214,13 +214,13 @@ module _ (p : Progress) (said : Lists) where
 
 -- ---- a reader that takes every plan's terminals: its limit refuses nothing
 
-pub limit-free : (reader : Reader) (p : Progress) (said : Lists) (frame : Frame) → mostTerminals ≤ reader .most
-    → lineCause reader p said frame ≡ causeIn p said frame
+pub limit-free : (most : ℕ) (p : Progress) (said : Lists) (frame : Frame) → mostTerminals ≤ most
+    → lineCause most p said frame ≡ causeIn p said frame
 unfolding inRange
-limit-free reader p said frame m =
-    limit-unless reader p said frame
+limit-free most p said frame m =
+    limit-unless most p said frame
     (λ n source f e z.
-    let t = leb-true n mostTerminals (and-l _ _ (and-r _ _ (head-accepted p said n source f z .1))) in le-ltb (reader .most) n (omega arith))
+    let t = leb-true n mostTerminals (and-l _ _ (and-r _ _ (head-accepted p said n source f z .1))) in le-ltb most n (omega arith))
 
 -- ---- the lines: what every accepted frame leaves, after the first and after a later one, an accepted file leaves
 
@@ -241,14 +241,14 @@ module _ (reader : Reader) (p : Progress) (said : Lists) (k : ℕ) (line : List 
   abbrev next : Reading
   next = told reader (after p frame) (saidAfter p said frame) (k + 1) rest
 
-  pub line-causes : (Q : Reading → Type 0) → (endCause reader p frame ≡ 0 → lineCause reader p said frame ≡ 0 → next .number ≡ 0 → Q next)
+  pub line-causes : (Q : Reading → Type 0) → (endCause reader p frame ≡ 0 → lineCause (reader .most) p said frame ≡ 0 → next .number ≡ 0 → Q next)
       → told reader p said k (ended line ∷ rest) .number ≡ 0 → Q (told reader p said k (ended line ∷ rest))
   unfolding told
-  line-causes Q f = unless-read (endCause reader p frame) 0 _ Q (λ a. unless-read (lineCause reader p said frame) k next Q (f a))
+  line-causes Q f = unless-read (endCause reader p frame) 0 _ Q (λ a. unless-read (lineCause (reader .most) p said frame) k next Q (f a))
 
   pub line-ends : (Q : Reading → Type 0) → (endCause reader p frame ≡ 0 → causeIn p said frame ≡ 0 → next .number ≡ 0 → Q next)
       → told reader p said k (ended line ∷ rest) .number ≡ 0 → Q (told reader p said k (ended line ∷ rest))
-  line-ends Q f = line-causes Q (λ a c. f a (limit-none reader p said frame c .0))
+  line-ends Q f = line-causes Q (λ a c. f a (limit-none (reader .most) p said frame c .0))
 
   pub line-read : (Q : Reading → Type 0) → (causeIn p said frame ≡ 0 → next .number ≡ 0 → Q next)
       → told reader p said k (ended line ∷ rest) .number ≡ 0 → Q (told reader p said k (ended line ∷ rest))

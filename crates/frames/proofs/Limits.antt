@@ -11,25 +11,24 @@ use Rattle.sets.proofs.Laws.{equal-or-not}
 use Rattle.lines.specs.declared.Frame.{Frame}
 use Rattle.lines.specs.declared.Frame.the-variants.{Foreign, Unknown, Head, Link, Group, Channel, FaultSet, Start, Later, Message, Broadcast}
 use Rattle.frames.specs.declared.Progress.{Progress}
-use Rattle.frames.specs.declared.Reader.{Reader}
 use Rattle.frames.specs.Reading.{Lists, causeIn, headAbove, lineCause}
 
-module _ (reader : Reader) (p : Progress) (said : Lists) (frame : Frame) where
-  pub limit-none : lineCause reader p said frame ≡ 0 → (causeIn p said frame ≡ 0) × (headAbove (reader .most) frame ≡ false)
+module _ (most : ℕ) (p : Progress) (said : Lists) (frame : Frame) where
+  pub limit-none : lineCause most p said frame ≡ 0 → (causeIn p said frame ≡ 0) × (headAbove most frame ≡ false)
   unfolding lineCause
   limit-none h = let a = given-none _ _ h in (a .0, cause-none _ 14 [] (λ z. omega arith) (a .1) .0)
 
   -- the frame's own causes come first
-  limit-refused : (causeIn p said frame ≡ 0 → ⊥) → lineCause reader p said frame ≡ causeIn p said frame
+  limit-refused : (causeIn p said frame ≡ 0 → ⊥) → lineCause most p said frame ≡ causeIn p said frame
   unfolding lineCause
   limit-refused n = given-decides _ _ n
 
-  pub limit-above : causeIn p said frame ≡ 0 → headAbove (reader .most) frame ≡ true → lineCause reader p said frame ≡ 14
+  pub limit-above : causeIn p said frame ≡ 0 → headAbove most frame ≡ true → lineCause most p said frame ≡ 14
   unfolding lineCause
   limit-above z h = given-passes _ _ z ∙ cause-here _ _ _ h
 
   -- and are all, where the limit does not matter
-  pub limit-below : headAbove (reader .most) frame ≡ false → lineCause reader p said frame ≡ causeIn p said frame
+  pub limit-below : headAbove most frame ≡ false → lineCause most p said frame ≡ causeIn p said frame
   unfolding lineCause
   limit-below h = ⊎-elim (λ z. given-passes _ _ z ∙ cause-last _ _ h ∙ sym z) (λ n. given-decides _ _ n) (equal-or-not (causeIn p said frame) 0)
 
@@ -51,8 +50,8 @@ head-below most p said (Later round edition layout) h z = refl
 head-below most p said (Message form round from to edition layout) h z = refl
 head-below most p said (Broadcast round from layout) h z = refl
 
-pub limit-unless : (reader : Reader) (p : Progress) (said : Lists) (frame : Frame) → Below (reader .most) p said frame
-    → lineCause reader p said frame ≡ causeIn p said frame
-limit-unless reader p said frame h =
-    ⊎-elim (λ z. limit-below reader p said frame (head-below (reader .most) p said frame h z)) (limit-refused reader p said frame)
+pub limit-unless : (most : ℕ) (p : Progress) (said : Lists) (frame : Frame) → Below most p said frame
+    → lineCause most p said frame ≡ causeIn p said frame
+limit-unless most p said frame h =
+    ⊎-elim (λ z. limit-below most p said frame (head-below most p said frame h z)) (limit-refused most p said frame)
     (equal-or-not (causeIn p said frame) 0)

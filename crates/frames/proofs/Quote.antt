@@ -55,7 +55,7 @@ told-most reader p said k (ended line ∷ rest) i =
     line-causes reader p said k line rest (λ (r : Reading). r .progress .plan .n ≤ reader .most)
     (λ e c.
     told-most reader (after p (frameOf (reader .kinds) line)) (saidAfter p said (frameOf (reader .kinds) line)) (k + 1) rest
-    (frame-most (reader .most) p (frameOf (reader .kinds) line) i (limit-none reader p said (frameOf (reader .kinds) line) c .1)))
+    (frame-most (reader .most) p (frameOf (reader .kinds) line) i (limit-none (reader .most) p said (frameOf (reader .kinds) line) c .1)))
 
 reading-most : (reader : Reader) (text : List ℕ) → reading reader text .number ≡ 0 → reading reader text .progress .plan .n ≤ reader .most
 reading-most reader text =
@@ -81,7 +81,7 @@ module _ (kinds : ℕ) (archive : Bool) (a b : ℕ) where
 
   -- a line of which both find the same
   same-line : (p : Progress) (said : Lists) (k : ℕ) (line : List ℕ) (rest : List Line)
-      → lineCause one p said (frameOf kinds line) ≡ lineCause other p said (frameOf kinds line)
+      → lineCause a p said (frameOf kinds line) ≡ lineCause b p said (frameOf kinds line)
       → (causeIn p said (frameOf kinds line) ≡ 0 → following one p said k (frameOf kinds line) rest ≡ following other p said k (frameOf kinds line) rest)
       → told one p said k (ended line ∷ rest) ≡ told other p said k (ended line ∷ rest)
   unfolding told endCause linksCause
@@ -89,8 +89,8 @@ module _ (kinds : ℕ) (archive : Bool) (a b : ℕ) where
       ap (unless (endCause one p (frameOf kinds line)) 0)
       (ap (λ (c : ℕ). unless c k (following one p said k (frameOf kinds line) rest)) e
       ∙ ⊎-elim
-      (λ z. ap (unless (lineCause other p said (frameOf kinds line)) k) (next (limit-none other p said (frameOf kinds line) z .0)))
-      (λ n. unless-some _ k _ n ∙ sym (unless-some _ k _ n)) (equal-or-not (lineCause other p said (frameOf kinds line)) 0))
+      (λ z. ap (unless (lineCause b p said (frameOf kinds line)) k) (next (limit-none b p said (frameOf kinds line) z .0)))
+      (λ n. unless-some _ k _ n ∙ sym (unless-some _ k _ n)) (equal-or-not (lineCause b p said (frameOf kinds line)) 0))
 
   same-later : (p : Progress) (said : Lists) (k : ℕ) (lines : List Line) → (stageOf (p .stage) ≡ 0 → ⊥) → told one p said k lines ≡ told other p said k lines
   unfolding told linksCause
@@ -98,8 +98,8 @@ module _ (kinds : ℕ) (archive : Bool) (a b : ℕ) where
   same-later p said k (cut line ∷ rest) s = refl
   same-later p said k (ended line ∷ rest) s =
       same-line p said k line rest
-      (limit-unless one p said (frameOf kinds line) (λ n source f e z. absurd (s (head-accepted p said n source f z .0)))
-      ∙ sym (limit-unless other p said (frameOf kinds line) (λ n source f e z. absurd (s (head-accepted p said n source f z .0)))))
+      (limit-unless a p said (frameOf kinds line) (λ n source f e z. absurd (s (head-accepted p said n source f z .0)))
+      ∙ sym (limit-unless b p said (frameOf kinds line) (λ n source f e z. absurd (s (head-accepted p said n source f z .0)))))
       (λ z.
       same-later (after p (frameOf kinds line)) (saidAfter p said (frameOf kinds line)) (k + 1) rest (frame-stage p said (frameOf kinds line) z))
 
@@ -129,11 +129,11 @@ lines-above [] h = clash h refl
 lines-above (cut line ∷ rest) h = clash h refl
 lines-above (ended line ∷ rest) h =
     let a = above-accepted (frameOf planKinds line) h in
-    let c = limit-above quoteReader nothingRead nothingSaid (frameOf planKinds line) (a .0) (a .1) in
+    let c = limit-above mostQuoted nothingRead nothingSaid (frameOf planKinds line) (a .0) (a .1) in
     unless-none (endCause quoteReader nothingRead (frameOf planKinds line)) 0 _
     (end-none quoteReader nothingRead (frameOf planKinds line)
     (links-elsewhere quoteReader nothingRead (no-by (λ t. let o = plan-stage nothingRead t .0 in omega arith))))
-    ∙ unless-some (lineCause quoteReader nothingRead nothingSaid (frameOf planKinds line)) 1 _ (λ z. omega arith)
+    ∙ unless-some (lineCause mostQuoted nothingRead nothingSaid (frameOf planKinds line)) 1 _ (λ z. omega arith)
     ∙ ap (λ (x : ℕ). refusal x 1) c
 
 lines-alike : (lines : List Line) → firstAbove lines ≡ false → quoted lines ≡ told planReader nothingRead nothingSaid 1 lines
@@ -142,9 +142,9 @@ lines-alike [] h = refl
 lines-alike (cut line ∷ rest) h = refl
 lines-alike (ended line ∷ rest) h =
     same-line planKinds false mostQuoted mostTerminals nothingRead nothingSaid 1 line rest
-    (limit-unless quoteReader nothingRead nothingSaid (frameOf planKinds line)
+    (limit-unless mostQuoted nothingRead nothingSaid (frameOf planKinds line)
     (λ n source f e z. sym (and-yes _ _ (head-accepted nothingRead nothingSaid n source f z .1)) ∙ sym (ap quotedAbove e) ∙ h)
-    ∙ sym (limit-free planReader nothingRead nothingSaid (frameOf planKinds line) (omega arith)))
+    ∙ sym (limit-free mostTerminals nothingRead nothingSaid (frameOf planKinds line) (omega arith)))
     (λ z.
     same-later planKinds false mostQuoted mostTerminals (after nothingRead (frameOf planKinds line)) (saidAfter nothingRead nothingSaid (frameOf planKinds line))
     (1 + 1) rest (frame-stage nothingRead nothingSaid (frameOf planKinds line) z))
@@ -189,8 +189,8 @@ module _ (reader : Reader) (m : mostTerminals ≤ reader .most) where
   told-never p said k (cut line ∷ rest) = λ h. omega arith
   told-never p said k (ended line ∷ rest) =
       unless-never (endCause reader p (frameOf (reader .kinds) line)) 0 _ (end-never p (frameOf (reader .kinds) line))
-      (unless-never (lineCause reader p said (frameOf (reader .kinds) line)) k _
-      (λ h. frame-never p said (frameOf (reader .kinds) line) (sym (limit-free reader p said (frameOf (reader .kinds) line) m) ∙ h))
+      (unless-never (lineCause (reader .most) p said (frameOf (reader .kinds) line)) k _
+      (λ h. frame-never p said (frameOf (reader .kinds) line) (sym (limit-free (reader .most) p said (frameOf (reader .kinds) line) m) ∙ h))
       (told-never (after p (frameOf (reader .kinds) line)) (saidAfter p said (frameOf (reader .kinds) line)) (k + 1) rest))
 
   reading-never : (text : List ℕ) → reading reader text .number ≡ 14 → ⊥

@@ -11,8 +11,8 @@ use borrow.Author.Tests.{eq-eqb, ne-eqb, lt-ltb, le-ltb, le-leb, lt-leb, leb-tru
 use Rattle.sets.specs.Tests.{_or_, pick}
 use Rattle.sets.specs.Causes.{_gives_, firstCause, given}
 use Rattle.sets.specs.Sets.{mem}
-use Rattle.sets.proofs.Bools.{and-l, and-r, and-i, and-yes, and-no-l, and-no-r, or-l, or-r, or-no, or-none, not-i, not-yes, pick-yes, pick-no}
-use Rattle.sets.proofs.Causes.{cause-here, cause-later, cause-last, given-decides}
+use Rattle.sets.proofs.Bools.{decide, and-l, and-r, and-i, and-yes, and-no-l, and-no-r, or-l, or-r, or-no, or-none, not-i, not-yes, pick-yes, pick-no}
+use Rattle.sets.proofs.Causes.{cause-here, cause-later, cause-last, given-passes, given-decides, given-is}
 use Rattle.sets.proofs.Laws.{equal-or-not}
 use Rattle.quorum.specs.declared.BoundKind.{BoundKind}
 use Rattle.quorum.specs.Quorum.{mostTerminals, mostGroups, noGroups, listed, inRange, others}
@@ -30,7 +30,6 @@ use Rattle.lines.specs.declared.Frame.{Frame}
 use Rattle.lines.specs.declared.Frame.the-variants.{Foreign, Unknown, Head, Link, Group, Channel, FaultSet, Start, Later, Message, Broadcast}
 use Rattle.frames.specs.declared.Stage.the-variants.{Nothing, Links, Grouped, Shared, Faults, Started, Words}
 use Rattle.frames.specs.declared.Progress.{Progress}
-use Rattle.frames.specs.declared.Reader.{Reader}
 use Rattle.frames.specs.declared.told.Told.{Told}
 use Rattle.frames.specs.Reading.{isAt, inPlan, isStarted, formOf, hasEdition, otherForm, isShared, wrongForm, noLinks, planned, Lists, both, nothingSaid, kindRead, lists, roundsOf, headCause, linkCause, groupCause, channelCause, badSetCause, faultSetCause, startCause, laterCause, isWord, messageCause, isBroadcast, broadcastCause, causeIn, headAbove, lineCause, linked, grouped, after, saidAfter}
 use Rattle.frames.proofs.Limits.{limit-none, limit-below}
@@ -84,15 +83,22 @@ module _ (p : Progress) (n source f : ℕ) (kind : BoundKind) (e : kind ≡ kind
   unfolding headCause
   head-right stage h = cause-later _ _ _ (not-yes stage) ∙ cause-last _ _ (not-yes (sym (ap (inRange n source) e) ∙ h))
 
-  pub head-wrong : isAt Nothing p ≡ true → inRange n source kind ≡ false → headCause p n source f ≡ 4
+  head-wrong : isAt Nothing p ≡ true → inRange n source kind ≡ false → headCause p n source f ≡ 4
   unfolding headCause
   head-wrong stage h = cause-later _ _ _ (not-yes stage) ∙ cause-here _ _ _ (not-i (sym (ap (inRange n source) e) ∙ h))
 
+  -- 4 and 14, by a reader with a limit
+  pub head-placed : (most : ℕ) → isAt Nothing p ≡ true
+      → firstCause (not (inRange n source kind) gives 4 ∷ ltb most n gives 14 ∷ []) ≡ firstCause (given (headCause p n source f) ∷ ltb most n gives 14 ∷ [])
+  head-placed most stage =
+      ⊎-elim (λ h. cause-later _ 4 _ (not-yes h) ∙ sym (given-passes _ _ (head-right stage h)))
+      (λ h. cause-here _ 4 _ (not-i h) ∙ sym (given-is _ _ 4 (head-wrong stage h) (λ z. omega arith))) (decide (inRange n source kind))
+
 -- its line, by a reader with a limit
-pub head-line : (reader : Reader) (p : Progress) (said : Lists) (n source f : ℕ)
-    → firstCause (given (headCause p n source f) ∷ ltb (reader .most) n gives 14 ∷ []) ≡ lineCause reader p said (Head n source f)
+pub head-line : (most : ℕ) (p : Progress) (said : Lists) (n source f : ℕ)
+    → firstCause (given (headCause p n source f) ∷ ltb most n gives 14 ∷ []) ≡ lineCause most p said (Head n source f)
 unfolding lineCause causeIn headAbove
-head-line reader p said n source f = refl
+head-line most p said n source f = refl
 
 -- ---- a link
 
@@ -466,19 +472,19 @@ module _ (p : Progress) (words : List ℕ) (round from layout : ℕ) where
 -- ---- a frame
 
 -- what was found of a frame by its variant holds of the frame
-module _ (reader : Reader) (p : Progress) (said last : Lists) (frame known : Frame) (r : Told) (e : frame ≡ known) where
-  pub told-by : r .cause ≡ lineCause reader p said known → (r .cause ≡ 0 → r .progress ≡ after p known)
+module _ (most : ℕ) (p : Progress) (said last : Lists) (frame known : Frame) (r : Told) (e : frame ≡ known) where
+  pub told-by : r .cause ≡ lineCause most p said known → (r .cause ≡ 0 → r .progress ≡ after p known)
       → last ≡ pick (eqb (r .cause) 0) (saidAfter p said known) said
-      → (r .cause ≡ lineCause reader p said frame) × (r .cause ≡ 0 → r .progress ≡ after p frame)
+      → (r .cause ≡ lineCause most p said frame) × (r .cause ≡ 0 → r .progress ≡ after p frame)
       × (last ≡ pick (eqb (r .cause) 0) (saidAfter p said frame) said)
   told-by a b d = rw e (a, b, d)
 
   -- of one that is no head the causes are its own
-  pub told-in : headAbove (reader .most) known ≡ false → r .cause ≡ causeIn p said known → (r .cause ≡ 0 → r .progress ≡ after p known)
+  pub told-in : headAbove most known ≡ false → r .cause ≡ causeIn p said known → (r .cause ≡ 0 → r .progress ≡ after p known)
       → last ≡ pick (eqb (r .cause) 0) (saidAfter p said known) said
-      → (r .cause ≡ lineCause reader p said frame) × (r .cause ≡ 0 → r .progress ≡ after p frame)
+      → (r .cause ≡ lineCause most p said frame) × (r .cause ≡ 0 → r .progress ≡ after p frame)
       × (last ≡ pick (eqb (r .cause) 0) (saidAfter p said frame) said)
-  told-in h a = told-by (a ∙ sym (limit-below reader p said known h))
+  told-in h a = told-by (a ∙ sym (limit-below most p said known h))
 
 -- of the two lists one is changed, or neither
 pub either : (b : Bool) (said : Lists) → said ≡ pick b said said
@@ -497,7 +503,7 @@ changed-later true last next words later e = ap (both words) e
 changed-later false last next words later e = ap (both words) e
 
 -- an accepted frame leaves at most 20 terminals and 40 rounds
-module _ (reader : Reader) (p : Progress) (said : Lists) (twenty : p .plan .n ≤ mostTerminals) (forty : p .rounds ≤ mostRounds) where
+module _ (most : ℕ) (p : Progress) (said : Lists) (twenty : p .plan .n ≤ mostTerminals) (forty : p .rounds ≤ mostRounds) where
   kept : (frame : Frame) → causeIn p said frame ≡ 0 → (after p frame .plan .n ≤ mostTerminals) × (after p frame .rounds ≤ mostRounds)
   unfolding inRange after linked grouped
   kept Foreign h = (twenty, forty)
@@ -512,6 +518,6 @@ module _ (reader : Reader) (p : Progress) (said : Lists) (twenty : p .plan .n �
   kept (Message form round from to edition layout) h = (twenty, forty)
   kept (Broadcast round from layout) h = (twenty, forty)
 
-  pub kept-next : (frame : Frame) (cause : ℕ) (next : Progress) → cause ≡ lineCause reader p said frame → cause ≡ 0 → next ≡ after p frame
+  pub kept-next : (frame : Frame) (cause : ℕ) (next : Progress) → cause ≡ lineCause most p said frame → cause ≡ 0 → next ≡ after p frame
       → (next .plan .n ≤ mostTerminals) × (next .rounds ≤ mostRounds)
-  kept-next frame cause next e z q = rw q (kept frame (limit-none reader p said frame (sym e ∙ z) .0))
+  kept-next frame cause next e z q = rw q (kept frame (limit-none most p said frame (sym e ∙ z) .0))

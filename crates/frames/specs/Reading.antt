@@ -263,9 +263,9 @@ headAbove most (Later round edition layout) = false
 headAbove most (Message form round from to edition layout) = false
 headAbove most (Broadcast round from layout) = false
 
--- the causes of a line, by this reader: 14 comes after 3 and 4, and a head has no other (document 02, P5)
-unfoldable pub lineCause : Reader → Progress → Lists → Frame → ℕ
-lineCause reader p said frame = firstCause (given (causeIn p said frame) ∷ headAbove (reader .most) frame gives 14 ∷ [])
+-- the causes of a line, by a reader that takes at most so many: 14 comes after 3 and 4, and a head has no other (document 02, P5)
+unfoldable pub lineCause : (most : ℕ) → Progress → Lists → Frame → ℕ
+lineCause most p said frame = firstCause (given (causeIn p said frame) ∷ headAbove most frame gives 14 ∷ [])
 
 -- ---- where the links end (document 02, P6 and P10): at the first line after the head that passes 1 and 2 and is not a link, nor, where groups are
 -- listed, a group; or else at the end of the file
@@ -396,7 +396,7 @@ told reader p said k [] = unless (linksCause reader p) 0 (record { number = 0; l
 told reader p said k (cut line ∷ rest) = refusal 1 k
 told reader p said k (ended line ∷ rest) =
     unless (endCause reader p (frameOf (reader .kinds) line)) 0
-    (unless (lineCause reader p said (frameOf (reader .kinds) line)) k
+    (unless (lineCause (reader .most) p said (frameOf (reader .kinds) line)) k
     (told reader (after p (frameOf (reader .kinds) line)) (saidAfter p said (frameOf (reader .kinds) line)) (k + 1) rest))
 
 -- the file's length comes first of all

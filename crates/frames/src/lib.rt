@@ -253,7 +253,7 @@ fn pass(
                 cause: end,
             };
         }
-        let told = told::tell(reader, known, words, later, frame);
+        let told = told::tell(reader.most, known, words, later, frame);
         if told.cause != 0 {
             return Cursor {
                 progress: known,

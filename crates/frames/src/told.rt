@@ -1,5 +1,6 @@
 // What each frame does to what is known so far, or why it is refused.
 ghost use mathlib.Core.Path.{_≡_};
+ghost use mathlib.Core.Bool.{not};
 ghost use Prim.Native.Nat.{_-_, _<_, _≤_};
 ghost use lib.Dec.{eqb, ltb};
 ghost use mathlib.Core.List.{[], _∷_};
@@ -7,12 +8,11 @@ ghost use lib.ListN.{length, set};
 ghost use Rattle.sets.specs.Tests.{pick};
 ghost use Rattle.sets.specs.Causes.{_gives_, firstCause, given};
 ghost use Rattle.lines.specs.declared.Frame.the-variants.{Head, Link, Group, Channel, FaultSet, Start, Later};
-ghost use Rattle.quorum.specs.Quorum.{mostTerminals, mostGroups, listed};
+ghost use Rattle.quorum.specs.Quorum.{mostTerminals, mostGroups, listed, inRange};
 ghost use Rattle.quorum.specs.Notice.{noticeOf};
 ghost use Rattle.quorum.specs.Words.{mostRounds, mostWords, placeOf, sharedPlaceOf};
 ghost use Rattle.frames.specs.Reading.{kindRead, lists, roundsOf, headCause, linkCause, groupCause, channelCause, badSetCause, faultSetCause, startCause, laterCause, isWord, messageCause, isBroadcast, broadcastCause, lineCause, linked, grouped, spoken, after, both, saidAfter};
 use super::Progress;
-use super::Reader;
 use super::Stage;
 use super::has_edition;
 use super::in_plan;
@@ -45,36 +45,45 @@ fn kind_read(f: u8) -> BoundKind
     BoundKind::Most(f as usize)
 }
 
+// The cause that refuses a head in its place, 0 for none: n, source or f out of range, or more terminals
+// than the reader takes.
+fn range_cause(most: u8, n: u8, source: u8, kind: BoundKind) -> u8
+    ensures { λ r. ⌜ r ≡ firstCause (not (inRange n source kind) gives 4 ∷ ltb most n gives 14 ∷ []) ⌝ }
+{
+    if quorum::in_range(n as usize, source as usize, kind) {
+        if most < n {
+            return 14;
+        }
+        return 0;
+    }
+    4
+}
+
 // A head, by a reader that takes at most so many terminals.
-fn head(reader: Reader, p: Progress, n: u8, source: u8, f: u8) -> Told
-    ensures { λ r. ⌜ (r .cause ≡ firstCause (given (headCause p n source f) ∷ ltb (reader .most) n gives 14 ∷ [])) × (r .cause ≡ 0 → r .progress ≡ after p (Head n source f)) ⌝ }
+fn head(most: u8, p: Progress, n: u8, source: u8, f: u8) -> Told
+    ensures { λ r. ⌜ (r .cause ≡ firstCause (given (headCause p n source f) ∷ ltb most n gives 14 ∷ [])) × (r .cause ≡ 0 → r .progress ≡ after p (Head n source f)) ⌝ }
 {
     let kind = kind_read(f);
     if is_at(Stage::Nothing, p) {
-        if quorum::in_range(n as usize, source as usize, kind) {
-            if reader.most < n {
-                return Told {
-                    cause: 14,
-                    progress: p,
-                };
-            }
-            let plan = Plan {
-                n: n as usize,
-                source: source as usize,
-                bound: Bound {
-                    kind: kind,
-                    groups: [0u32; 16],
-                },
-                rows: [0u32; 20],
-            };
+        let cause = range_cause(most, n, source, kind);
+        if cause != 0 {
             return Told {
-                cause: 0,
-                progress: planned(Stage::Links, plan, 0),
+                cause: cause,
+                progress: p,
             };
         }
+        let plan = Plan {
+            n: n as usize,
+            source: source as usize,
+            bound: Bound {
+                kind: kind,
+                groups: [0u32; 16],
+            },
+            rows: [0u32; 20],
+        };
         return Told {
-            cause: 4,
-            progress: p,
+            cause: 0,
+            progress: planned(Stage::Links, plan, 0),
         };
     }
     Told {
@@ -522,14 +531,14 @@ fn spoken(p: Progress) -> Progress
 
 // What a frame does, or the cause that refuses it: then both lists stay as they are.
 pub(crate) fn tell(
-    reader: Reader,
+    most: u8,
     p: Progress,
     words: &mut [u32],
     later: &mut [u32],
     frame: Frame,
 ) -> Told
     requires { ⌜ (p .plan .n ≤ mostTerminals) × (p .rounds ≤ mostRounds) × (length (now words) ≡ mostWords) × (length (now later) ≡ mostRounds) ⌝ }
-    ensures { λ r. ⌜ (r .cause ≡ lineCause reader p (both (now (words .entry)) (now (later .entry))) frame) × (r .cause ≡ 0 → r .progress ≡ after p frame) × (both (now (words .exit)) (now (later .exit)) ≡ pick (eqb (r .cause) 0) (saidAfter p (both (now (words .entry)) (now (later .entry))) frame) (both (now (words .entry)) (now (later .entry)))) ⌝ }
+    ensures { λ r. ⌜ (r .cause ≡ lineCause most p (both (now (words .entry)) (now (later .entry))) frame) × (r .cause ≡ 0 → r .progress ≡ after p frame) × (both (now (words .exit)) (now (later .exit)) ≡ pick (eqb (r .cause) 0) (saidAfter p (both (now (words .entry)) (now (later .entry))) frame) (both (now (words .entry)) (now (later .entry)))) ⌝ }
 {
     match frame {
         Frame::Foreign => Told {
@@ -540,7 +549,7 @@ pub(crate) fn tell(
             cause: 2,
             progress: p,
         },
-        Frame::Head(n, source, f) => head(reader, p, n, source, f),
+        Frame::Head(n, source, f) => head(most, p, n, source, f),
         Frame::Link(from, to) => link(p, from as usize, to as usize),
         Frame::Group(s) => group(p, s),
         Frame::Channel(layout) => channel(p, layout),

@@ -2,9 +2,8 @@
 use mathlib.Core.Path.{sym, _∙_}
 use native.Mathlib.Omega.{arith}
 use borrow.Author.Needs.{needs}
-use borrow.Author.Tests.{lt-ltb, le-ltb}
-use Rattle.sets.proofs.Causes.{cause-here, cause-last, given-passes, given-is}
-use Rattle.frames.proofs.TellLaws.{head-next, head-right, head-wrong, head-late}
+use Rattle.sets.proofs.Causes.{given-is}
+use Rattle.frames.proofs.TellLaws.{head-late, head-next, head-placed}
 use Rattle.frames.proofs.told.head.Statement.{statement}
 use Rattle.frames.proofs.told.head.Tie as tie
 
@@ -14,29 +13,25 @@ kind-read-requires c κs = search needs
 is-at-requires : tie.Need-is-at-requires
 is-at-requires c κs = search needs
 
-in-range-requires : tie.Need-in-range-requires
-in-range-requires c κs = search needs
+range-cause-requires : tie.Need-range-cause-requires
+range-cause-requires c κs = search needs
 
 returns : tie.Need-returns
 returns c =
-    let right = head-right _ _ _ _ _ (c .before .before .before .before .before .before .kind-read .ensures) (sym (c .before .before .before .before .before .is-at .ensures) ∙ c .before .before .before .before .if1 .taken) (sym (c .before .before .before .in-range .ensures) ∙ c .before .before .if2 .taken) in
-    (sym (given-passes _ _ right ∙ cause-here _ 14 _ (lt-ltb _ _ (c .if3 .taken))), λ z. absurd (omega arith))
+    let placed = head-placed _ _ _ _ _ (c .before .before .before .before .kind-read .ensures) _ (sym (c .before .before .before .is-at .ensures) ∙ c .before .before .if1 .taken) in
+    (c .before .range-cause .ensures ∙ placed, λ z. absurd (c .if2 .taken z))
 
 planned-requires : tie.Need-planned-requires
 planned-requires c κs = search needs
 
 returns-2 : tie.Need-returns-2
 returns-2 c =
-    let kind = c .before .before .before .before .before .before .before .kind-read .ensures in
-    let right = head-right _ _ _ _ _ kind (sym (c .before .before .before .before .before .before .is-at .ensures) ∙ c .before .before .before .before .before .if1 .taken) (sym (c .before .before .before .before .in-range .ensures) ∙ c .before .before .before .if2 .taken) in
-    (sym (given-passes _ _ right ∙ cause-last _ 14 (le-ltb _ _ (c .before .if3 .left))), λ z. c .planned .ensures ∙ head-next _ _ _ _ _ kind)
+    let kind = c .before .before .before .before .before .kind-read .ensures in
+    let placed = head-placed _ _ _ _ _ kind _ (sym (c .before .before .before .before .is-at .ensures) ∙ c .before .before .before .if1 .taken) in
+    (sym (c .before .if2 .left) ∙ c .before .before .range-cause .ensures ∙ placed, λ z. c .planned .ensures ∙ head-next _ _ _ _ _ kind)
 
 returns-3 : tie.Need-returns-3
 returns-3 c =
-    (sym (given-is _ _ 4 (head-wrong _ _ _ _ _ (c .before .before .before .before .kind-read .ensures) (sym (c .before .before .before .is-at .ensures) ∙ c .before .before .if1 .taken) (sym (c .before .in-range .ensures) ∙ c .if2 .left)) (λ z. omega arith)), λ z. absurd (omega arith))
-
-returns-4 : tie.Need-returns-4
-returns-4 c =
     (sym (given-is _ _ 3 (head-late _ _ _ _ (sym (c .before .is-at .ensures) ∙ c .if1 .left)) (λ z. omega arith)), λ z. absurd (omega arith))
 
 pub head-spec : {M : Type 1} → statement M
@@ -45,9 +40,8 @@ head-spec =
     (tie.spec
     kind-read-requires
     is-at-requires
-    in-range-requires
+    range-cause-requires
     returns
     planned-requires
     returns-2
-    returns-3
-    returns-4)
+    returns-3)
