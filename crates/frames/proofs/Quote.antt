@@ -2,10 +2,10 @@
 use Prim.Native.Nat.{ℕ, _+_, _≤_}
 use mathlib.Core.Path.{_≡_, refl, sym, ap, _∙_}
 use mathlib.Core.Logic.{⊎-elim}
-use mathlib.Core.Bool.{Bool, true, false}
+use mathlib.Core.Bool.{Bool, true, false, not}
 use mathlib.Core.List.{List, [], _∷_}
 use native.Mathlib.Omega.{arith}
-use lib.Dec.{leb}
+use lib.Dec.{eqb, leb}
 use lib.ListN.{length}
 use borrow.Author.Tests.{ne-eqb, ltb-false}
 use Rattle.sets.specs.Tests.{_and_}
@@ -22,7 +22,7 @@ use Rattle.lines.specs.Frames.{frameOf}
 use Rattle.frames.specs.declared.Progress.{Progress}
 use Rattle.frames.specs.declared.Reader.{Reader}
 use Rattle.frames.specs.Lines.{Line, ended, cut, linesFrom}
-use Rattle.frames.specs.Reading.{mostBytes, planKinds, planReader, quoteReader, stageOf, isAt, isShared, nothingRead, Lists, nothingSaid, headCause, linkCause, groupCause, channelCause, badSetCause, faultSetCause, startCause, laterCause, messageCause, broadcastCause, causeIn, headAbove, lineCause, endsLinks, linksCause, endCause, linked, grouped, after, saidAfter, Reading, refusal, unless, told, reading, planReading, quoteReading}
+use Rattle.frames.specs.Reading.{mostBytes, planKinds, planReader, archiveReader, quoteReader, runReader, stageOf, isAt, isStarted, isShared, nothingRead, Lists, nothingSaid, headCause, linkCause, groupCause, channelCause, badSetCause, faultSetCause, startCause, laterCause, messageCause, broadcastCause, causeIn, headAbove, lineCause, endsLinks, linksCause, endCause, linked, grouped, after, saidAfter, Reading, refusal, unless, told, reading, whole, planReading, archiveReading, quoteReading, runReading}
 use Rattle.frames.specs.Quote.{quotedAbove, firstAbove, fileAbove, Quoting}
 use Rattle.frames.proofs.Unless.{unless-none, unless-some, unless-never}
 use Rattle.frames.proofs.Limits.{limit-none, limit-above, limit-unless}
@@ -220,5 +220,16 @@ module _ (text : List ℕ) where
   unfolding planReading
   text-never h = reading-never planReader (omega arith) text h
 
+  archive-never : archiveReading text .number ≡ 14 → ⊥
+  unfolding archiveReading
+  archive-never h = reading-never archiveReader (omega arith) text h
+
+  -- a run file without its start is refused by 3
+  run-never : runReading text .number ≡ 14 → ⊥
+  unfolding runReading whole
+  run-never =
+      pick-case (λ (r : Reading). r .number ≡ 14 → ⊥) (eqb (reading runReader text .number) 0 and not (isStarted (reading runReader text .progress))) (refusal 3 0)
+      (reading runReader text) (λ t h. omega arith) (λ t. reading-never runReader (omega arith) text)
+
   pub quoting : Quoting text
-  quoting = record { above = text-above; never = text-never; alike = text-alike }
+  quoting = record { above = text-above; alike = text-alike; never = text-never; never-archived = archive-never; never-run = run-never }

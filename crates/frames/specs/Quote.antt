@@ -12,7 +12,7 @@ use Rattle.lines.specs.declared.Frame.{Frame}
 use Rattle.lines.specs.declared.Frame.the-variants.{Foreign, Unknown, Head, Link, Group, Channel, FaultSet, Start, Later, Message, Broadcast}
 use Rattle.lines.specs.Frames.{frameOf}
 use Rattle.frames.specs.Lines.{Line, ended, cut, linesFrom}
-use Rattle.frames.specs.Reading.{mostBytes, planKinds, kindRead, refusal, planReading, quoteReading}
+use Rattle.frames.specs.Reading.{mostBytes, planKinds, kindRead, refusal, planReading, archiveReading, quoteReading, runReading}
 
 -- a head that is accepted where it comes first, f in range or ff, with more terminals than the quoting desk takes
 abbrev pub quotedAbove : Frame → Bool
@@ -37,9 +37,11 @@ firstAbove (ended line ∷ rest) = quotedAbove (frameOf planKinds line)
 unfoldable pub fileAbove : (text : List ℕ) → Bool
 fileAbove text = (leb 1 (length text) and leb (length text) mostBytes) and firstAbove (linesFrom [] text)
 
--- of one file: where it begins so, the quoting desk's reader refuses it by 14 with line 1, as the reader of new plans never does; elsewhere the two read
--- the same, and refuse alike
+-- of one file: where it begins so, the quoting desk's reader refuses it by 14 with line 1; elsewhere it and the reader of new plans read the same, and
+-- refuse alike; and no other reader ever answers 14
 pub record Quoting (text : List ℕ) : Type 0 where
   pub above : fileAbove text ≡ true → quoteReading text ≡ refusal 14 1
-  pub never : planReading text .number ≡ 14 → ⊥
   pub alike : fileAbove text ≡ false → quoteReading text ≡ planReading text
+  pub never : planReading text .number ≡ 14 → ⊥
+  pub never-archived : archiveReading text .number ≡ 14 → ⊥
+  pub never-run : runReading text .number ≡ 14 → ⊥
