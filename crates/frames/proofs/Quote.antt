@@ -154,9 +154,9 @@ lines-alike (ended line ∷ rest) h =
 bad-set-never : (p : Progress) (s : ℕ) → badSetCause p s ≡ 14 → ⊥
 unfolding badSetCause faultCauseOf sharedFaultCauseOf lacks _and_
 bad-set-never p s =
+    let plan = not-i (ne-eqb (causeOf (p .plan)) 14 (not-fourteen (p .plan))) in
     pick-case (λ (c : ℕ). c ≡ 14 → ⊥) (isShared p) (sharedFaultCauseOf (p .plan) s) (faultCauseOf (p .plan) s)
-    (λ t. cause-lacks 14 _ (λ z. omega arith) (and-i _ _ (not-i (ne-eqb (causeOf (p .plan)) 14 (not-fourteen (p .plan)))) refl))
-    (λ t. cause-lacks 14 _ (λ z. omega arith) (and-i _ _ (not-i (ne-eqb (causeOf (p .plan)) 14 (not-fourteen (p .plan)))) refl))
+    (λ t. cause-lacks 14 _ (λ z. omega arith) (and-i _ _ plan refl)) (λ t. cause-lacks 14 _ (λ z. omega arith) (and-i _ _ plan refl))
 
 frame-never : (p : Progress) (said : Lists) (frame : Frame) → causeIn p said frame ≡ 14 → ⊥
 unfolding causeIn headCause linkCause groupCause channelCause faultSetCause startCause laterCause messageCause broadcastCause lacks _and_

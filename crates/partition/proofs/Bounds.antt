@@ -28,29 +28,28 @@ use Rattle.closure.specs.Closure.{reached, cutOff}
 use Rattle.closure.proofs.Faults.{fault-below, fault-bound, hears-enough-mono}
 use Rattle.closure.proofs.Growth.{joins-enough, reached-closed}
 use Rattle.closure.proofs.Witness.{cut-below, cut-good, cut-unreached, defeats-fault, defeats-cuts}
-use Rattle.partition.specs.Search.{key, Inside, Apart, Settled, Hopeless, Closed, Swept, Spread, Grown}
+use Rattle.partition.specs.Search.{key, Inside, Apart, Settled, Hopeless, Closed, Spreading, Swept, Spread, Grown}
 use Rattle.faults.specs.Rows.{over, hearing}
 use Rattle.faults.proofs.Rows.{hearing-mem, hearing-below, over-hearing, over-why, over-low, word-of}
 use Rattle.partition.proofs.Members.{outside-i, count-split, count-join, grows, inside-le, key-later, size-twenty}
 
 -- ---- a set with whoever joins it
 
--- the loop's set so far
-pub record Spreading (p : Plan) (s wall l : ℕ) : Type 0 where
-  pub below : l < 2 ^ p .n
-  pub has : Inside s l
-  pub least : (t : ℕ) → Inside s t → Closed p wall t → Inside l t
-
+-- at the start
 pub spreading-start : (p : Plan) (s wall : ℕ) → s < 2 ^ p .n → Spreading p s wall s
 spreading-start p s wall h = record { below = h; has = λ i m. m; least = λ t i c. i }
 
 -- and after a turn
 module _ {p : Plan} {s wall l r : ℕ} (h : Spreading p s wall l) (t : Swept p wall l r) where
   pub spreading-next : Spreading p s wall r
-  spreading-next = record { below = t .below; has = λ i m. t .has i (h .has i m); least = λ u i c. t .least u (h .least u i c) c }
+  spreading-next = record {
+    below = t .grown .below;
+    has = λ i m. t .grown .has i (h .has i m);
+    least = λ u i c. t .grown .least u (h .least u i c) c;
+  }
 
   pub spreading-less : (r ≡ l → ⊥) → p .n - count (p .n) (λ i. mem i r) < p .n - count (p .n) (λ i. mem i l)
-  spreading-less z = grows (p .n) l r (h .below) (t .below) (t .has) z
+  spreading-less z = grows (p .n) l r (h .below) (t .grown .below) (t .grown .has) z
 
   pub spreading-ends : r ≡ l → Spread p s wall l
   spreading-ends q = record { below = h .below; has = h .has; closed = t .ends q; least = h .least }
@@ -68,9 +67,11 @@ module _ (p : Plan) (sound : Sound p) (wall l o : ℕ) (w : wall < 2 ^ 32) (h : 
 
   pub swept-at-once : Swept p wall l (bitOr l (bitAnd o (4294967295 - wall)))
   swept-at-once = record {
-    below = or-lt (p .n) l (bitAnd o (4294967295 - wall)) h (lt-of-le-of-lt (and-le-l o (4294967295 - wall)) (hearing-below p sound l o e));
-    has = λ i m. mem-or i l (bitAnd o (4294967295 - wall)) ∙ or-l _ _ m;
-    least = λ t i c b m. ⊎-elim (i b) (joining t i c b) (or-e _ _ (sym (mem-or b l (bitAnd o (4294967295 - wall))) ∙ m));
+    grown = record {
+      below = or-lt (p .n) l (bitAnd o (4294967295 - wall)) h (lt-of-le-of-lt (and-le-l o (4294967295 - wall)) (hearing-below p sound l o e));
+      has = λ i m. mem-or i l (bitAnd o (4294967295 - wall)) ∙ or-l _ _ m;
+      least = λ t i c b m. ⊎-elim (i b) (joining t i c b) (or-e _ _ (sym (mem-or b l (bitAnd o (4294967295 - wall))) ∙ m));
+    };
     ends = λ q b k g y.
         sym (ap (mem b) q) ∙ mem-or b l (bitAnd o (4294967295 - wall))
         ∙ or-r _ _ (mem-and b o (4294967295 - wall) ∙ and-i _ _ (hearing-mem p sound l o b e k ∙ y) (outer b k ∙ not-i g));

@@ -15,7 +15,6 @@ use Rattle.plan.proofs.Laws.{Sound, sound, few-cause, within-sound}
 use Rattle.closure.specs.Closure.{reached, cutOff}
 use Rattle.closure.specs.Verdict.{Ahead, defeats, Found, none, found, bestBelow, verdictOf, verdict, accepts}
 use Rattle.closure.proofs.Witness.{IsBest, best-below, verdict-fail, witness-accepted}
-use Rattle.closure.proofs.Quote.{many-refused}
 use Rattle.partition.specs.declared.Judgement.the-variants.{Pass, Fail}
 use Rattle.partition.specs.declared.search.Best.{Best}
 use Rattle.partition.specs.Answer.{answered, Reply, replyOf}
@@ -56,23 +55,18 @@ memory-below p best = go (bestBelow p (2 ^ p .n)) (best-below p (2 ^ p .n))
     go none b h m = absurd (omega arith)
     go (found t) b h m = subst (λ (s : ℕ). s < 2 ^ p .n) (sym (h .0)) (b .0)
 
--- ---- the answer by the plan's cause
+-- ---- the answer by the plan's cause, where the limit refuses nothing
 
-module _ (most : ℕ) (p : Plan) where
-  pub answer-many : tooMany most p ≡ true → refused 14 ≡ answerWithin most p
-  answer-many h = sym (many-refused most p h)
+module _ (most : ℕ) (p : Plan) (few : tooMany most p ≡ false) where
+  pub answer-judged : (a : Answer) → causeOf p ≡ 0 → a ≡ judged (verdict p) → a ≡ answerWithin most p
+  unfolding answerWithin
+  answer-judged a e q = q ∙ sym (pick-yes _ _ _ (eq-eqb (causeWithin most p) 0 (few-cause most p few ∙ e)))
 
-  -- where the limit refuses nothing
-  module _ (few : tooMany most p ≡ false) where
-    pub answer-judged : (a : Answer) → causeOf p ≡ 0 → a ≡ judged (verdict p) → a ≡ answerWithin most p
-    unfolding answerWithin
-    answer-judged a e q = q ∙ sym (pick-yes _ _ _ (eq-eqb (causeWithin most p) 0 (few-cause most p few ∙ e)))
-
-    pub answer-refused : (k : ℕ) → k ≡ causeOf p → (k ≡ 0 → ⊥) → refused k ≡ answerWithin most p
-    unfolding answerWithin
-    answer-refused k e z =
-        let w : k ≡ causeWithin most p = e ∙ sym (few-cause most p few) in
-        ap refused w ∙ sym (pick-no _ _ _ (ne-eqb (causeWithin most p) 0 (λ y. z (w ∙ y))))
+  pub answer-refused : (k : ℕ) → k ≡ causeOf p → (k ≡ 0 → ⊥) → refused k ≡ answerWithin most p
+  unfolding answerWithin
+  answer-refused k e z =
+      let w : k ≡ causeWithin most p = e ∙ sym (few-cause most p few) in
+      ap refused w ∙ sym (pick-no _ _ _ (ne-eqb (causeWithin most p) 0 (λ y. z (w ∙ y))))
 
 -- ---- for callers
 

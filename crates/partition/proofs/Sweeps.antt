@@ -15,23 +15,20 @@ use Rattle.plan.specs.declared.Plan.{Plan}
 use Rattle.plan.proofs.Laws.{Sound}
 use Rattle.closure.specs.FaultSet.{hearsEnough}
 use Rattle.closure.proofs.Faults.{hears-enough-mono}
-use Rattle.partition.specs.Search.{less, Inside, Closed, Swept}
+use Rattle.partition.specs.Search.{less, Spreading, Swept}
+use Rattle.partition.proofs.Bounds.{spreading-start}
 use Rattle.partition.proofs.Members.{with-below, with-keeps, with-one, with-why, mem-less, less-le, outside-mem, outside-i, outside-below}
 
 -- r so far, and who is still to be looked at: where nobody has joined, whoever was looked at does not hear enough
 pub record Sweeping (p : Plan) (wall l r rest : ℕ) : Type 0 where
-  pub below : r < 2 ^ p .n
-  pub has : Inside l r
-  pub least : (t : ℕ) → Inside l t → Closed p wall t → Inside r t
+  pub grown : Spreading p l wall r
   pub rest-below : rest < 2 ^ p .n
   pub free : (b : ℕ) → mem b rest ≡ true → (mem b wall ≡ false) × (mem b l ≡ false)
   pub tried : r ≡ l → (b : ℕ) → b < p .n → mem b wall ≡ false → mem b l ≡ false → mem b rest ≡ false → hearsEnough p b l ≡ false
 
 pub sweeping-start : (p : Plan) (wall l rest : ℕ) → l < 2 ^ p .n → rest ≡ outside (p .n) wall l → Sweeping p wall l l rest
 sweeping-start p wall l rest h e = record {
-  below = h;
-  has = λ i m. m;
-  least = λ t i c. i;
+  grown = spreading-start p l wall h;
   rest-below = subst (λ (x : ℕ). x < 2 ^ p .n) (sym e) (mask-lt (p .n) (λ i. not (mem i wall) and not (mem i l)));
   free = λ b m.
       let both = sym (outside-mem (p .n) wall l rest b e (outside-below (p .n) wall l rest b e m)) ∙ m in
@@ -54,9 +51,7 @@ module _ (p : Plan) (sound : Sound p) (wall l r rest b : ℕ) (h : Sweeping p wa
   -- it does not join
   sweeping-passed : hearsEnough p b r ≡ false → Sweeping p wall l r (less rest b)
   sweeping-passed n = record {
-    below = h .below;
-    has = h .has;
-    least = h .least;
+    grown = h .grown;
     rest-below = less-below;
     free = λ i v. h .free i (less-inside i v);
     tried = λ z i k g v u.
@@ -68,18 +63,20 @@ module _ (p : Plan) (sound : Sound p) (wall l r rest b : ℕ) (h : Sweeping p wa
   -- or it does
   sweeping-joined : (x : ℕ) → x ≡ with 32 r b → hearsEnough p b r ≡ true → Sweeping p wall l x (less rest b)
   sweeping-joined x e y = record {
-    below = with-below (p .n) r b x (sound .twenty) (h .below) looked-below e;
-    has = λ i v. with-keeps (p .n) r b x (sound .twenty) (h .below) looked-below e i (h .has i v);
-    least = λ t i c a v.
-        ⊎-elim (h .least t i c a)
-        (λ q.
-        subst (λ (z : ℕ). mem z t ≡ true) (sym q)
-        (c b looked-below (h .free b m .0) (hears-enough-mono p b r t (λ a x. h .least t i c a) y)))
-        (with-why (p .n) r b x (sound .twenty) (h .below) looked-below e a v);
+    grown = record {
+      below = with-below (p .n) r b x (sound .twenty) (h .grown .below) looked-below e;
+      has = λ i v. with-keeps (p .n) r b x (sound .twenty) (h .grown .below) looked-below e i (h .grown .has i v);
+      least = λ t i c a v.
+          ⊎-elim (h .grown .least t i c a)
+          (λ q.
+          subst (λ (z : ℕ). mem z t ≡ true) (sym q)
+          (c b looked-below (h .free b m .0) (hears-enough-mono p b r t (λ a x. h .grown .least t i c a) y)))
+          (with-why (p .n) r b x (sound .twenty) (h .grown .below) looked-below e a v);
+    };
     rest-below = less-below;
     free = λ i v. h .free i (less-inside i v);
     tried = λ z i k g v u.
-        clash (sym (ap (mem b) z) ∙ with-one (p .n) r b x (sound .twenty) (h .below) looked-below e) (h .free b m .1);
+        clash (sym (ap (mem b) z) ∙ with-one (p .n) r b x (sound .twenty) (h .grown .below) looked-below e) (h .free b m .1);
   }
 
   pub sweeping-next : (joins : Bool) (x : ℕ) → joins ≡ hearsEnough p b r → x ≡ pick joins (with 32 r b) r → Sweeping p wall l x (less rest b)
@@ -89,8 +86,6 @@ module _ (p : Plan) (sound : Sound p) (wall l r rest b : ℕ) (h : Sweeping p wa
 
 pub sweeping-ends : {p : Plan} {wall l r rest : ℕ} → Sweeping p wall l r rest → rest ≡ 0 → Swept p wall l r
 sweeping-ends {p} {wall} {l} {r} {rest} h z = record {
-  below = h .below;
-  has = h .has;
-  least = h .least;
+  grown = h .grown;
   ends = λ q b k g y. ⊎-elim (λ v. v) (λ v. clash y (h .tried q b k g v (ap (mem b) z ∙ mem-zero b))) (decide (mem b l));
 }

@@ -71,11 +71,15 @@ pub record Spread (p : Plan) (s wall r : ℕ) : Type 0 where
   pub closed : Closed p wall r
   pub least : (t : ℕ) → Inside s t → Closed p wall t → Inside r t
 
--- r is l after a turn: of all else it has only what every closed set with l has, and where nobody has joined, l is closed
-pub record Swept (p : Plan) (wall l r : ℕ) : Type 0 where
+-- r is s, and of all else has only what every closed set with s has
+pub record Spreading (p : Plan) (s wall r : ℕ) : Type 0 where
   pub below : r < 2 ^ p .n
-  pub has : Inside l r
-  pub least : (t : ℕ) → Inside l t → Closed p wall t → Inside r t
+  pub has : Inside s r
+  pub least : (t : ℕ) → Inside s t → Closed p wall t → Inside r t
+
+-- so is r of l after a turn; and where nobody has joined, l is closed
+pub record Swept (p : Plan) (wall l r : ℕ) : Type 0 where
+  pub grown : Spreading p l wall r
   pub ends : r ≡ l → Closed p wall l
 
 -- r is settled wherever known is, for the fault sets with none of out

@@ -41,29 +41,28 @@ pub record Tests (p : Plan) : Type 0 where
 -- ---- the causes within a limit, and without one
 
 module _ (most : ℕ) (p : Plan) where
-  pub out-of-range : inRange (p .n) (p .source) (p .bound .kind) ≡ false → causeWithin most p ≡ 4
+  out-of-range : inRange (p .n) (p .source) (p .bound .kind) ≡ false → causeWithin most p ≡ 4
   unfolding causeWithin
   out-of-range h = cause-here _ 4 _ (not-i h)
 
   module _ (range : inRange (p .n) (p .source) (p .bound .kind) ≡ true) where
-    pub cause-above : most < p .n → causeWithin most p ≡ 14
+    cause-above : most < p .n → causeWithin most p ≡ 14
     unfolding causeWithin
     cause-above h = cause-later _ 4 _ (not-yes range) ∙ cause-here _ 14 _ (lt-ltb most (p .n) h)
 
-    pub cause-below : p .n ≤ most
+    cause-below : p .n ≤ most
         → causeWithin most p ≡ firstCause (not (linksSound p) gives 5 ∷ not (groupsSound (p .n) (p .source) (p .bound)) gives 17 ∷ [])
     unfolding causeWithin
     cause-below h = cause-later _ 4 _ (not-yes range) ∙ cause-later _ 14 _ (le-ltb most (p .n) h)
 
-  -- what is sound, and so within the limit
-  pub tests-within : causeWithin most p ≡ 0 → Tests p × (p .n ≤ most)
+  tests-within : causeWithin most p ≡ 0 → Tests p
   unfolding causeWithin
   tests-within h =
       let range = cause-none _ 4 _ (λ z. omega arith) h in
       let below = cause-none _ 14 _ (λ z. omega arith) (range .1) in
       let links = cause-none _ 5 _ (λ z. omega arith) (below .1) in
       let groups = cause-none _ 17 [] (λ z. omega arith) (links .1) in
-      (record { range = not-no _ (range .0); links = not-no _ (links .0); groups = not-no _ (groups .0) }, ltb-false most (p .n) (below .0))
+      record { range = not-no _ (range .0); links = not-no _ (links .0); groups = not-no _ (groups .0) }
 
 in-range-twenty : (p : Plan) → inRange (p .n) (p .source) (p .bound .kind) ≡ true → p .n ≤ mostTerminals
 unfolding inRange
@@ -82,7 +81,7 @@ module _ (p : Plan) where
 
   pub tests : causeOf p ≡ 0 → Tests p
   unfolding causeOf
-  tests h = tests-within mostTerminals p h .0
+  tests h = tests-within mostTerminals p h
 
   -- and the other way
   pub tested : Tests p → causeOf p ≡ 0
@@ -97,7 +96,7 @@ module _ (p : Plan) where
 
 -- what is sound within a limit is sound
 pub within-sound : (most : ℕ) (p : Plan) → causeWithin most p ≡ 0 → causeOf p ≡ 0
-within-sound most p h = tested p (tests-within most p h .0)
+within-sound most p h = tested p (tests-within most p h)
 
 -- a limit refuses those in range with more terminals by 14, and changes nothing for all others
 module _ (most : ℕ) (p : Plan) where

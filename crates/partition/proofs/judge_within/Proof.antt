@@ -2,7 +2,8 @@
 use mathlib.Core.Path.{sym, ap, _∙_}
 use native.Mathlib.Omega.{arith}
 use Rattle.plan.specs.Plan.{numberOf}
-use Rattle.partition.proofs.Laws.{answer-many, answer-judged, answer-refused, with-check}
+use Rattle.closure.proofs.Quote.{many-refused}
+use Rattle.partition.proofs.Laws.{answer-judged, answer-refused, with-check}
 use borrow.Author.Needs.{needs}
 use Rattle.partition.proofs.judge_within.Statement.{statement}
 use Rattle.partition.proofs.judge_within.Tie as tie
@@ -11,7 +12,7 @@ too-many-requires : tie.Need-too-many-requires
 too-many-requires c κs = search needs
 
 returns : tie.Need-returns
-returns c = with-check _ _ _ (answer-many _ _ (sym (c .before .too-many .ensures) ∙ c .if1 .taken))
+returns c = with-check _ _ _ (sym (many-refused _ _ (sym (c .before .too-many .ensures) ∙ c .if1 .taken)))
 
 check-requires : tie.Need-check-requires
 check-requires c κs = search needs

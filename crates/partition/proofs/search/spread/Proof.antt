@@ -1,7 +1,8 @@
 -- The set grows turn by turn, until a turn adds nobody. Assumes nothing.
 use Prim.Native.Nat.{_-_}
 use Rattle.sets.specs.Sets.{mem, count}
-use Rattle.partition.proofs.Bounds.{Spreading, spreading-start, spreading-next, spreading-less, spreading-ends}
+use Rattle.partition.specs.Search.{Spreading}
+use Rattle.partition.proofs.Bounds.{spreading-start, spreading-next, spreading-less, spreading-ends}
 use Rattle.partition.proofs.search.spread.Statement.{statement}
 use Rattle.partition.proofs.search.spread.Tie as tie
 
