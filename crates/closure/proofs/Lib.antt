@@ -4,3 +4,4 @@ pub mod Growth
 pub mod Witness
 pub mod Deaf
 pub mod Quote
+pub mod Margin

@@ -5,3 +5,4 @@ pub mod Verdict
 pub mod Answer
 pub mod Deaf
 pub mod Quote
+pub mod Margin
