@@ -5,7 +5,7 @@ use mathlib.Core.Logic.{_⊎_, inl, inr, ⊎-elim}
 use mathlib.Core.Bool.{Bool, true, false, not, cond}
 use native.Mathlib.Omega.{arith}
 use lib.Dec.{eqb, ltb}
-use lib.IntN.{ℤ, pos, negsuc, subℕ, _-ℤ_}
+use lib.IntN.{ℤ, pos, negsuc, subℕ, _+ℤ_, _-ℤ_, -ℤ-+ℤ-cancel}
 use lib.Signed.{ltZ}
 use borrow.Author.Tests.{eqb-true, eqb-false, eq-eqb, ne-eqb, ltb-true, ltb-false, lt-ltb, le-ltb}
 use Rattle.sets.specs.Tests.{_and_, pick}
@@ -143,6 +143,12 @@ pub margin-is : (p : Plan) (b : ℕ) → margin p b ≡ subℕ (fewest p b) (suc
 unfolding margin
 margin-is p b =
     let e : boundOf (p .bound .kind) + 1 ≡ suc (boundOf (p .bound .kind)) = omega arith in ap (λ (x : ℕ). pos (fewest p b) -ℤ pos x) e
+
+-- with the f + 1 that are needed it is the least that the terminal hears of L
+pub margin-and-needed : (p : Plan) (b f : ℕ) → p .bound .kind ≡ Most f → margin p b +ℤ pos (f + 1) ≡ pos (fewest p b)
+unfolding margin
+margin-and-needed p b f m =
+    ap (λ (kind : BoundKind). margin p b +ℤ pos (boundOf kind + 1)) (sym m) ∙ -ℤ-+ℤ-cancel (pos (fewest p b)) (pos (boundOf (p .bound .kind) + 1))
 
 -- it lies below zero where the terminal may hear at most f of L
 pub margin-below : (p : Plan) (b : ℕ) → ltZ (margin p b) (pos 0) ≡ ltb (fewest p b) (suc (boundOf (p .bound .kind)))

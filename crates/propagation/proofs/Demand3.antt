@@ -28,21 +28,27 @@ use Rattle.propagation.proofs.Rounds.{sites-same}
 use Rattle.propagation.proofs.Silence.{waits}
 
 module _ (p : Plan) (s : Sound p) where
+  -- whoever is reached holds the last notice n - 1 rounds after its issue
+  pub reached-last : (office : Office) → Rising office → (faulty : ℕ) → isFaultSet p faulty ≡ true → (script : Script)
+      → (q r b : ℕ) → q + (p .n - 1) ≤ r → Quiet office q r → mem b (reached p faulty) ≡ true
+      → (at : ℕ) × (site p faulty office script r b .state ≡ Taken at (lastIssued office q))
+  unfolding reached
+  reached-last office up faulty i script q r b l quiet m =
+      let same : lastIssued office r ≡ lastIssued office q = last-quiet office q r (omega arith) quiet in
+      subst (λ (x : ℕ). (at : ℕ) × (site p faulty office script r b .state ≡ Taken at x)) same
+      (reached-holds p s faulty office up script i r q (sym same) (p .n - 1) b r l (omega arith) m)
+
   last-held : verdict p .passed ≡ true → (office : Office) → Rising office → (faulty : ℕ) → isFaultSet p faulty ≡ true → (script : Script)
       → (q r b : ℕ) → q + (p .n - 1) ≤ r → Quiet office q r → Good p faulty b
       → (at : ℕ) × (site p faulty office script r b .state ≡ Taken at (lastIssued office q))
-  unfolding reached
   last-held h office up faulty i script q r b l quiet g =
-      let same : lastIssued office r ≡ lastIssued office q = last-quiet office q r (omega arith) quiet in
-      subst (λ (x : ℕ). (at : ℕ) × (site p faulty office script r b .state ≡ Taken at x)) same
-      (reached-holds p s faulty office up script i r q (sym same) (p .n - 1) b r l (omega arith)
-      (reached-of-none p faulty (verdict-pass p h faulty i) b (g .0) (g .1)))
+      reached-last office up faulty i script q r b l quiet (reached-of-none p faulty (verdict-pass p h faulty i) b (g .0) (g .1))
 
   none-waits : verdict p .passed ≡ true → (office : Office) → Rising office → (faulty : ℕ) → isFaultSet p faulty ≡ true → (script : Script)
       → (r b : ℕ) → p .n - 1 ≤ r → Quiet office 0 r → Good p faulty b → site p faulty office script r b .state ≡ Waiting → ⊥
   none-waits h office up faulty i script r b l quiet g w = not-both w (last-held h office up faulty i script 0 r b (omega arith) quiet g .1)
 
-  kept-waiting : (f l r : ℕ) → accepts p f l r ≡ true → (office : Office) → (script : Script) → (k b : ℕ) → Silent p f k script
+  pub kept-waiting : (f l r : ℕ) → accepts p f l r ≡ true → (office : Office) → (script : Script) → (k b : ℕ) → Silent p f k script
       → b < p .n → mem b r ≡ true → site p f office script k b .state ≡ Waiting
   unfolding site
   kept-waiting f l r a office script k b quiet lb m =

@@ -6,6 +6,7 @@ pub mod Safety
 pub mod Liveness
 pub mod Silence
 pub mod Demand3
+pub mod Margin
 pub mod SharedRounds
 pub mod Agreement
 pub mod Drawings

@@ -89,7 +89,7 @@ module _ (p : Plan) (sound : Sound p) (faulty : ℕ) (office : Office) (rising :
         (has-heard k b j t (omega arith) lb g h gj then before))
         (eq-or-lt-of-le (le-of-suc-le-suc l))
 
-    told : (k b j t : ℕ) → suc k ≤ r → b < p .n → mem b faulty ≡ false → hears p b j ≡ true → mem j faulty ≡ false
+    pub told : (k b j t : ℕ) → suc k ≤ r → b < p .n → mem b faulty ≡ false → hears p b j ≡ true → mem j faulty ≡ false
         → site p faulty office script k j .state ≡ Taken t x → holds (stepped p faulty office script k b) x j ≡ true
     told k b j t l lb g h gj e =
         let lj = sound .heard-below b j lb h in
