@@ -93,11 +93,11 @@ module _ {p : Plan} {inn r : ℕ} (h : Spread p inn 0 r) where
 -- ---- faulty or reached
 
 -- how many of s terminal b hears
-abbrev ears : Plan → ℕ → ℕ → ℕ
+abbrev pub ears : Plan → ℕ → ℕ → ℕ
 ears p b s = count (p .n) (λ a. hears p b a and mem a s)
 
 -- by a bound f, who hears not enough hears at most f
-ears-few : (p : Plan) (f : ℕ) → p .bound .kind ≡ Most f → (b s : ℕ) → hearsEnough p b s ≡ false → ears p b s ≤ f
+pub ears-few : (p : Plan) (f : ℕ) → p .bound .kind ≡ Most f → (b s : ℕ) → hearsEnough p b s ≡ false → ears p b s ≤ f
 unfolding hearsEnough
 ears-few p f m b s e = ltb-false f (ears p b s) (sym (enough-most (p .n) (p .bound) (λ a. hears p b a and mem a s) f m) ∙ e)
 

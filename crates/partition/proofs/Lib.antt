@@ -8,6 +8,7 @@ mod Halves
 mod Leasts
 mod Parts
 mod Cuts
+mod Lows
 mod Best
 mod Tests
 pub mod Laws

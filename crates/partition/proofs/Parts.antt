@@ -37,7 +37,7 @@ module _ {p : Plan} {f hearers inn out known : ℕ} (part : Part p f hearers inn
   low s h = lt-of-lt-of-le h (pow-mono (sound p (part .plan) .twenty))
 
   -- a call is given more that is in, more that is out, and more that is settled
-  narrows : (inn′ out′ known′ : ℕ) → Inside inn inn′ → Inside out out′ → inn′ < 2 ^ p .n → out′ < 2 ^ p .n → known′ < 2 ^ p .n
+  pub narrows : (inn′ out′ known′ : ℕ) → Inside inn inn′ → Inside out out′ → inn′ < 2 ^ p .n → out′ < 2 ^ p .n → known′ < 2 ^ p .n
       → ((s : ℕ) → isFaultSet p s ≡ true → Between inn′ out′ s → Settled p s known → Settled p s known′)
       → Part p f hearers inn′ out′ known′
   narrows inn′ out′ known′ i o a b c keeps = record {
@@ -119,7 +119,7 @@ module _ {p : Plan} {f hearers inn out known : ℕ} (part : Part p f hearers inn
   -- b is one of the free terminals: the sets without it, and those with it
 
   module _ (free b : ℕ) (e : free ≡ outside (p .n) inn out) (m : mem b free ≡ true) where
-    halves : Half (p .n) inn out free b
+    pub halves : Half (p .n) inn out free b
     halves = record { twenty = sound p (part .plan) .twenty; inn-below = part .inn-below; out-below = part .out-below; free-is = e; is-free = m }
 
     pub part-without : (o : ℕ) → o ≡ with 32 out b → {sure : ℕ} → Grown p out known sure → Part p f hearers inn o sure

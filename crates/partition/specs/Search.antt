@@ -1,11 +1,14 @@
 -- What the search's own functions compute, on a plan's rows. No caller sees these. Assumes nothing.
 use Prim.Native.Nat.{ℕ, _+_, _-_, _*_, _^_, _≤_, _<_}
-use mathlib.Core.Bool.{true, false}
+use mathlib.Core.Bool.{Bool, true, false}
 use mathlib.Core.Logic.{_⊎_}
 use mathlib.Core.List.{List}
 use mathlib.Core.Path.{_≡_}
 use lib.Bits.{bitAnd}
-use Rattle.sets.specs.Sets.{mem, size, singleton}
+use lib.Dec.{ltb}
+use lib.ListN.{getD}
+use Rattle.sets.specs.Tests.{_and_, pick}
+use Rattle.sets.specs.Sets.{mem, count, mask, size, singleton}
 use Rattle.quorum.specs.declared.BoundKind.the-variants.{Most}
 use Rattle.quorum.specs.Quorum.{groupAt}
 use Rattle.plan.specs.declared.Plan.{Plan}
@@ -14,6 +17,7 @@ use Rattle.closure.specs.FaultSet.{hearsEnough, isFaultSet}
 use Rattle.closure.specs.Closure.{reached, cutOff}
 use Rattle.closure.specs.Verdict.{defeats, Found, none, found}
 use Rattle.faults.specs.Rows.{over}
+use Rattle.closure.specs.Margin.{heardOfL, leavesGood}
 use Rattle.partition.specs.declared.search.Best.{Best}
 
 -- the terminals that hear the source
@@ -137,3 +141,40 @@ Earlier p k best = (s : ℕ) → defeats p s ≡ true → PartOfOne p k s → be
 -- every set
 abbrev pub Any : ℕ → Type 0
 Any s = Unit {0}
+
+-- ---- the search for margins
+
+-- somebody of s hears each of r
+abbrev pub Heard : (rows : List ℕ) (s r : ℕ) → Type 0
+Heard rows s r = (i : ℕ) → mem i r ≡ true → (b : ℕ) × (b < 20) × (mem b s ≡ true) × (mem i (getD rows b 0) ≡ true)
+
+-- none of r, which has out, is in a fault set that has inn and lacks out
+pub record Barred (p : Plan) (inn out r : ℕ) : Type 0 where
+  pub below : r < 2 ^ p .n
+  pub has : Inside out r
+  pub apart : (s : ℕ) → isFaultSet p s ≡ true → Between inn out s → Apart r s
+
+-- how many of s are in a row
+unfoldable pub inRow : (row s : ℕ) → ℕ
+inRow row s = count 32 (λ i. mem i row and mem i s)
+
+-- the lesser of what a terminal had and what it hears of l, if it is sought
+unfoldable pub lesser : (row : ℕ) (sought : Bool) (l before : ℕ) → ℕ
+lesser row sought l before = pick (sought and ltb (inRow row l) before) (inRow row l) before
+
+-- those of sure that are out, or all but f of sure where that is more
+unfoldable pub surely : (row f out sure : ℕ) → ℕ
+surely row f out sure = pick (ltb (inRow row (bitAnd sure out)) (inRow row sure - f)) (inRow row sure - f) (inRow row (bitAnd sure out))
+
+unfoldable pub hopeful : (rows : List ℕ) (f out sure : ℕ) (counts : List ℕ) → ℕ
+hopeful rows f out sure counts = mask 20 (λ b. ltb (surely (getD rows b 0) f out sure) (getD counts b 0))
+
+-- what was found for the sought ones is no more than they hear of inn's L
+abbrev pub Seen : Plan → (inn sought : ℕ) (counts : List ℕ) → Type 0
+Seen p inn sought counts = (b : ℕ) → mem b sought ≡ true → getD counts b 0 ≤ heardOfL p b inn
+
+-- what each call returns: no more than was found before, by a fault set that leaves the terminal good, and for the sought ones no more than with any of some sets
+pub record Lower (p : Plan) (Of : ℕ → Type 0) (sought : ℕ) (counts r : List ℕ) : Type 0 where
+  pub at-most : (b : ℕ) → b < 20 → getD r b 0 ≤ getD counts b 0
+  pub comes : (b : ℕ) → b < 20 → (getD r b 0 ≡ getD counts b 0) ⊎ ((s : ℕ) × (leavesGood p b s ≡ true) × (getD r b 0 ≡ heardOfL p b s))
+  pub least : (b s : ℕ) → mem b sought ≡ true → leavesGood p b s ≡ true → Of s → getD r b 0 ≤ heardOfL p b s

@@ -3,7 +3,7 @@ ghost use mathlib.Core.Path.{_≡_};
 ghost use Prim.Native.Nat.{_<_, _^_};
 ghost use Rattle.quorum.specs.declared.BoundKind.the-variants.{Most};
 ghost use Rattle.plan.specs.Plan.{causeOf};
-ghost use Rattle.partition.specs.Search.{Grown};
+ghost use Rattle.partition.specs.Search.{Grown, Heard};
 use super::search;
 use plan::Plan;
 
@@ -25,14 +25,18 @@ pub(crate) fn settled(p: Plan, f: u32, out: u32, known: u32) -> u32
 }
 
 // The terminals that somebody of s hears.
-pub(crate) fn heard(rows: [u32; 20], s: u32) -> u32 {
+pub(crate) fn heard(rows: [u32; 20], s: u32) -> u32
+    ensures { λ r. ⌜ Heard rows s r ⌝ }
+{
     let mut found: u32 = 0;
     let mut b: usize = 0;
     while b < 20 {
-        if (s >> b) & 1 == 1 {
+        if sets::member(s, b) {
             found = found | rows[b];
+            b += 1;
+        } else {
+            b += 1;
         }
-        b += 1;
     }
     found
 }

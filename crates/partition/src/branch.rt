@@ -50,7 +50,7 @@ pub(crate) fn narrowed(s: u32, of: u32) -> u32
 }
 
 // Those of s that the most terminals hear. Every word has one binary digit of each terminal's count.
-fn widest(rows: [u32; 20], s: u32) -> u32
+pub(crate) fn widest(rows: [u32; 20], s: u32) -> u32
     requires { ⌜ (s ≡ 0 → ⊥) ⌝ }
     ensures { λ r. ⌜ SomeOf s r ⌝ }
 {

@@ -3,6 +3,7 @@ mod bound;
 mod branch;
 mod check;
 mod groups;
+mod margin;
 mod search;
 
 ghost use mathlib.Core.Path.{_≡_};
