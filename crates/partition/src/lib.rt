@@ -1,19 +1,23 @@
-// The verdict on a plan, and the check of a witness that anybody proposes.
+// The verdict on a plan, the check of a witness that anybody proposes, and how far each terminal is from trouble.
 mod bound;
 mod branch;
 mod check;
 mod groups;
 mod margin;
 mod search;
+mod standings;
 
 ghost use mathlib.Core.Path.{_≡_};
 ghost use mathlib.Core.Bool.{true};
 ghost use Rattle.plan.specs.Plan.{causeOf};
 ghost use Rattle.closure.specs.Verdict.{verdict, accepts};
 ghost use Rattle.partition.specs.Answer.{answered, replied, replyOf};
+ghost use Rattle.partition.specs.Margins.{noMargins, groupless, told, marginsOf};
+ghost use Rattle.quorum.specs.declared.BoundKind.the-variants.{Most};
 ghost use Rattle.closure.specs.Answer.{judged, answerWithin, answerOf, quoteOf};
 use plan::Plan;
 use plan::Soundness;
+use quorum::BoundKind;
 
 // The fault set f, the terminals l that a notice reaches in spite of it, and the terminals r that
 // it cuts off.
@@ -38,6 +42,31 @@ pub enum WitnessCheck {
     WrongRange,
     WrongLink,
     WrongGroups,
+}
+
+// How one terminal stands: it is the source, it hears the source, or it has a margin. Absent: the plan has no
+// terminal of that number.
+pub enum Standing {
+    Source,
+    Direct,
+    Margin(i32),
+    Absent,
+}
+
+pub struct Place {
+    pub standing: Standing,
+}
+
+pub enum Outcome {
+    Known,
+    WrongRange,
+    WrongLink,
+}
+
+// places[b] is how terminal b stands; where the record is refused, all are absent.
+pub struct Sheet {
+    pub outcome: Outcome,
+    pub places: [Place; 20],
 }
 
 // The verdict on a sound plan.
@@ -107,5 +136,50 @@ pub fn check_witness(p: Plan, f: u32, l: u32, r: u32) -> WitnessCheck
         Soundness::WrongRange => WitnessCheck::WrongRange,
         Soundness::WrongLink => WitnessCheck::WrongLink,
         Soundness::WrongGroups => WitnessCheck::WrongGroups,
+    }
+}
+
+// A refused record's margins.
+fn no_margins(outcome: Outcome) -> Sheet
+    ensures { λ r. ⌜ r ≡ noMargins outcome ⌝ }
+{
+    let nobody = Place {
+        standing: Standing::Absent,
+    };
+    Sheet {
+        outcome: outcome,
+        places: [nobody; 20],
+    }
+}
+
+// The margins of a record with a bound f that lists no group: none is wrong then.
+fn margins_within(p: Plan, f: usize) -> Sheet
+    requires { ⌜ (p .bound .kind ≡ Most f) × (groupless (p .bound) ≡ true) ⌝ }
+    ensures { λ r. ⌜ told r ≡ marginsOf p ⌝ }
+{
+    let soundness = plan::check(p);
+    match soundness {
+        Soundness::Sound => standings::standings(p, f as u32),
+        Soundness::WrongRange => no_margins(Outcome::WrongRange),
+        Soundness::WrongLink => no_margins(Outcome::WrongLink),
+        Soundness::WrongGroups => no_margins(Outcome::WrongRange),
+    }
+}
+
+// How each terminal stands, or why the record is no plan with a bound f.
+pub fn margins(p: Plan) -> Sheet
+    ensures { λ r. ⌜ told r ≡ marginsOf p ⌝ }
+{
+    let bound = p.bound;
+    let kind = bound.kind;
+    let groups = bound.groups;
+    match kind {
+        BoundKind::Most(f) => {
+            if standings::no_groups(groups) {
+                return margins_within(p, f);
+            }
+            no_margins(Outcome::WrongRange)
+        }
+        BoundKind::Groups(_) => no_margins(Outcome::WrongRange),
     }
 }
