@@ -9,6 +9,7 @@ mod Leasts
 mod Parts
 mod Cuts
 mod Lows
+mod Sheets
 mod Best
 mod Tests
 pub mod Laws
