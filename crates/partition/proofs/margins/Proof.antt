@@ -45,7 +45,7 @@ returns-2 c = let kind = c .before .before .before .before .kind .given .1 in ma
 
 -- src/lib.rt:170:1
 returns-3 : tie.Need-returns-3
-returns-3 c = margins-refused _ WrongRange _ (c .no-margins2 .ensures) (sym (grouped-cause _ (groups-no _ _ (c .before .enum-told .given .1)))) (λ z. omega arith)
+returns-3 c = margins-refused _ WrongRange _ (c .no-margins2 .ensures) (sym (grouped-cause _ (groups-no (c .before .before .before .before .before .args .p) _ (c .before .enum-told .given .1)))) (λ z. omega arith)
 
 pub margins-spec : {M : Type 1} → statement M
 margins-spec =
