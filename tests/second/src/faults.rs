@@ -19,7 +19,7 @@ use crate::shared_calls::{
 use crate::sites::{site_case, Site};
 use crate::step::{shared_step, step, Record, Row, State};
 use crate::steps::{step_case, StepCase};
-use crate::{planted, planted_notices, planted_quote, planted_shared};
+use crate::{planted, planted_margins, planted_notices, planted_quote, planted_shared};
 
 /// The place that is broken. Normal use is `None`.
 #[derive(Clone, Copy, Debug, PartialEq, Eq)]
@@ -329,6 +329,70 @@ pub enum Fault {
     GroupNotQuoted,
     QuoteAlwaysPasses,
     QuoteWithoutSets,
+    MarginLessF,
+    MarginOverAllSets,
+    MarginWhereItIsBad,
+    MarginWithNobodyBad,
+    MarginOfVerdictSet,
+    MarginOfFewBad,
+    MarginOfOneBad,
+    MarginSourceUnbounded,
+    MarginBadOnesBounded,
+    MarginGreatest,
+    MarginAfterOneTurn,
+    MarginSourceCountsOne,
+    MarginJoinsWithF,
+    MarginJoinsWithOne,
+    MarginOfHearers,
+    MarginCountsBadOnes,
+    MarginCountsAllGood,
+    MarginCutAtZero,
+    DirectByMargin,
+    DirectWhereShort,
+    DirectBackwards,
+    MarginLinksFirst,
+    MarginGroupsAfterLinks,
+    MarginGroupsAs17,
+    MarginBesideFAs17,
+    MarginBesideFAccepted,
+    MarginDeafRecordRefused,
+    MarginGroupsAccepted,
+    MarginHeadAs17,
+    MarginHeadWithoutLine,
+    MarginHeadBeforeText,
+    MarginHeadBeforeKind,
+    MarginHeadBeforeOrder,
+    MarginHeadAfterAll,
+    GroupUnknownToMargins,
+    DeafInMargins,
+    QuoteLimitInMargins,
+    MarginsSourcePrinted,
+    MarginsDescending,
+    MarginsDirectFirst,
+    MarginsInTextOrder,
+    MarginsFromOne,
+    MarginsNumberInHex,
+    MarginsNumberTwoDigits,
+    MarginsUnended,
+    MarginPlusSign,
+    MarginPlusAboveZero,
+    MarginTwoDigits,
+    MarginInHex,
+    MarginLastDigit,
+    MarginWithoutSign,
+    MarginAsByte,
+    MarginCountsFirst,
+    MarginCountsNotPrinted,
+    MarginCountsSourceDirect,
+    MarginCountsAtAsBelow,
+    MarginCountsAtAsAbove,
+    MarginCountsBelowInAll,
+    MarginCountsDirectAndBelow,
+    MarginCountsBelowAndAt,
+    MarginCountsAtAndAbove,
+    MarginCountsBelowAndAbove,
+    MarginCountsInHex,
+    MarginCountsTwoDigits,
 }
 
 /// All planted faults, and what is wrong in each.
@@ -337,7 +401,12 @@ pub fn planted() -> impl Iterator<Item = (Fault, &'static str)> {
     let notices = planted_notices::PLANTED.iter().copied();
     let shared = planted_shared::PLANTED.iter().copied();
     let quote = planted_quote::PLANTED.iter().copied();
-    older.chain(notices).chain(shared).chain(quote)
+    let margins = planted_margins::PLANTED.iter().copied();
+    older
+        .chain(notices)
+        .chain(shared)
+        .chain(quote)
+        .chain(margins)
 }
 
 /// Larger sites cost time in the verdict and show no fault that smaller ones hide.

@@ -11,6 +11,7 @@ use std::process::ExitCode;
 const USAGE: &str = "usage:
   second verdict < FILE
   second quote < FILE
+  second margins < FILE
   second run < FILE
   second archive < FILE
   second generate verdict|run SEED COUNT DIR
@@ -42,6 +43,7 @@ fn dispatch(words: &[&str]) -> Option<bool> {
     match words {
         ["verdict"] => Some(filter(second::verdict_text)),
         ["quote"] => Some(filter(second::quote_text)),
+        ["margins"] => Some(filter(second::margins_text)),
         ["run"] => Some(filter(second::run_text)),
         ["archive"] => Some(filter(second::archive_text)),
         ["generate", kind, seed, count, folder] => {
