@@ -4,6 +4,7 @@
 
 use crate::faults::Fault;
 use crate::plan::{link_in_range, number_of, Cause, Plan};
+use crate::quote;
 use crate::reader::{read_plan, Refusal};
 use crate::verdict::verdict;
 
@@ -50,6 +51,9 @@ fn check(plan: &Plan, fault: Fault) -> Result<(), Cause> {
     }
     if refused {
         return Err(cause);
+    }
+    if fault == Fault::QuoteLimitInMargins {
+        quote::check(plan, fault)?;
     }
     plan.check_links(fault)?;
     match fault {
