@@ -5,8 +5,9 @@ use crate::generate::{case, shared_case, Kind};
 use crate::issues::{issue_case, IssueCase};
 use crate::lent::{read_answer, read_case, shared_read_case, ReadAnswer, ReadCase};
 use crate::margin_files::{
-    fitted, margin_answers, margin_case, margin_record, shaped, Fitted, MarginAnswer, SHAPED,
+    margin_answers, margin_case, margin_record, shaped, Fitted, MarginAnswer, SHAPED,
 };
+use crate::margins::margins;
 use crate::output::{archive_text, plan_text, rewritten_text, run_text, verdict_text};
 use crate::plan::{Cause, Plan, Set};
 use crate::quotes::{
@@ -625,7 +626,7 @@ fn margin_texts(seed: u64, count: u64) -> Answered<Vec<u8>, MarginAnswer> {
 fn margin_plans(seed: u64, count: u64) -> Answered<Plan, Fitted> {
     let plans = (0..count / 4).map(|index| margin_record(seed, index));
     let small = plans.filter(|plan| plan.n <= LARGEST_FITTED || plan.check_head().is_err());
-    Answered::new(small.chain(two_digit_plans()), fitted)
+    Answered::new(small.chain(two_digit_plans()), margins)
 }
 
 fn opened(text: &[u8], fault: Fault) -> Opened {

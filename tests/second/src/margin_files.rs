@@ -8,7 +8,7 @@ use crate::faults::Fault;
 use crate::generate::{case, Kind};
 use crate::grouping::{board_up, group_up};
 use crate::groups::Bound;
-use crate::margins::{margins, Standing};
+use crate::margins::Standing;
 use crate::output::margins_text;
 use crate::plan::{Cause, Plan};
 use crate::plans::{
@@ -336,8 +336,5 @@ pub fn margin_record(seed: u64, index: u64) -> Plan {
     plan
 }
 
+/// What the margins say of a plan record.
 pub type Fitted = Result<Vec<Standing>, Cause>;
-
-pub fn fitted(plan: &Plan, fault: Fault) -> Fitted {
-    margins(plan, fault)
-}

@@ -383,26 +383,31 @@ fn files_beside_the_verdict() {
 
 // ---- refused records
 
+/// A chain.
+fn chain(n: u32, bound: Bound) -> Plan {
+    let mut plan = Plan::with(n, 0, bound);
+    plan.links = (1..n.min(20)).map(|hearer| (hearer - 1, hearer)).collect();
+    plan
+}
+
+fn with(mut plan: Plan, link: (u32, u32)) -> Plan {
+    plan.links.insert(link);
+    plan
+}
+
+/// The number of a plan record's refusal.
+fn check_numbers(rows: &[(Plan, Option<u8>)]) {
+    for (plan, expected) in rows {
+        let number = margins_of(plan, Fault::None).err().map(Cause::number);
+        assert_eq!(number, *expected, "{plan:?}");
+    }
+}
+
 #[test]
-fn causes_of_records() {
-    let chain = |n: u32, bound: Bound| {
-        let mut plan = Plan::with(n, 0, bound);
-        plan.links = (1..n.min(20)).map(|hearer| (hearer - 1, hearer)).collect();
-        plan
-    };
-    let with = |mut plan: Plan, link: (u32, u32)| {
-        plan.links.insert(link);
-        plan
-    };
-    let groups = || Bound::groups(&[set(&[1])]);
-    let beside = |place: u32| {
-        let mut bound = Bound::f(1);
-        bound.put(place, set(&[2]));
-        bound
-    };
+fn numbers_and_links_of_records() {
     let mut no_source = chain(3, Bound::f(1));
     no_source.source = 3;
-    let rows = [
+    check_numbers(&[
         (chain(3, Bound::f(2)), None),
         (Plan::new(20, 0, 0), None),
         (chain(1, Bound::f(0)), Some(4)),
@@ -411,22 +416,32 @@ fn causes_of_records() {
         (chain(3, Bound::f(3)), Some(4)),
         (no_source.clone(), Some(4)),
         (with(no_source, (1, 1)), Some(4)),
+        (with(chain(3, Bound::f(1)), (1, 1)), Some(5)),
+        (with(chain(3, Bound::f(1)), (3, 1)), Some(5)),
+        (with(chain(3, Bound::f(1)), (31, 1)), Some(5)),
+        (with(chain(3, Bound::f(1)), (1, 3)), Some(5)),
+    ]);
+}
+
+/// Groups in a record, right or wrong, and a group in any place beside f: 4, before 5.
+#[test]
+fn groups_of_records() {
+    let groups = || Bound::groups(&[set(&[1])]);
+    let beside = |place: u32| {
+        let mut bound = Bound::f(1);
+        bound.put(place, set(&[2]));
+        bound
+    };
+    check_numbers(&[
         (chain(3, groups()), Some(4)),
         (chain(13, groups()), Some(4)),
         (with(chain(3, groups()), (1, 1)), Some(4)),
         (chain(3, Bound::groups(&[])), Some(4)),
         (chain(3, Bound::groups(&[set(&[0])])), Some(4)),
-        (chain(3, beside(0)), Some(4)),
-        (chain(3, beside(15)), Some(4)),
         (with(chain(3, beside(15)), (1, 1)), Some(4)),
-        (with(chain(3, Bound::f(1)), (1, 1)), Some(5)),
-        (with(chain(3, Bound::f(1)), (3, 1)), Some(5)),
-        (with(chain(3, Bound::f(1)), (31, 1)), Some(5)),
-        (with(chain(3, Bound::f(1)), (1, 3)), Some(5)),
-    ];
-    for (plan, expected) in rows {
-        let number = margins_of(&plan, Fault::None).err().map(Cause::number);
-        assert_eq!(number, expected, "{plan:?}");
+    ]);
+    for place in 0..16 {
+        check_numbers(&[(chain(3, beside(place)), Some(4))]);
     }
 }
 
