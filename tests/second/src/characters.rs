@@ -35,8 +35,8 @@ pub fn file(kind: Kind, index: u64) -> Vec<u8> {
     }
 }
 
-/// The same for the quoting page.
-pub fn quote_file(index: u64) -> Vec<u8> {
+/// The same for the quoting page, and for the margins, which look at every set.
+pub fn small_plan_file(index: u64) -> Vec<u8> {
     plan_file(MOST_QUOTED, index)
 }
 

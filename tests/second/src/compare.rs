@@ -3,7 +3,10 @@
 use crate::characters;
 use crate::faults::Fault;
 use crate::generate::{fresh_case, Kind};
-use crate::output::{archive_text, quote_text, rewritten_text, run_text, verdict_text};
+use crate::margin_files::margin_case;
+use crate::output::{
+    archive_text, margins_text, quote_text, rewritten_text, run_text, verdict_text,
+};
 use crate::quotes::quote_case;
 use std::fs;
 use std::io::{Read, Write};
@@ -114,12 +117,16 @@ const RUNS: Files = Files {
 };
 const QUOTES: Files = Files {
     seeded: quote_case,
-    characters: characters::quote_file,
+    characters: characters::small_plan_file,
+};
+const MARGINS: Files = Files {
+    seeded: margin_case,
+    characters: characters::small_plan_file,
 };
 
-/// The programs, in this order: verdict, run, rewrite, archive, quote.
-fn tested<'a>(programs: &[&'a str; 5]) -> [Tested<'a>; 5] {
-    let [verdict, run, rewrite, archive, quote] = *programs;
+/// The programs, in this order: verdict, run, rewrite, archive, quote, margins.
+fn tested<'a>(programs: &[&'a str; 6]) -> [Tested<'a>; 6] {
+    let [verdict, run, rewrite, archive, quote, margins] = *programs;
     let of = |name, program, files, text| Tested {
         name,
         program,
@@ -132,12 +139,13 @@ fn tested<'a>(programs: &[&'a str; 5]) -> [Tested<'a>; 5] {
         of("rewrite", rewrite, &PLANS, rewritten_text),
         of("archive", archive, &PLANS, archive_text),
         of("quote", quote, &QUOTES, quote_text),
+        of("margins", margins, &MARGINS, margins_text),
     ]
 }
 
 /// Compares the programs, each beside the others; prints one line in all, and true if nothing
 /// differed.
-pub fn compare(programs: &[&str; 5], seed: u64, count: u64) -> bool {
+pub fn compare(programs: &[&str; 6], seed: u64, count: u64) -> bool {
     let tested = tested(programs);
     let counts: Vec<(u64, u64)> = thread::scope(|scope| {
         let started = tested

@@ -4,12 +4,16 @@
 use crate::generate::{case, shared_case, Kind};
 use crate::issues::{issue_case, IssueCase};
 use crate::lent::{read_answer, read_case, shared_read_case, ReadAnswer, ReadCase};
-use crate::output::{archive_text, rewritten_text, run_text, verdict_text};
+use crate::margin_files::{
+    margin_answers, margin_case, margin_record, shaped, Fitted, MarginAnswer, SHAPED,
+};
+use crate::margins::margins;
+use crate::output::{archive_text, plan_text, rewritten_text, run_text, verdict_text};
 use crate::plan::{Cause, Plan, Set};
 use crate::quotes::{
     is_short_search, judged, quote_answers, quote_case, quote_record, Judged, QuoteAnswer,
 };
-use crate::reader::{read_archive, Filed, Refusal};
+use crate::reader::{read_archive, read_margins, Filed, Refusal};
 use crate::records::{record_answer, record_case, RecordAnswer, RecordCase};
 use crate::run::issue;
 use crate::shared::shared_fault_cause;
@@ -19,7 +23,7 @@ use crate::shared_calls::{
 use crate::sites::{site_case, Site};
 use crate::step::{shared_step, step, Record, Row, State};
 use crate::steps::{step_case, StepCase};
-use crate::{planted, planted_notices, planted_quote, planted_shared};
+use crate::{planted, planted_margins, planted_notices, planted_quote, planted_shared};
 
 /// The place that is broken. Normal use is `None`.
 #[derive(Clone, Copy, Debug, PartialEq, Eq)]
@@ -329,6 +333,70 @@ pub enum Fault {
     GroupNotQuoted,
     QuoteAlwaysPasses,
     QuoteWithoutSets,
+    MarginLessF,
+    MarginOverAllSets,
+    MarginWhereItIsBad,
+    MarginWithNobodyBad,
+    MarginOfVerdictSet,
+    MarginOfFewBad,
+    MarginOfOneBad,
+    MarginSourceUnbounded,
+    MarginBadOnesBounded,
+    MarginGreatest,
+    MarginAfterOneTurn,
+    MarginSourceCountsOne,
+    MarginJoinsWithF,
+    MarginJoinsWithOne,
+    MarginOfHearers,
+    MarginCountsBadOnes,
+    MarginCountsAllGood,
+    MarginCutAtZero,
+    DirectByMargin,
+    DirectWhereShort,
+    DirectBackwards,
+    MarginLinksFirst,
+    MarginGroupsAfterLinks,
+    MarginGroupsAs17,
+    MarginBesideFAs17,
+    MarginBesideFAccepted,
+    MarginDeafRecordRefused,
+    MarginGroupsAccepted,
+    MarginHeadAs17,
+    MarginHeadWithoutLine,
+    MarginHeadBeforeText,
+    MarginHeadBeforeKind,
+    MarginHeadBeforeOrder,
+    MarginHeadAfterAll,
+    GroupUnknownToMargins,
+    DeafInMargins,
+    QuoteLimitInMargins,
+    MarginsSourcePrinted,
+    MarginsDescending,
+    MarginsDirectFirst,
+    MarginsInTextOrder,
+    MarginsFromOne,
+    MarginsNumberInHex,
+    MarginsNumberTwoDigits,
+    MarginsUnended,
+    MarginPlusSign,
+    MarginPlusAboveZero,
+    MarginTwoDigits,
+    MarginInHex,
+    MarginLastDigit,
+    MarginWithoutSign,
+    MarginAsByte,
+    MarginCountsFirst,
+    MarginCountsNotPrinted,
+    MarginCountsSourceDirect,
+    MarginCountsAtAsBelow,
+    MarginCountsAtAsAbove,
+    MarginCountsBelowInAll,
+    MarginCountsDirectAndBelow,
+    MarginCountsBelowAndAt,
+    MarginCountsAtAndAbove,
+    MarginCountsBelowAndAbove,
+    MarginCountsInHex,
+    MarginCountsTwoDigits,
 }
 
 /// All planted faults, and what is wrong in each.
@@ -337,7 +405,12 @@ pub fn planted() -> impl Iterator<Item = (Fault, &'static str)> {
     let notices = planted_notices::PLANTED.iter().copied();
     let shared = planted_shared::PLANTED.iter().copied();
     let quote = planted_quote::PLANTED.iter().copied();
-    older.chain(notices).chain(shared).chain(quote)
+    let margins = planted_margins::PLANTED.iter().copied();
+    older
+        .chain(notices)
+        .chain(shared)
+        .chain(quote)
+        .chain(margins)
 }
 
 /// Larger sites cost time in the verdict and show no fault that smaller ones hide.
@@ -361,6 +434,9 @@ pub struct Found {
     /// Files and plan records for the quoting page.
     pub quotes: u64,
     pub quote_records: u64,
+    /// Files and plan records for the margins.
+    pub margins: u64,
+    pub margin_records: u64,
 }
 
 impl Found {
@@ -368,7 +444,8 @@ impl Found {
         let files = self.verdicts + self.archive + self.runs + self.reads;
         let shared = self.shared_steps + self.shared_sites + self.shared_sets;
         let quotes = self.quotes + self.quote_records;
-        files + self.steps + self.records + self.sites + self.issues + shared + quotes
+        let margins = self.margins + self.margin_records;
+        files + self.steps + self.records + self.sites + self.issues + shared + quotes + margins
     }
 }
 
@@ -416,6 +493,8 @@ pub struct Sound {
     shared_sets: Answered<(Plan, Set), Option<Cause>>,
     quotes: Answered<Vec<u8>, QuoteAnswer>,
     quote_records: Answered<Plan, Judged>,
+    margins: Answered<Vec<u8>, MarginAnswer>,
+    margin_records: Answered<Plan, Fitted>,
 }
 
 /// What the archive prints of a file, the plan written anew, and what the archive's reader answers.
@@ -476,6 +555,8 @@ impl Sound {
             ),
             quotes: Answered::new(quotes, |text, fault| quote_answers(text, fault)),
             quote_records: Answered::new(quote_records, judged),
+            margins: margin_texts(seed, count),
+            margin_records: margin_plans(seed, count),
         }
     }
 
@@ -495,6 +576,8 @@ impl Sound {
             shared_sets: self.shared_sets.count(),
             quotes: self.quotes.count(),
             quote_records: self.quote_records.count(),
+            margins: self.margins.count(),
+            margin_records: self.margin_records.count(),
         }
     }
 
@@ -514,8 +597,36 @@ impl Sound {
             shared_sets: self.shared_sets.found(fault),
             quotes: self.quotes.found(fault),
             quote_records: self.quote_records.found(fault),
+            margins: self.margins.found(fault),
+            margin_records: self.margin_records.found(fault),
         }
     }
+}
+
+/// Margins take a look at every set, so most sites are smaller still.
+const LARGEST_FITTED: u32 = 8;
+
+/// Plans in which numbers, margins and counts have two digits.
+fn two_digit_plans() -> impl Iterator<Item = Plan> {
+    let shapes = (0..SHAPED).map(shaped);
+    shapes.filter(|plan| [12, 13].contains(&plan.n))
+}
+
+fn margin_texts(seed: u64, count: u64) -> Answered<Vec<u8>, MarginAnswer> {
+    let texts = (0..count / 4).map(|index| margin_case(seed, index));
+    let small = texts.filter(|text| {
+        read_margins(text, Fault::None).map_or(true, |plan| plan.n <= LARGEST_FITTED)
+    });
+    let large = two_digit_plans().map(|plan| plan_text(&plan, Fault::None));
+    Answered::new(small.chain(large), |text, fault| {
+        margin_answers(text, fault)
+    })
+}
+
+fn margin_plans(seed: u64, count: u64) -> Answered<Plan, Fitted> {
+    let plans = (0..count / 4).map(|index| margin_record(seed, index));
+    let small = plans.filter(|plan| plan.n <= LARGEST_FITTED || plan.check_head().is_err());
+    Answered::new(small.chain(two_digit_plans()), margins)
 }
 
 fn opened(text: &[u8], fault: Fault) -> Opened {
@@ -581,12 +692,15 @@ fn told(found: &Found) -> String {
         shared_sets,
         quotes,
         quote_records,
+        margins,
+        margin_records,
     } = found;
     format!(
         "{verdicts} verdicts, {archive} of the archive, {runs} runs, {steps} steps, \
          {records} plan records, {sites} calls of the run, {issues} of the issue, {reads} of the reader; \
          one radio for all: {shared_steps} steps, {shared_sites} runs, {shared_sets} bad sets; \
-         the quoting page: {quotes} files, {quote_records} plan records"
+         the quoting page: {quotes} files, {quote_records} plan records; \
+         margins: {margins} files, {margin_records} plan records"
     )
 }
 

@@ -11,10 +11,11 @@ use std::process::ExitCode;
 const USAGE: &str = "usage:
   second verdict < FILE
   second quote < FILE
+  second margins < FILE
   second run < FILE
   second archive < FILE
   second generate verdict|run SEED COUNT DIR
-  second compare PROGRAM_VERDICT PROGRAM_RUN PROGRAM_REWRITE PROGRAM_ARCHIVE PROGRAM_QUOTE SEED COUNT
+  second compare PROGRAM_VERDICT PROGRAM_RUN PROGRAM_REWRITE PROGRAM_ARCHIVE PROGRAM_QUOTE PROGRAM_MARGINS SEED COUNT
   second faults [SEED COUNT]
   second exhaust
   second record CALLS LINES
@@ -42,6 +43,7 @@ fn dispatch(words: &[&str]) -> Option<bool> {
     match words {
         ["verdict"] => Some(filter(second::verdict_text)),
         ["quote"] => Some(filter(second::quote_text)),
+        ["margins"] => Some(filter(second::margins_text)),
         ["run"] => Some(filter(second::run_text)),
         ["archive"] => Some(filter(second::archive_text)),
         ["generate", kind, seed, count, folder] => {
@@ -58,11 +60,11 @@ fn dispatch(words: &[&str]) -> Option<bool> {
                 Path::new(folder),
             )))
         }
-        ["compare", verdict, run, rewrite, archive, quote, seed, count] => Some(compare::compare(
-            &[verdict, run, rewrite, archive, quote],
-            number(seed)?,
-            number(count)?,
-        )),
+        ["compare", verdict, run, rewrite, archive, quote, margins, seed, count] => {
+            let programs = [verdict, run, rewrite, archive, quote, margins];
+            let (seed, count) = (number(seed)?, number(count)?);
+            Some(compare::compare(&programs.map(|one| *one), seed, count))
+        }
         ["faults"] => Some(faults::faults(1, 2400)),
         ["faults", seed, count] => Some(faults::faults(number(seed)?, number(count)?)),
         ["exhaust"] => Some(exhaust_all()),

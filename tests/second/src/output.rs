@@ -1,10 +1,12 @@
 //! Frames as lines of hexadecimal digits, and the text that each program prints.
 
 use crate::faults::Fault;
+use crate::margins::margins;
+use crate::margins_text::margins_lines;
 use crate::notice::{Form, Notice};
 use crate::plan::{number_of, Cause, Plan, Set};
 use crate::quote::quote;
-use crate::reader::{read_archive, read_plan, read_quote, read_run, Refusal};
+use crate::reader::{read_archive, read_margins, read_plan, read_quote, read_run, Refusal};
 use crate::run::run_file;
 use crate::step::{Record, State};
 use crate::verdict::{verdict, Verdict};
@@ -110,6 +112,13 @@ pub fn quote_answer(text: &[u8], fault: Fault) -> Result<Vec<u8>, Refusal> {
     judged(quote(&read_quote(text, fault)?, fault), fault)
 }
 
+/// The fitter's lines on a new plan's file, or why the file is refused.
+pub fn margins_answer(text: &[u8], fault: Fault) -> Result<Vec<u8>, Refusal> {
+    let plan = read_margins(text, fault)?;
+    let standings = margins(&plan, fault).map_err(|cause| Refusal { cause, line: 0 })?;
+    Ok(margins_lines(&standings, fault))
+}
+
 /// The verdict's line on any plan's file, deaf or not, or why the file is refused.
 pub fn archive_answer(text: &[u8], fault: Fault) -> Result<Vec<u8>, Refusal> {
     judged(verdict(&read_archive(text, fault)?.plan, fault), fault)
@@ -123,6 +132,11 @@ pub fn verdict_text(text: &[u8], fault: Fault) -> Vec<u8> {
 /// All of the program `quote`, from text to text.
 pub fn quote_text(text: &[u8], fault: Fault) -> Vec<u8> {
     quote_answer(text, fault).unwrap_or_else(refusal_line)
+}
+
+/// All of the program `margins`, from text to text.
+pub fn margins_text(text: &[u8], fault: Fault) -> Vec<u8> {
+    margins_answer(text, fault).unwrap_or_else(refusal_line)
 }
 
 /// All of the program `archive`, from text to text.

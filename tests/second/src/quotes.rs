@@ -150,7 +150,7 @@ fn later_cause(rng: &mut Rng, turn: u64, sizes: &[u32]) -> (Plan, Lines) {
 }
 
 /// One of the causes 1 to 4 on the first line, whatever number of terminals the head names.
-fn wrong_head(rng: &mut Rng, mut plan: Plan, mut lines: Lines) -> Lines {
+pub(crate) fn wrong_head(rng: &mut Rng, mut plan: Plan, mut lines: Lines) -> Lines {
     let way = rng.below(9);
     match way {
         0 => plan.source = rng.pick(&[plan.n, 255]),

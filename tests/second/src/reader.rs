@@ -3,6 +3,7 @@
 use crate::faults::Fault;
 use crate::frames::{frame_bytes, length_fits, Known};
 use crate::groups::{group_allowed, Bound, MOST_GROUPS};
+use crate::margins;
 use crate::notice::{notice, Form, Notice, OLD_EDITION};
 use crate::output::GROUPS_LISTED;
 use crate::plan::{
@@ -56,6 +57,12 @@ pub fn read_quote(text: &[u8], fault: Fault) -> Result<Plan, Refusal> {
     quote::told_late(text, read, fault)
 }
 
+/// A new plan for the fitter.
+pub fn read_margins(text: &[u8], fault: Fault) -> Result<Plan, Refusal> {
+    let read = read(text, Reader::Margins, fault).map(|reading| reading.file.plan);
+    read.map_err(|refusal| margins::retold(text, refusal, fault))
+}
+
 /// A plan from the archive.
 pub fn read_archive(text: &[u8], fault: Fault) -> Result<Filed, Refusal> {
     let plan = read(text, Reader::Archive, fault)?.file.plan;
@@ -69,11 +76,13 @@ pub fn read_run(text: &[u8], fault: Fault) -> Result<RunFile, Refusal> {
 }
 
 /// Who reads. Only the archive opens plans with deaf terminals; nobody opens one that has ff for f
-/// and no group. Only the quoting page is bounded to few terminals.
+/// and no group. Only the quoting page is bounded to few terminals. For the fitter there are no groups:
+/// ff is an f out of range.
 #[derive(Clone, Copy, PartialEq, Eq)]
 enum Reader {
     Plan,
     Quote,
+    Margins,
     Archive,
     Run,
 }
@@ -83,6 +92,7 @@ impl Reader {
         match kind {
             1 | 2 => true,
             7 if fault == Fault::GroupNotQuoted => self != Reader::Quote,
+            7 if fault == Fault::GroupUnknownToMargins => self != Reader::Margins,
             7 => fault != Fault::GroupKindUnknown,
             8 if fault == Fault::NoticeUnknown => false,
             8 if fault == Fault::NoticeKnownInPlans => true,
@@ -90,6 +100,15 @@ impl Reader {
             9 if fault == Fault::DefaultKnownInPlans => true,
             3..=5 | 8 | 9 => self == Reader::Run,
             _ => false,
+        }
+    }
+
+    /// Whether ff in a head says that groups are listed.
+    fn lists_groups(self, fault: Fault) -> bool {
+        match (self, fault) {
+            (_, Fault::HeadOfGroupsRefused) => false,
+            (Reader::Margins, fault) => fault == Fault::MarginGroupsAccepted,
+            _ => true,
         }
     }
 
@@ -105,6 +124,7 @@ impl Reader {
         match self {
             Reader::Plan => true,
             Reader::Quote => fault != Fault::DeafQuoted,
+            Reader::Margins => fault != Fault::DeafInMargins,
             Reader::Archive => fault == Fault::DeafInArchive,
             Reader::Run => fault != Fault::DeafNotInRuns,
         }
@@ -115,6 +135,7 @@ impl Reader {
         match self {
             Reader::Plan => fault == Fault::QuoteLimitInVerdict,
             Reader::Quote => !quote::is_late(fault),
+            Reader::Margins => fault == Fault::QuoteLimitInMargins,
             Reader::Archive => fault == Fault::QuoteLimitInArchive,
             Reader::Run => fault == Fault::QuoteLimitInRuns,
         }
@@ -384,7 +405,7 @@ impl Reading {
 
     fn take_head(&mut self, rest: &[u32], fault: Fault) -> Result<(), Cause> {
         let (n, source, number) = (rest[0], rest[1], rest[2]);
-        let listed = number == u32::from(GROUPS_LISTED) && fault != Fault::HeadOfGroupsRefused;
+        let listed = number == u32::from(GROUPS_LISTED) && self.reader.lists_groups(fault);
         let bound = if listed {
             Bound::groups(&[])
         } else {

@@ -27,6 +27,10 @@
 //! Of the quoting page (src/record_quote.rs) `q` has a file, as `v` has. `j` has a plan; its answer is
 //! what the verdict says of it and then what the quoting page says: number, whether it fails (1), F, L
 //! and R (4 each), zeros beside a refusal.
+//!
+//! Of the margins (src/record_margins.rs) `m` has a file, as `v` has. `M` has a plan; its answer is the
+//! number and, where that is 0, of each terminal from 0 what it is (0 the source, 1 direct, 2 with a
+//! margin) and the margin (4, signed; 0 beside the other two).
 
 use crate::characters;
 use crate::damage::plant;
@@ -40,16 +44,20 @@ use crate::issues::{issue_case, IssueCase};
 use crate::lent::{
     read_answer, read_case, ReadCase, LATER_PLACES, MARK as MARK_NOTICE, WORD_PLACES,
 };
+use crate::margin_files::SHAPED;
 use crate::notice::{notice, Form, Notice};
 use crate::office::Manner;
 use crate::output::{
-    archive_answer, digits, quote_answer, refusal_line, run_answer, verdict_answer,
+    archive_answer, digits, margins_answer, quote_answer, refusal_line, run_answer, verdict_answer,
 };
 use crate::place::{placed, THERE};
 use crate::plan::{number_of, set_of, write_plan, Cause, Plan, Set};
 use crate::plans::{deaf_plan, deep_plan, mend, strong_plan, thin_plan, weak_plan};
 use crate::quotes::CHAINS;
 use crate::reader::{read_archive, read_run, Refusal, RunFile};
+use crate::record_margins::{
+    fitted_call, fitted_shape_call, margins_call, shaped_call, sized_margins_call,
+};
 use crate::record_quote::{chain_call, judged_call, judged_chain_call, quote_call, sized_call};
 use crate::record_shared::{
     channel_call, channel_read_call, flooded_call, shared_file_call, shared_file_read_call,
@@ -109,7 +117,7 @@ pub fn write(calls_file: &Path, lines_file: &Path) -> io::Result<()> {
 type Maker = fn(u64, u64) -> Call;
 
 /// Every kind of call, and how many of it.
-const KINDS: [(Maker, u64); 45] = [
+const KINDS: [(Maker, u64); 50] = [
     (verdict_call, 600),
     (run_call, 600),
     (edge_call, 150),
@@ -155,6 +163,11 @@ const KINDS: [(Maker, u64); 45] = [
     (sized_call, 3),
     (judged_call, 260),
     (judged_chain_call, CHAINS),
+    (margins_call, 230),
+    (shaped_call, SHAPED),
+    (sized_margins_call, 6),
+    (fitted_call, 200),
+    (fitted_shape_call, SHAPED),
 ];
 
 /// The calls of each kind. Of the long ones a few are enough.
@@ -254,6 +267,10 @@ pub(crate) const RUN: Text = Text {
 pub(crate) const QUOTE: Text = Text {
     letter: b'q',
     answer: quote_answer,
+};
+pub(crate) const MARGINS: Text = Text {
+    letter: b'm',
+    answer: margins_answer,
 };
 const ARCHIVE: Text = Text {
     letter: b'a',

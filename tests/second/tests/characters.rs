@@ -2,8 +2,8 @@
 
 mod common;
 
-use common::{archive_bytes, quote_bytes, refused, run_bytes, verdict_bytes};
-use second::characters::{byte_in, file, quote_file, Place, FILES};
+use common::{archive_bytes, margins_bytes, quote_bytes, refused, run_bytes, verdict_bytes};
+use second::characters::{byte_in, file, small_plan_file, Place, FILES};
 use second::generate::Kind;
 use second::record;
 use std::collections::BTreeSet;
@@ -92,8 +92,33 @@ fn in_a_link() {
 fn in_a_quoted_link() {
     for (index, byte, place, value) in places() {
         let expected = by_link(12, byte, place, value);
-        let text = quote_file(index);
+        let text = small_plan_file(index);
         assert_eq!(quote_bytes(&text), expected, "byte {byte}, {place:?}");
+    }
+}
+
+/// The margins of the same: of the ring's terminals, f = 1, each but the direct one hears one other,
+/// which may be bad.
+#[test]
+fn in_a_link_of_margins() {
+    for (index, byte, place, value) in places() {
+        let expected = match by_link(12, byte, place, value) {
+            refusal if refusal.starts_with("ff") => refusal,
+            _ => {
+                let direct = match place {
+                    Place::High => 1,
+                    _ => value.expect("a digit"),
+                };
+                let line = |number: u32| match number == direct {
+                    true => format!("{number} direct\n"),
+                    false => format!("{number} -2\n"),
+                };
+                let lines: String = (1..12).map(line).collect();
+                format!("{lines}1 10 0 0\n")
+            }
+        };
+        let text = small_plan_file(index);
+        assert_eq!(margins_bytes(&text), expected, "byte {byte}, {place:?}");
     }
 }
 

@@ -55,6 +55,10 @@ pub fn quote(words: &str) -> String {
     quote_bytes(&file(words))
 }
 
+pub fn margins(words: &str) -> String {
+    margins_bytes(&file(words))
+}
+
 pub fn run(words: &str) -> String {
     run_bytes(&file(words))
 }
@@ -69,6 +73,10 @@ pub fn archive_bytes(text: &[u8]) -> String {
 
 pub fn quote_bytes(text: &[u8]) -> String {
     String::from_utf8_lossy(&second::quote_text(text)).into_owned()
+}
+
+pub fn margins_bytes(text: &[u8]) -> String {
+    String::from_utf8_lossy(&second::margins_text(text)).into_owned()
 }
 
 pub fn verdict_bytes(text: &[u8]) -> String {
