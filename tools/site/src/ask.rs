@@ -93,10 +93,10 @@ impl Programs {
     }
 
     /// None of a plan that is not for `margins`: it lists groups, or is one for the archive.
-    pub fn margins(&self, plan: &Plan) -> Result<Margins, Trouble> {
+    pub fn margins(&self, plan: &Plan) -> Result<Option<Margins>, Trouble> {
         match self.ask("margins", plan.to_frames().as_bytes())?.1 {
-            Answer::Margins(margins) => Ok(margins),
-            Answer::Refused(_) => Ok(Margins::default()),
+            Answer::Margins(margins) => Ok(Some(margins)),
+            Answer::Refused(_) => Ok(None),
             _ => Err(Trouble::Broken("'margins' gave no margins".into())),
         }
     }

@@ -29,7 +29,7 @@ pub fn draw(document: &Document, mended: bool, programs: &Programs) -> Result<St
         Vec::new()
     };
     let told = Told {
-        margins: programs.margins(&plan)?,
+        margins: programs.margins(&plan)?.unwrap_or_default(),
         ..of_verdict(document, &plan, &verdict, &new)
     };
     Ok(Sheet::new(&plan, document, told, new).picture())

@@ -1,18 +1,14 @@
 //! How close each terminal is to trouble: the table of the proved `margins`, read and put in words.
 //! A margin is how many reached neighbours a terminal hears, less those that it needs, at its least
 //! over all bad sets that leave it good. It is no count of links that may go: without one of them
-//! others may be reached, and others be bad.
+//! other sets may be bad.
 
 use crate::document::{Document, Extras};
 use crate::groups::Limit;
 use crate::{ask::Programs, Trouble};
 
-#[derive(Clone, Copy)]
-enum Margin {
-    /// It hears the source.
-    Direct,
-    Counted(i16),
-}
+/// None where the terminal hears the source.
+type Margin = Option<i16>;
 
 /// By terminal, ascending; empty where a plan has none.
 #[derive(Default)]
@@ -29,20 +25,17 @@ impl Margins {
     }
 
     pub fn of(&self, terminal: u8) -> Option<i16> {
-        let mut counted = self.counted();
-        counted.find_map(|(one, margin)| (one == terminal).then_some(margin))
+        let (_, margin) = self.counted().find(|(one, _)| *one == terminal)?;
+        Some(margin)
     }
 
     fn counted(&self) -> impl Iterator<Item = (u8, i16)> + '_ {
-        self.0.iter().filter_map(|(terminal, margin)| match margin {
-            Margin::Direct => None,
-            Margin::Counted(margin) => Some((*terminal, *margin)),
-        })
+        let counted = |(terminal, margin): &(u8, Margin)| Some((*terminal, (*margin)?));
+        self.0.iter().filter_map(counted)
     }
 
     fn direct(&self) -> Vec<u8> {
-        let direct = |(_, margin): &&(u8, Margin)| matches!(margin, Margin::Direct);
-        let those = self.0.iter().filter(direct);
+        let those = self.0.iter().filter(|(_, margin)| margin.is_none());
         those.map(|(terminal, _)| *terminal).collect()
     }
 
@@ -81,8 +74,8 @@ impl Margins {
 fn line(line: &str) -> Option<(u8, Margin)> {
     let (terminal, margin) = line.split_once(' ')?;
     let margin = match margin {
-        "direct" => Margin::Direct,
-        number => Margin::Counted(number.parse().ok()?),
+        "direct" => None,
+        number => Some(number.parse().ok()?),
     };
     Some((terminal.parse().ok()?, margin))
 }
@@ -102,5 +95,6 @@ pub fn told(document: &Document, programs: &Programs) -> Result<Vec<String>, Tro
         return Ok(Vec::new());
     };
     let margins = programs.margins(&plan)?;
-    Ok(margins.in_words(&document.extras, bound + 1))
+    let lines = margins.map(|margins| margins.in_words(&document.extras, bound + 1));
+    Ok(lines.unwrap_or_default())
 }
