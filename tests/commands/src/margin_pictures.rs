@@ -70,11 +70,14 @@ fn margins(checks: &mut Checks, name: &str, frames: &str, shown: &Shown) {
 /// How many pixels of its font's size a letter takes at most.
 const LETTER: f64 = 0.7;
 
-/// No label stands on another, or on a terminal; all are on the sheet, above the legend.
+/// No label stands on another, on a name, or on a terminal; all are on the sheet, above the legend.
 fn apart(checks: &mut Checks, name: &str, shown: &Shown) {
     let boxes: Vec<[f64; 4]> = labels(shown).iter().map(|one| extent(one)).collect();
+    let names = shown.all.iter().filter(|one| one.is("beside"));
+    let names: Vec<[f64; 4]> = names.map(extent).collect();
     for (at, one) in boxes.iter().enumerate() {
-        let free = boxes[..at].iter().all(|other| !overlap(one, other));
+        let mut others = boxes[..at].iter().chain(&names);
+        let free = others.all(|other| !overlap(one, other));
         checks.holds(&format!("{name}: labels apart"), free);
         let on_terminal = shown.at.values().any(|(x, y)| {
             let (dx, dy) = (x - x.clamp(one[0], one[2]), y - y.clamp(one[1], one[3]));
