@@ -87,22 +87,24 @@ fn first_use(checks: &mut Checks, copy: &Copy) {
 
 /// A word has the programs proved that it asks, and no other; `verdict` has its own by now. What is
 /// proved for one word serves the others that ask it.
-const EACH_WORD: [(&str, &str); 15] = [
+const EACH_WORD: [(&str, &str); 17] = [
     ("verdict", ""),
     ("check", "archive"),
     ("archive", ""),
     ("quote", "quote"),
     ("run", "run"),
     ("trace", ""),
-    ("explain", "verdict archive run rewrite"),
+    ("mend", "verdict archive run rewrite"),
+    ("explain", "verdict archive run rewrite margins"),
     ("draw", ""),
-    ("mend", ""),
+    ("margins", ""),
     ("with-bad", ""),
     ("plan", ""),
     ("show", ""),
     ("rewrite", ""),
     ("verdict", ""),
     ("quote", ""),
+    ("margins", ""),
 ];
 
 fn each_word(checks: &mut Checks, copy: &Copy) {
@@ -135,6 +137,19 @@ fn several_words(checks: &mut Checks, copy: &Copy) {
         ("explain", "quote", String::new()),
         ("quote", "quote", call("quote")),
         ("quote", "verdict", String::new()),
+        ("mend", "margins", String::new()),
+        ("margins", "margins", call("margins")),
+        ("margins", "verdict", String::new()),
+        (
+            "draw",
+            "margins",
+            call("verdict archive run rewrite margins"),
+        ),
+        (
+            "explain",
+            "margins",
+            call("verdict archive run rewrite margins"),
+        ),
     ];
     for (word, gone, wanted) in table {
         copy.remove(&format!("target/bin/{gone}"));
@@ -159,6 +174,7 @@ fn newer_sources(checks: &mut Checks, copy: &Copy) {
         ("tools/site/src/main.rs", cargo.clone()),
         ("tools/site/Cargo.toml", cargo),
         ("crates/quote/src/main.rt", String::new()),
+        ("crates/margins/src/main.rt", String::new()),
         ("crates/other/src/lib.rt", String::new()),
         ("README.md", String::new()),
     ];

@@ -3,9 +3,9 @@
 use crate::checks::{done, read, Checks};
 use std::process::Command;
 
-const WORDS: [&str; 14] = [
-    "check", "explain", "draw", "mend", "with-bad", "trace", "verdict", "archive", "quote", "run",
-    "show", "plan", "rewrite", "test",
+const WORDS: [&str; 15] = [
+    "check", "explain", "draw", "mend", "with-bad", "trace", "verdict", "archive", "quote",
+    "margins", "run", "show", "plan", "rewrite", "test",
 ];
 const ONE_FILE: [&str; 7] = [
     "explain", "draw", "mend", "trace", "show", "plan", "rewrite",
@@ -91,7 +91,7 @@ fn frames_page(checks: &mut Checks) {
 }
 
 /// Calls that no file can mend.
-const WRONG: [(&[&str], &str); 13] = [
+const WRONG: [(&[&str], &str); 15] = [
     (
         &["mend", "--calls=x", "plans/a.txt"],
         "'--calls=x' has no number after the '='",
@@ -121,6 +121,11 @@ const WRONG: [(&[&str], &str); 13] = [
     (&["verdict", "--mend"], "'verdict' has no option '--mend'"),
     (&["archive", "--csv"], "'archive' has no option '--csv'"),
     (&["quote", "--mend"], "'quote' has no option '--mend'"),
+    (&["margins", "--csv"], "'margins' has no option '--csv'"),
+    (
+        &["margin", "plans/a.txt"],
+        "unknown word 'margin'; './hulmayek help' lists the words",
+    ),
     (
         &["with-bad", "plans/a.txt"],
         "'with-bad' wants a file and terminals, as in: with-bad FILE 4 7",
@@ -178,6 +183,7 @@ fn unwritable_output(checks: &mut Checks) {
         ("verdict plans/h.hex >/dev/full", full),
         ("archive plans/b.hex >/dev/full", full),
         ("quote plans/h.hex >/dev/full", full),
+        ("margins plans/h.hex >/dev/full", full),
         ("explain plans/h.txt >/dev/full", full),
         ("check plans/a.txt >/dev/full", full),
         ("draw plans/h.txt >/dev/full", full),
@@ -185,6 +191,7 @@ fn unwritable_output(checks: &mut Checks) {
         ("--version >/dev/full", "the version could not be printed"),
         ("verdict plans/h.hex >&-", closed),
         ("quote plans/h.hex >&-", closed),
+        ("margins plans/h.hex >&-", closed),
         ("check plans/a.txt >&-", closed),
         ("help >&-", closed),
     ];

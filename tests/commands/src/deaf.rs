@@ -2,6 +2,7 @@
 //! archive opens it (document 02, P6). What each word makes of such a plan is worked out by hand.
 
 use crate::checks::{lines, Checks};
+use crate::margins;
 use crate::plans::files_in;
 use crate::quote::alike;
 
@@ -95,7 +96,7 @@ fn refusal(hear: &str) -> String {
 
 fn refused_as_new(checks: &mut Checks, site: &Site) {
     let frames = lines(site.frames);
-    for word in ["verdict", "quote", "run"] {
+    for word in ["verdict", "quote", "margins", "run"] {
         let done = checks.call_with(&[word], frames.as_bytes());
         let label = format!("{word} of {:?}", site.frames);
         checks.ends(&label, &done, 1, "ff0f0000\n", "");
@@ -191,6 +192,9 @@ fn where_the_links_end(checks: &mut Checks) {
             let label = format!("{word} of {frames:?}");
             checks.ends(&label, &done, 1, &format!("{wanted}\n"), "");
         }
+        if word == "verdict" {
+            margins::refuses(checks, frames, wanted);
+        }
     }
 }
 
@@ -217,7 +221,9 @@ const DEAF_RUN_FRAMES: [&str; 4] = ["01030001", "020001", "03000002", "04000702"
 /// Words that need the run: none of them plays it.
 fn runs_on_them(checks: &mut Checks) {
     let told = refusal("terminal 2 hears nobody");
-    for word in ["run", "trace", "explain", "draw", "show", "plan", "verdict"] {
+    for word in [
+        "run", "trace", "explain", "draw", "show", "plan", "verdict", "margins",
+    ] {
         let done = checks.call_with(&[word], DEAF_RUN.as_bytes());
         checks.tells(&format!("{word} of a run in text"), &done, 1, &told);
     }

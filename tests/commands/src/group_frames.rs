@@ -3,6 +3,7 @@
 
 use crate::answers::EXAMPLE;
 use crate::checks::{lines, Checks};
+use crate::margins;
 use crate::quote::alike;
 
 pub fn check(checks: &mut Checks) {
@@ -185,6 +186,9 @@ pub fn refused(checks: &mut Checks, Row(program, answer, why, _): &Row, frames: 
         let label = format!("{word} of {frames:?}");
         checks.ends(&label, &done, 1, &format!("{answer}\n"), "");
     }
+    if *program == "verdict" {
+        margins::refuses(checks, frames, answer);
+    }
     let done = checks.call(&["explain", &file]);
     let wanted = format!("{answer}\n{told}\n");
     checks.ends(&format!("explain of {frames:?}"), &done, 1, &wanted, "");
@@ -242,6 +246,9 @@ pub fn answered(checks: &mut Checks, table: &[(&str, Vec<&str>, &str)]) {
             let done = checks.call_with(&[word], lines(frames).as_bytes());
             let label = format!("{word} of {frames:?}");
             checks.ends(&label, &done, status, &format!("{wanted}\n"), "");
+        }
+        if *word == "verdict" {
+            margins::refuses(checks, frames, wanted);
         }
     }
 }

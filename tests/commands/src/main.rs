@@ -1,6 +1,7 @@
 //! `commands CHECKOUT [TOPIC..]`: the tables of each topic against the checkout's ./hulmayek.
 
 mod answers;
+mod bad_sets;
 mod builds;
 mod calls;
 mod checks;
@@ -14,6 +15,8 @@ mod group_mends;
 mod group_pictures;
 mod group_texts;
 mod groups;
+mod margin_pictures;
+mod margins;
 mod mends;
 mod pictures;
 mod plans;
@@ -34,7 +37,7 @@ use std::process::ExitCode;
 
 type Topic = (&'static str, fn(&mut Checks));
 
-const TOPICS: [Topic; 15] = [
+const TOPICS: [Topic; 16] = [
     ("answers", answers::check),
     ("calls", calls::check),
     ("plans", plans::check),
@@ -43,6 +46,7 @@ const TOPICS: [Topic; 15] = [
     ("runs", runs::check),
     ("deaf", deaf::check),
     ("quote", quote::check),
+    ("margins", margins::check),
     ("groups", groups::check),
     ("editions", editions::check),
     ("shared", shared::check),

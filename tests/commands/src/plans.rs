@@ -1,6 +1,7 @@
 //! The committed plans: document 01's drawings, and the sites, whose sets are the second
 //! implementation's. Text and frames say the same, both ways. Those with groups are in groups.rs.
 
+use crate::bad_sets::Site;
 use crate::checks::{lines, read, Checks};
 use crate::groups;
 
@@ -193,8 +194,9 @@ fn judged_as_new(checks: &mut Checks, row: &Row, frame: &str) {
         ),
         Fail(..) => failed(checks, row),
     };
+    let frames = read(&checks.top.join(format!("plans/{name}.hex")));
     let done = checks.call(&["explain", &format!("plans/{name}.hex")]);
-    let wanted = frame.to_string() + &wanted;
+    let wanted = frame.to_string() + &wanted + &Site::of(&frames).told();
     checks.ends(&format!("explain {name}"), &done, 0, &wanted, "");
 }
 
@@ -267,7 +269,8 @@ fn refused_drawing(checks: &mut Checks) {
     checks.ends("verdict of j", &done, 1, "ff040001\n", "");
     let why = "refused, line 2 (terminals 1): 2 to 20 terminals are allowed (cause 4)";
     for word in [
-        "plan", "verdict", "archive", "quote", "check", "explain", "draw", "show", "mend",
+        "plan", "verdict", "archive", "quote", "margins", "check", "explain", "draw", "show",
+        "mend",
     ] {
         let done = checks.call(&[word, "plans/j.txt"]);
         checks.tells(&format!("{word} of j.txt"), &done, 1, why);

@@ -1,6 +1,7 @@
 //! The quoting desk: `quote` prints what `verdict` prints, and refuses more than 12 terminals with
 //! 14, in the head's line, after 4 and before 5 (document 02, P5). Answers are worked out by hand.
 
+use crate::bad_sets::Site;
 use crate::checks::{lines, read, Checks};
 use crate::plans::files_in;
 
@@ -130,6 +131,7 @@ fn other_words(checks: &mut Checks) {
         "pass: whatever a bad set says, every good terminal has the source's layout after 12 rounds (n-1)",
         "if nobody is bad, the last one has it after 12 rounds",
     ]);
+    let told = told + &Site::of(&frames).told();
     let verdict = format!("{PASS}\n");
     let table: [(&str, &str); 6] = [
         ("archive", &verdict),

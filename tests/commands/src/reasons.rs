@@ -3,6 +3,7 @@
 
 use crate::answers::EXAMPLE;
 use crate::checks::{lines, Checks};
+use crate::margins;
 use crate::quote::alike;
 
 /// The program that refuses, cause, line, why, and the frames after the named start.
@@ -311,6 +312,9 @@ fn refused(checks: &mut Checks, Row(program, cause, line, why, _): &Row, frames:
         let done = checks.call(&[word, &file]);
         checks.ends(&format!("{word}: {why}"), &done, 1, &frame, "");
     }
+    if *program == "verdict" {
+        margins::refuses(checks, frames, frame.trim_end());
+    }
     let done = checks.call(&["explain", &file]);
     checks.ends(
         &format!("explain: {why}"),
@@ -360,6 +364,7 @@ fn kind_that_is_lacking(checks: &mut Checks) {
         ("verdict", "verdict"),
         ("archive", "archive"),
         ("quote", "quote"),
+        ("margins", "margins"),
         ("rewrite", "rewrite"),
     ] {
         let done = checks.call_with(&[word], frames.as_bytes());

@@ -2,6 +2,7 @@
 
 use crate::document::Document;
 use crate::frames::{self, Answer, Plan, Refusal, State, Verdict, DEAF};
+use crate::margins::Margins;
 use crate::Trouble;
 use std::io::Write;
 use std::path::{Path, PathBuf};
@@ -88,6 +89,15 @@ impl Programs {
         match self.ask("run", frames.as_bytes())?.1 {
             Answer::Terminals(states) => Ok(states),
             _ => Err(Trouble::Broken("'run' gave no states".into())),
+        }
+    }
+
+    /// None of a plan that is not for `margins`: it lists groups, or is one for the archive.
+    pub fn margins(&self, plan: &Plan) -> Result<Option<Margins>, Trouble> {
+        match self.ask("margins", plan.to_frames().as_bytes())?.1 {
+            Answer::Margins(margins) => Ok(Some(margins)),
+            Answer::Refused(_) => Ok(None),
+            _ => Err(Trouble::Broken("'margins' gave no margins".into())),
         }
     }
 

@@ -4,7 +4,7 @@ use crate::ask::Programs;
 use crate::document::{self, Document};
 use crate::frames::{self, Answer, DEAF};
 use crate::search::LIMIT;
-use crate::{draw, mend, shown, silence, tell, trace, words, Told, Trouble};
+use crate::{draw, margins, mend, shown, silence, tell, trace, words, Told, Trouble};
 
 pub struct Call {
     word: String,
@@ -16,7 +16,7 @@ pub struct Call {
 
 /// The words' options; the last one has a number after it.
 const OPTIONS: [(&str, &str); 3] = [("draw", "--mend"), ("trace", "--csv"), ("mend", "--calls=")];
-const MANY_FILES: [&str; 5] = ["verdict", "archive", "quote", "check", "run"];
+const MANY_FILES: [&str; 6] = ["verdict", "archive", "quote", "margins", "check", "run"];
 
 const PASSES: u8 = 0;
 const REFUSED: u8 = 1;
@@ -94,7 +94,7 @@ impl Call {
 
     fn answer_of(&self, document: &Document, programs: &Programs) -> Result<Told, Trouble> {
         match self.word.as_str() {
-            program @ ("verdict" | "archive" | "quote") => {
+            program @ ("verdict" | "archive" | "quote" | "margins") => {
                 asked(program, document.plan_frames(), document, programs)
             }
             "run" => asked("run", document.frames(), document, programs),
@@ -113,10 +113,11 @@ impl Call {
     /// Many files: a line for each, with its name. The worst status stands for all.
     fn answers(&self, programs: &Programs) -> Told {
         let mut all = plainly(String::new());
+        let between = if self.word == "margins" { ", " } else { " " };
         for file in &self.files {
             let answer = self.answer_of_file(file, programs);
             let (line, status) = match answer {
-                Ok(told) => (told.text.trim_end().replace('\n', " "), told.status),
+                Ok(told) => (told.text.trim_end().replace('\n', between), told.status),
                 Err(trouble) => (trouble.words().to_string(), trouble.status()),
             };
             all.text += &format!("{file}: {line}\n");
@@ -183,6 +184,7 @@ fn explained(document: &Document, programs: &Programs) -> Result<Told, Trouble> 
         Answer::Refused(refusal) if document.is_text() => {
             return Err(document.refused(program, refusal));
         }
+        Answer::Verdict(_) => text += &words::ended(&margins::told(document, programs)?),
         _ => {}
     }
     Ok(Told {
@@ -201,7 +203,7 @@ fn in_words(
         Answer::Refused(refusal) => vec![document.refusal_in_words(program, refusal)],
         Answer::Verdict(verdict) => words::of_verdict(document, verdict, programs)?,
         Answer::Terminals(states) => words::of_states(document, states),
-        Answer::Plan => Vec::new(),
+        Answer::Plan | Answer::Margins(_) => Vec::new(),
     })
 }
 

@@ -4,6 +4,7 @@ use crate::ask::Programs;
 use crate::channel;
 use crate::document::{Document, Extras};
 use crate::frames::{Plan, State, Verdict};
+use crate::margins::Margins;
 use crate::mend::first_way;
 use crate::notice::Notice;
 use crate::search::Link;
@@ -27,7 +28,10 @@ pub fn draw(document: &Document, mended: bool, programs: &Programs) -> Result<St
     } else {
         Vec::new()
     };
-    let told = of_verdict(document, &plan, &verdict, &new);
+    let told = Told {
+        margins: programs.margins(&plan)?.unwrap_or_default(),
+        ..of_verdict(document, &plan, &verdict, &new)
+    };
     Ok(Sheet::new(&plan, document, told, new).picture())
 }
 
@@ -59,6 +63,7 @@ fn of_verdict(document: &Document, plan: &Plan, verdict: &Verdict, new: &[Link])
         legend: legend_of(&document.extras, verdict),
         beside: BTreeMap::new(),
         default: None,
+        margins: Margins::default(),
     }
 }
 
@@ -124,6 +129,7 @@ fn of_run(document: &Document, states: &[(u8, State)]) -> Told {
         legend,
         beside: states.iter().filter_map(since(carried)).collect(),
         default: run.default,
+        margins: Margins::default(),
     }
 }
 

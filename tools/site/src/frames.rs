@@ -2,6 +2,7 @@
 //! what comes in has been accepted by a proved program, or was printed by one.
 
 use crate::groups::Limit;
+use crate::margins::Margins;
 use crate::notice::{Later, Notice};
 use std::collections::BTreeSet;
 
@@ -83,6 +84,7 @@ pub enum Answer {
     Terminals(Vec<(u8, State)>),
     /// A plan in its fixed order.
     Plan,
+    Margins(Margins),
 }
 
 /// The limit is the bound, or says that groups are listed.
@@ -307,8 +309,12 @@ fn hearer_of(rest: &[u8]) -> (Option<u8>, &[u8]) {
     }
 }
 
-/// What a program printed, by the kind of its first frame.
+/// What a program printed: frames, by the kind of the first, or margins.
 pub fn answer(printed: &str) -> Option<Answer> {
+    of_frames(printed).or_else(|| Margins::read(printed).map(Answer::Margins))
+}
+
+fn of_frames(printed: &str) -> Option<Answer> {
     let frames: Option<Vec<Vec<u8>>> = printed.lines().map(bytes).collect();
     let frames = frames?;
     match frames.first()?[..] {

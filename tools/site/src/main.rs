@@ -13,6 +13,7 @@ mod frames;
 mod groups;
 mod kinds;
 mod later;
+mod margins;
 mod mend;
 mod notice;
 mod numbers;

@@ -3,12 +3,14 @@
 
 use crate::digits::bad_line;
 use crate::frames::{self, Plan, Refusal, Run, Word, DEAF, EDITION, GROUPS, TOO_MANY};
-use crate::groups::{self, Limit};
+use crate::groups::{self, Limit, LISTED};
 use crate::{channel, kinds, later};
 
 const LONGEST_FILE: usize = 24_576;
 const AT_THE_DESK: &str =
     "the quoting desk takes at most 12 terminals; './hulmayek verdict FILE' judges up to 20";
+
+const NO_BOUND: &str = "margins are for a plan with a bound, and this one lists groups";
 
 /// What is wrong, and what would be right.
 pub struct Reason {
@@ -131,7 +133,7 @@ impl Scene<'_> {
         match cause {
             2 => kinds::wrong(self, program),
             3 => self.wrong_order(),
-            4 => self.out_of_range(),
+            4 => self.out_of_range(program),
             5 => self.wrong_link(),
             6 => self.second_link(),
             7 => self.wrong_bad_set(),
@@ -182,7 +184,7 @@ impl Scene<'_> {
         }
     }
 
-    fn out_of_range(&self) -> Option<Reason> {
+    fn out_of_range(&self, program: &str) -> Option<Reason> {
         let [_, n, source, bound] = self.frame[..] else {
             return None;
         };
@@ -190,6 +192,7 @@ impl Scene<'_> {
         let (field, subject, rule) = match n {
             0 | 1 | 21.. => (0, format!("n {n}"), "2 to 20 terminals are allowed".into()),
             _ if source >= n => (1, format!("source {source}"), allowed),
+            _ if bound == LISTED && program == "margins" => (2, String::new(), NO_BOUND.into()),
             _ if bound >= n => (2, format!("bound {bound}"), allowed),
             _ => return None,
         };

@@ -2,10 +2,11 @@
 
 use crate::document::Document;
 use crate::frames::Plan;
+use crate::margins::Margins;
 use crate::places::{self, Layout};
 use crate::search::Link;
 use crate::shapes::{circle, mark, shared_channel, Pen, Point, Role};
-use crate::tags::{self, TAG_LINE};
+use crate::tags::{self, Tag, TAG_LINE};
 use std::collections::BTreeMap;
 
 const LEFT: f64 = 40.0;
@@ -31,6 +32,7 @@ pub struct Told {
     pub beside: BTreeMap<u8, String>,
     /// The default layout, where all share one channel.
     pub default: Option<u16>,
+    pub margins: Margins,
 }
 
 pub struct Sheet<'a> {
@@ -75,10 +77,8 @@ impl<'a> Sheet<'a> {
     /// The whole file. Lines come first and labels last, so that no line covers a label.
     pub fn picture(&self) -> String {
         let legend = self.legend();
-        let tag_line = match self.plan.limit.groups() {
-            [] => 0.0,
-            _ => TAG_LINE,
-        };
+        let has_tags = (0..self.plan.terminals).any(|terminal| self.tag_of(terminal).is_some());
+        let tag_line = if has_tags { TAG_LINE } else { 0.0 };
         let bottom = self.corner.y + self.layout.height + MARGIN + tag_line + self.frame_room();
         let height = bottom + ROW * legend.len() as f64 + 10.0;
         let mut svg =
@@ -267,18 +267,27 @@ impl<'a> Sheet<'a> {
         (Point { y, ..place }, anchor)
     }
 
-    /// The letters of its groups, farther out than the words beside it.
+    fn tag_of(&self, terminal: u8) -> Option<Tag> {
+        Tag::of(self.plan, &self.told.margins, terminal)
+    }
+
+    /// The letters of its groups, or its margin, farther out than the words beside it.
     fn tag(&self, terminal: u8) -> String {
-        let letters = tags::letters(&self.plan.limit, terminal);
-        if letters.is_empty() {
-            return letters;
-        }
+        let Some(tag) = self.tag_of(terminal) else {
+            return String::new();
+        };
         let (mut place, anchor) = self.outside(terminal);
         if self.beside(terminal).is_some() {
             let upwards = self.layout.outwards[usize::from(terminal)].y < -0.3;
             place.y += if upwards { -TAG_LINE } else { TAG_LINE };
         }
-        tags::tag(place, anchor, &letters)
+        tag.drawn(place, anchor)
+    }
+
+    fn margin_rows(&self) -> Vec<(String, String)> {
+        let mended = !self.new.is_empty();
+        let extras = &self.document.extras;
+        tags::margin_rows(&self.plan.limit, &self.told.margins, extras, mended)
     }
 
     /// Samples, drawn around (0, 0), with their words.
@@ -290,7 +299,8 @@ impl<'a> Sheet<'a> {
         let mut rows: Vec<(String, String)> = roles
             .map(|(role, words)| (role.outline(here, 11.0), words.clone()))
             .collect();
-        rows.extend(tags::legend(&self.plan.limit));
+        rows.extend(tags::group_rows(&self.plan.limit));
+        rows.extend(self.margin_rows());
         rows.extend(self.told.default.map(|default| {
             let sample = shared_channel([-24.0, -11.0], [48.0, 22.0]);
             let words = format!("one channel for all: a word reaches all who hear its sender; default layout {default}");

@@ -1,20 +1,88 @@
-//! The groups of a plan in its picture: beside each member the letters of its groups, so that
-//! groups may overlap, and in the legend a row for each.
+//! Small words by a terminal in a picture, and their rows in the legend. Where the plan lists groups
+//! they are the letters of its groups, so that groups may overlap; where it has a bound, its margin.
 
 use crate::document::Extras;
 use crate::frames::Plan;
 use crate::groups::{letter, Group, Limit};
+use crate::margins::{meaning, Margins};
 use crate::shapes::Point;
 
 /// A line of tags below or above the words beside a terminal.
 pub const TAG_LINE: f64 = 17.0;
 /// What a bold capital takes.
 const LETTER: f64 = 10.5;
-/// Bold, of a colour that no terminal has, with a white edge as other words on lines have.
-const LOOK: &str = r##"font-size="14" font-weight="bold" fill="#6b2a7a" stroke="#ffffff" stroke-width="4" paint-order="stroke""##;
+/// As other words on lines have.
+const WHITE_EDGE: &str = r##"stroke="#ffffff" stroke-width="4" paint-order="stroke""##;
+
+/// Letters are bold, of a colour that no terminal has; the thinnest margins bold and larger than the
+/// others.
+#[derive(Clone, Copy)]
+enum Kind {
+    Group,
+    Margin,
+    Thinnest,
+}
+
+impl Kind {
+    fn look(self) -> &'static str {
+        match self {
+            Kind::Group => r##"class="tag" font-size="14" font-weight="bold" fill="#6b2a7a""##,
+            Kind::Margin => r##"class="margin" font-size="13" fill="#333333""##,
+            Kind::Thinnest => {
+                r##"class="margin thinnest" font-size="17" font-weight="bold" fill="#b34700""##
+            }
+        }
+    }
+}
+
+pub struct Tag {
+    kind: Kind,
+    words: String,
+}
+
+impl Tag {
+    pub fn of(plan: &Plan, margins: &Margins, terminal: u8) -> Option<Tag> {
+        if let Some(margin) = margins.of(terminal) {
+            return Some(Tag::of_margin(margins, margin));
+        }
+        let words = letters(&plan.limit, terminal);
+        let kind = Kind::Group;
+        (!words.is_empty()).then_some(Tag { kind, words })
+    }
+
+    /// With its sign, so that nobody takes it for a terminal's number.
+    fn of_margin(margins: &Margins, margin: i16) -> Tag {
+        let thinnest = margins.thinnest().is_some_and(|(least, _)| least == margin);
+        let kind = if thinnest {
+            Kind::Thinnest
+        } else {
+            Kind::Margin
+        };
+        let words = match margin {
+            ..=0 => margin.to_string(),
+            more => format!("+{more}"),
+        };
+        Tag { kind, words }
+    }
+
+    pub fn drawn(&self, at: Point, anchor: &str) -> String {
+        format!(
+            "<text {} x=\"{:.1}\" y=\"{:.1}\" text-anchor=\"{anchor}\" {WHITE_EDGE}>{}</text>\n",
+            self.kind.look(),
+            at.x,
+            at.y,
+            self.words
+        )
+    }
+
+    /// In the legend, around (0, 0).
+    fn sample(&self) -> String {
+        self.drawn(Point { x: 0.0, y: 5.0 }, "middle")
+    }
+}
 
 /// The letters of the groups that have this terminal.
-pub fn letters(limit: &Limit, terminal: u8) -> String {
+fn letters(limit: &Limit, terminal: u8) -> String {
     let groups = limit.groups().iter().enumerate();
     groups
         .filter(|(_, group)| group.contains(&terminal))
@@ -29,25 +97,50 @@ pub fn widest(plan: &Plan) -> f64 {
         .fold(0.0, f64::max)
 }
 
-pub fn tag(at: Point, anchor: &str, letters: &str) -> String {
-    format!(
-        "<text class=\"tag\" x=\"{:.1}\" y=\"{:.1}\" text-anchor=\"{anchor}\" {LOOK}>{letters}</text>\n",
-        at.x, at.y
-    )
-}
-
 /// Samples, drawn around (0, 0), with their words.
-pub fn legend(limit: &Limit) -> Vec<(String, String)> {
+pub fn group_rows(limit: &Limit) -> Vec<(String, String)> {
     let row = |(place, group): (usize, &Group)| {
-        let sample = tag(
-            Point { x: 0.0, y: 5.0 },
-            "middle",
-            &letter(place).to_string(),
-        );
+        let words = letter(place).to_string();
+        let kind = Kind::Group;
         let members = Extras::default().listed(group);
-        (sample, format!("group {}: {members}", letter(place)))
+        let told = format!("group {}: {members}", letter(place));
+        (Tag { kind, words }.sample(), told)
     };
     limit.groups().iter().enumerate().map(row).collect()
+}
+
+/// What a margin is, and who has the thinnest. They are of the links that are there.
+pub fn margin_rows(
+    limit: &Limit,
+    margins: &Margins,
+    extras: &Extras,
+    mended: bool,
+) -> Vec<(String, String)> {
+    let (Limit::Bound(bound), Some((least, those))) = (limit, margins.thinnest()) else {
+        return Vec::new();
+    };
+    let any = Tag {
+        kind: Kind::Margin,
+        words: "\u{b1}m".into(),
+    };
+    let without = if mended {
+        " (without the dashed links)"
+    } else {
+        ""
+    };
+    let is = format!(
+        "margin: reached ones heard beyond the {} needed, at worst; none if it hears the source",
+        bound + 1
+    );
+    let thinnest = format!(
+        "thinnest margin, {}{without}: {}",
+        meaning(least),
+        extras.listed(&those)
+    );
+    vec![
+        (any.sample(), is),
+        (Tag::of_margin(margins, least).sample(), thinnest),
+    ]
 }
 
 /// What the bad ones are held to, for the line of facts.

@@ -368,14 +368,18 @@ impl Draft {
         (lines, plan_lines)
     }
 
-    /// Where groups are listed the third number is never refused, so it needs no place.
+    /// Where groups are listed, the first of them is the place of the third number.
     fn head_frame(&self) -> (String, Vec<Place>) {
         let [Some(terminals), Some(source), bound] = &self.head else {
             unreachable!("nothing is missing");
         };
         let limit = bound.as_ref().map_or(LISTED, |bound| bound.is);
-        let given = [Some(terminals), Some(source), bound.as_ref()];
-        let places = given.into_iter().flatten().map(|part| part.place.clone());
+        let limit_at = match bound {
+            Some(bound) => Some(&bound.place),
+            None => self.groups.first().map(|group| &group.place),
+        };
+        let given = [Some(&terminals.place), Some(&source.place), limit_at];
+        let places = given.into_iter().flatten().cloned();
         (
             frames::head(terminals.is, source.is, limit),
             places.collect(),
