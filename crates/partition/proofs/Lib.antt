@@ -9,7 +9,7 @@ mod Leasts
 mod Parts
 mod Cuts
 mod Lows
-mod Sheets
+pub mod Sheets
 mod Best
 mod Tests
 pub mod Laws

@@ -14,12 +14,12 @@ use lib.Signed.{mag}
 use mir.Syntax.{w32}
 use mir.Val.{SFits, toZ}
 use mir.Facts.{toZ-ofZ}
-use borrow.Author.Tests.{eq-eqb, ne-eqb, lt-ltb, le-ltb, leb-true}
+use borrow.Author.Tests.{eqb-true, eqb-false, eq-eqb, ne-eqb, lt-ltb, le-ltb, leb-true}
 use Rattle.sets.specs.Tests.{_and_, pick}
 use Rattle.sets.specs.Causes.{firstCause}
 use Rattle.sets.specs.Sets.{mem, all}
 use Rattle.sets.specs.Tables.{table}
-use Rattle.sets.proofs.Bools.{clash, and-l, and-r, and-i, and-no-l, and-no-r, not-i, not-e, no-by, pick-yes, pick-no}
+use Rattle.sets.proofs.Bools.{clash, and-l, and-r, and-i, and-no-l, and-no-r, not-i, not-e, no-by, pick-yes, pick-no, pick-case}
 use Rattle.sets.proofs.Laws.{all-i, all-at}
 use Rattle.quorum.specs.declared.BoundKind.{BoundKind}
 use Rattle.quorum.specs.declared.BoundKind.the-variants.{Most, Groups}
@@ -29,12 +29,13 @@ use Rattle.plan.specs.declared.Plan.{Plan}
 use Rattle.plan.specs.Plan.{hears, linksSound, causeWithin, causeOf}
 use Rattle.plan.proofs.Laws.{Sound, sound}
 use Rattle.closure.specs.Margin.{fewest, hasMargin, boundOf, margin}
-use Rattle.closure.proofs.Margin.{heard-few, fewest-least}
+use Rattle.closure.proofs.Margin.{heard-few, fewest-least, margin-is}
 use Rattle.partition.specs.Search.{direct}
 use Rattle.partition.specs.declared.Standing.{Standing}
 use Rattle.partition.specs.declared.Standing.the-variants.{Source, Direct, Margin, Absent}
 use Rattle.partition.specs.declared.Place.{Place}
 use Rattle.partition.specs.declared.Outcome.{Outcome}
+use Rattle.partition.specs.declared.Outcome.the-variants.{Known}
 use Rattle.partition.specs.declared.Sheet.{Sheet}
 use Rattle.partition.specs.Margins.{standingOf, placeOf, isMost, groupless, marginsCause, Told, allAbsent, outcomeNumber, marginsOf, told, noMargins}
 use Rattle.partition.proofs.Rows.{direct-mem}
@@ -171,3 +172,65 @@ never-seventeen p = go (not (inRange (p .n) (p .source) (p .bound .kind))) (not 
     go false true l e = omega arith
     go false false true e = omega arith
     go false false false e = omega arith
+
+-- ---- for callers: what a sheet says
+
+cause-zero : (p : Plan) → marginsCause p ≡ 0 → (inRange (p .n) (p .source) (p .bound .kind) ≡ true) × (groupless (p .bound) ≡ true)
+unfolding marginsCause firstCause pick
+cause-zero p = go (inRange (p .n) (p .source) (p .bound .kind)) (groupless (p .bound)) (linksSound p)
+  where
+    go : (a g l : Bool) → _≡_ {A = ℕ} (pick (not a) 4 (pick (not g) 4 (pick (not l) 5 0))) 0 → (a ≡ true) × (g ≡ true)
+    go true true l e = (refl, refl)
+    go true false l e = absurd (omega arith)
+    go false g l e = absurd (omega arith)
+
+groupless-e : (bound : Bound) → groupless bound ≡ true → isMost (bound .kind) and all mostGroups (λ i. eqb (groupAt bound i) 0) ≡ true
+unfolding groupless
+groupless-e bound h = h
+
+-- a record that is not refused is a sound plan with a bound f
+pub bounded-plan : (p : Plan) → marginsCause p ≡ 0 → (causeOf p ≡ 0) × ((f : ℕ) × (p .bound .kind ≡ Most f))
+bounded-plan p e =
+    let z = cause-zero p e in
+    let k = most (p .bound .kind) refl (and-l _ _ (groupless-e (p .bound) (z .1))) in
+    (sym (groupless-cause p (k .0) (k .1) (z .1)) ∙ e, k)
+  where
+    most : (kind : BoundKind) → p .bound .kind ≡ kind → isMost kind ≡ true → (f : ℕ) × (p .bound .kind ≡ Most f)
+    most (Most f) q h = (f, q)
+    most (Groups c) q h = clash h refl
+
+-- and its margins are small
+pub margin-small : (p : Plan) → marginsCause p ≡ 0 → (b : ℕ) → mag (margin p b) ≤ 20
+margin-small p e b =
+    let w = bounded-plan p e in
+    let s = sound p (w .0) in
+    let f = w .1 .0 in
+    let l : f < p .n = s .f-below f (w .1 .1) in
+    let t = s .twenty in
+    let q : boundOf (p .bound .kind) ≡ f = ap boundOf (w .1 .1) in
+    subst (λ (z : ℤ). mag z ≤ 20) (sym (margin-is p b))
+    (go (fewest p b) (boundOf (p .bound .kind)) (let h = fewest-few p b in let y : fewest p b ≤ 20 = omega arith in y) (let y : boundOf (p .bound .kind) < 20 = omega arith in y)
+    (ltb (fewest p b) (suc (boundOf (p .bound .kind)))))
+  where
+    go : (a c : ℕ) → a ≤ 20 → c < 20 → (t : Bool) → mag (cond t (negsuc (suc c - suc a)) (pos (a - suc c))) ≤ 20
+    go a c h k true = omega arith
+    go a c h k false = omega arith
+
+module _ (p : Plan) (sheet : Sheet) (e : told sheet ≡ marginsOf p) where
+  pub sheet-known : sheet .outcome ≡ Known → (marginsCause p ≡ 0) × (sheet .places ≡ table mostTerminals (placeOf p))
+  unfolding marginsOf
+  sheet-known o =
+      pick-case (λ (x : Told). told sheet ≡ x → (marginsCause p ≡ 0) × (sheet .places ≡ table mostTerminals (placeOf p))) (eqb (marginsCause p) 0)
+      (record { number = 0; places = table mostTerminals (placeOf p) }) (record { number = marginsCause p; places = allAbsent })
+      (λ h q. (eqb-true (marginsCause p) 0 h, ap (λ (x : Told). x .places) q))
+      (λ h q. absurd (eqb-false (marginsCause p) 0 h (sym (ap (λ (x : Told). x .number) q) ∙ ap outcomeNumber o)))
+      e
+
+  pub sheet-refused : (o : Outcome) → sheet .outcome ≡ o → (outcomeNumber o ≡ 0 → ⊥) → outcomeNumber o ≡ marginsCause p
+  unfolding marginsOf
+  sheet-refused o q z =
+      pick-case (λ (x : Told). told sheet ≡ x → outcomeNumber o ≡ marginsCause p) (eqb (marginsCause p) 0)
+      (record { number = 0; places = table mostTerminals (placeOf p) }) (record { number = marginsCause p; places = allAbsent })
+      (λ h y. absurd (z (ap outcomeNumber (sym q) ∙ ap (λ (x : Told). x .number) y)))
+      (λ h y. ap outcomeNumber (sym q) ∙ ap (λ (x : Told). x .number) y)
+      e

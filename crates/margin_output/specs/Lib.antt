@@ -1,0 +1,3 @@
+-- What the contract of the margins' text cites.
+pub mod Margins
+pub mod Counts
