@@ -173,7 +173,7 @@ told-refused reader p said k [] = unless-refused (linksCause reader p) 0 _ (λ n
 told-refused reader p said k (cut line ∷ rest) = λ n. refl
 told-refused reader p said k (ended line ∷ rest) =
     unless-refused (endCause reader p (frameOf (reader .kinds) line)) 0 _
-    (unless-refused (lineCause (reader .most) p said (frameOf (reader .kinds) line)) k _
+    (unless-refused (lineCause (reader .heads) p said (frameOf (reader .kinds) line)) k _
     (told-refused reader (after p (frameOf (reader .kinds) line)) (saidAfter p said (frameOf (reader .kinds) line)) (k + 1) rest))
 
 pub reading-refused : (reader : Reader) (text : List ℕ) → (reading reader text .number ≡ 0 → ⊥) → reading reader text .progress ≡ nothingRead

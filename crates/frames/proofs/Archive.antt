@@ -11,7 +11,6 @@ use Rattle.sets.specs.Tests.{_and_}
 use Rattle.sets.specs.Sets.{mask}
 use Rattle.sets.proofs.Bools.{clash, decide, no-by, not-yes, pick-yes, pick-no}
 use Rattle.sets.proofs.Laws.{equal-or-not}
-use Rattle.quorum.specs.Quorum.{mostTerminals}
 use Rattle.plan.specs.Deaf.{deafSet}
 use Rattle.lines.specs.declared.Frame.{Frame}
 use Rattle.lines.specs.declared.Frame.the-variants.{Foreign, Unknown, Head, Link, Group, Channel, FaultSet, Start, Later, Message, Broadcast}
@@ -19,7 +18,7 @@ use Rattle.lines.specs.Frames.{frameOf}
 use Rattle.frames.specs.declared.Progress.{Progress}
 use Rattle.frames.specs.declared.Reader.{Reader}
 use Rattle.frames.specs.Lines.{Line, ended, cut, linesFrom}
-use Rattle.frames.specs.Reading.{mostBytes, planKinds, runKinds, stageOf, inPlan, listsNone, nothingRead, Lists, nothingSaid, causeIn, endsLinks, linksCause, endCause, after, saidAfter, Reading, refusal, unless, told, reading, planReading, archiveReading, runReading}
+use Rattle.frames.specs.Reading.{mostBytes, planKinds, runKinds, allHeads, stageOf, inPlan, listsNone, nothingRead, Lists, nothingSaid, causeIn, endsLinks, linksCause, endCause, after, saidAfter, Reading, refusal, unless, told, reading, planReading, archiveReading, runReading}
 use Rattle.frames.specs.Archive.{Beside}
 use Rattle.frames.proofs.Unless.{unless-none, unless-some, unless-read}
 use Rattle.frames.proofs.EndLaws.{links-elsewhere, links-none, links-archived, links-heard, links-deaf, end-here, end-later, end-none}
@@ -90,10 +89,10 @@ beside-as archive archive₁ new new₁ a b h = subst (λ (x : Reading). Beside 
 module _ (kinds : ℕ) where
   -- the readers that know these kinds: of new plans, and of plans that are kept in the archive
   abbrev pub fresh : Reader
-  fresh = record { kinds = kinds; archive = false; most = mostTerminals }
+  fresh = record { kinds = kinds; archive = false; heads = allHeads }
 
   abbrev pub kept : Reader
-  kept = record { kinds = kinds; archive = true; most = mostTerminals }
+  kept = record { kinds = kinds; archive = true; heads = allHeads }
 
   -- ---- where the links end
 
@@ -140,8 +139,8 @@ module _ (kinds : ℕ) where
         of-kept = end-none kept p frame (links-heard kept p l z);
       }))
 
-  -- a line where they are not refused, by a reader without a limit
-  module _ (reader : Reader) (p : Progress) (said : Lists) (k : ℕ) (line : List ℕ) (rest : List Line) (m : mostTerminals ≤ reader .most) where
+  -- a line where they are not refused, by a reader that takes all heads
+  module _ (reader : Reader) (p : Progress) (said : Lists) (k : ℕ) (line : List ℕ) (rest : List Line) (m : reader .heads ≡ allHeads) where
     abbrev told-next : Reading
     told-next = told reader (after p (frameOf (reader .kinds) line)) (saidAfter p said (frameOf (reader .kinds) line)) (k + 1) rest
 
@@ -150,14 +149,14 @@ module _ (kinds : ℕ) where
     unfolding told
     line-goes e =
         unless-none (endCause reader p (frameOf (reader .kinds) line)) 0 _ e
-        ∙ ap (λ (c : ℕ). unless c k told-next) (limit-free (reader .most) p said (frameOf (reader .kinds) line) m)
+        ∙ ap (λ (c : ℕ). unless c k told-next) (limit-free (reader .heads) p said (frameOf (reader .kinds) line) m)
 
   -- so the archive's reading goes on with every line whose frame is accepted, and to the end, where no group is missing
   pub kept-line : (p : Progress) (said : Lists) (k : ℕ) (line : List ℕ) (rest : List Line) (frame : Frame) → frameOf kinds line ≡ frame
       → endCause kept p frame ≡ 0 → causeIn p said frame ≡ 0
       → told kept p said k (ended line ∷ rest) ≡ told kept (after p frame) (saidAfter p said frame) (k + 1) rest
   kept-line p said k line rest frame f o z =
-      line-goes kept p said k line rest (omega arith) (ap (endCause kept p) f ∙ o)
+      line-goes kept p said k line rest refl (ap (endCause kept p) f ∙ o)
       ∙ unless-none (causeIn p said (frameOf kinds line)) k _ (ap (causeIn p said) f ∙ z)
       ∙ ap (λ (x : Frame). told kept (after p x) (saidAfter p said x) (k + 1) rest) f
 
@@ -182,14 +181,14 @@ module _ (kinds : ℕ) where
       ∙ sym (unless-none (linksCause kept p) 0 _ (links-elsewhere kept p (elsewhere p s)))
   later-same p said k (cut line ∷ rest) s = refl
   later-same p said k (ended line ∷ rest) s =
-      line-goes fresh p said k line rest (omega arith) (later-none p s fresh (frameOf kinds line))
+      line-goes fresh p said k line rest refl (later-none p s fresh (frameOf kinds line))
       ∙ ⊎-elim
       (λ z.
       ap (unless (causeIn p said (frameOf kinds line)) k)
       (later-same (after p (frameOf kinds line)) (saidAfter p said (frameOf kinds line)) (k + 1) rest (later-frame p said (frameOf kinds line) s z .0)))
       (λ n. unless-some (causeIn p said (frameOf kinds line)) k _ n ∙ sym (unless-some (causeIn p said (frameOf kinds line)) k _ n))
       (equal-or-not (causeIn p said (frameOf kinds line)) 0)
-      ∙ sym (line-goes kept p said k line rest (omega arith) (later-none p s kept (frameOf kinds line)))
+      ∙ sym (line-goes kept p said k line rest refl (later-none p s kept (frameOf kinds line)))
 
   later-plan : (p : Progress) (said : Lists) (k : ℕ) (lines : List Line) → 3 ≤ stageOf (p .stage)
       → told kept p said k lines .number ≡ 0 → told kept p said k lines .progress .plan ≡ p .plan
@@ -277,10 +276,10 @@ module _ (kinds : ℕ) where
 
     module _ (o : Passed p frame) where
       kept-goes : told kept p said k (ended line ∷ rest) ≡ unless (causeIn p said frame) k archived
-      kept-goes = line-goes kept p said k line rest (omega arith) (o .of-kept)
+      kept-goes = line-goes kept p said k line rest refl (o .of-kept)
 
       fresh-goes : told fresh p said k (ended line ∷ rest) ≡ unless (causeIn p said frame) k renewed
-      fresh-goes = line-goes fresh p said k line rest (omega arith) (o .of-fresh)
+      fresh-goes = line-goes fresh p said k line rest refl (o .of-fresh)
 
       early-wrong : (causeIn p said frame ≡ 0 → ⊥) → Here
       early-wrong n =

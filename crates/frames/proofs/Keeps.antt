@@ -7,7 +7,7 @@ use mathlib.Core.List.{List, [], _∷_, _++_}
 use native.Mathlib.Omega.{arith}
 use lib.Dec.{eqb, leb}
 use lib.ListN.{length, length-append}
-use borrow.Author.Tests.{eq-eqb, ne-eqb, eqb-true, eqb-false, ltb-true, leb-true, leb-false, le-ltb}
+use borrow.Author.Tests.{eq-eqb, ne-eqb, eqb-true, eqb-false, ltb-true, leb-true, leb-false}
 use Rattle.sets.specs.Tests.{_and_, _or_}
 use Rattle.sets.specs.Causes.{_gives_, firstCause}
 use Rattle.sets.proofs.Bools.{clash, and-l, and-r, and-i, and-yes, or-l, or-r, or-e, not-i, not-yes, not-no, pick-case}
@@ -26,11 +26,12 @@ use Rattle.lines.proofs.Fits.{frame-fits}
 use Rattle.frames.specs.declared.Stage.{Stage}
 use Rattle.frames.specs.declared.Stage.the-variants.{Nothing, Links, Shared, Faults, Started}
 use Rattle.frames.specs.declared.Progress.{Progress}
+use Rattle.frames.specs.declared.Heads.{Heads}
 use Rattle.frames.specs.declared.Reader.{Reader}
 use Rattle.frames.specs.Lines.{Line, ended, cut, lastLine, linesFrom}
-use Rattle.frames.specs.Reading.{mostBytes, stageOf, isAt, inPlan, isStarted, formOf, otherForm, isShared, wrongForm, hasEdition, kindRead, lists, roundsOf, nothingRead, Lists, nothingSaid, headCause, linkCause, groupCause, channelCause, badSetCause, faultSetCause, startCause, laterCause, messageCause, broadcastCause, causeIn, lineCause, linksCause, endCause, after, saidAfter, Reading, refusal, told, reading}
+use Rattle.frames.specs.Reading.{mostBytes, allHeads, stageOf, isAt, inPlan, isStarted, formOf, otherForm, isShared, wrongForm, hasEdition, kindRead, lists, roundsOf, nothingRead, Lists, nothingSaid, headCause, linkCause, groupCause, channelCause, badSetCause, faultSetCause, startCause, laterCause, messageCause, broadcastCause, causeIn, lineCause, linksCause, endCause, after, saidAfter, Reading, refusal, told, reading}
 use Rattle.frames.proofs.Unless.{unless-read}
-use Rattle.frames.proofs.Limits.{limit-none, limit-unless}
+use Rattle.frames.proofs.Limits.{taken, limit-none, limit-unless}
 use Rattle.frames.proofs.Built.{Built, head-built, link-built, group-built}
 
 -- ---- an accepted frame
@@ -212,15 +213,16 @@ module _ (p : Progress) (said : Lists) where
   frame-built (Message form round from to edition layout) i h = i (λ z. omega (arith, message-accepted form round from to edition layout h))
   frame-built (Broadcast round from layout) i h = i (λ z. omega (arith, broadcast-accepted round from layout h))
 
--- ---- a reader that takes every plan's terminals: its limit refuses nothing
+-- ---- a reader that takes all heads has nothing against one
 
-pub limit-free : (most : ℕ) (p : Progress) (said : Lists) (frame : Frame) → mostTerminals ≤ most
-    → lineCause most p said frame ≡ causeIn p said frame
+pub limit-free : (heads : Heads) (p : Progress) (said : Lists) (frame : Frame) → heads ≡ allHeads
+    → lineCause heads p said frame ≡ causeIn p said frame
 unfolding inRange
-limit-free most p said frame m =
-    limit-unless most p said frame
-    (λ n source f e z.
-    let t = leb-true n mostTerminals (and-l _ _ (and-r _ _ (head-accepted p said n source f z .1))) in le-ltb most n (omega arith))
+limit-free heads p said frame e =
+    ap (λ (h : Heads). lineCause h p said frame) e
+    ∙ limit-unless allHeads p said frame
+    (λ n source f i z.
+    taken allHeads n (kindRead f) (leb-true n mostTerminals (and-l _ _ (and-r _ _ (head-accepted p said n source f z .1)))) (λ l. refl))
 
 -- ---- the lines: what every accepted frame leaves, after the first and after a later one, an accepted file leaves
 
@@ -241,14 +243,14 @@ module _ (reader : Reader) (p : Progress) (said : Lists) (k : ℕ) (line : List 
   abbrev next : Reading
   next = told reader (after p frame) (saidAfter p said frame) (k + 1) rest
 
-  pub line-causes : (Q : Reading → Type 0) → (endCause reader p frame ≡ 0 → lineCause (reader .most) p said frame ≡ 0 → next .number ≡ 0 → Q next)
+  pub line-causes : (Q : Reading → Type 0) → (endCause reader p frame ≡ 0 → lineCause (reader .heads) p said frame ≡ 0 → next .number ≡ 0 → Q next)
       → told reader p said k (ended line ∷ rest) .number ≡ 0 → Q (told reader p said k (ended line ∷ rest))
   unfolding told
-  line-causes Q f = unless-read (endCause reader p frame) 0 _ Q (λ a. unless-read (lineCause (reader .most) p said frame) k next Q (f a))
+  line-causes Q f = unless-read (endCause reader p frame) 0 _ Q (λ a. unless-read (lineCause (reader .heads) p said frame) k next Q (f a))
 
   pub line-ends : (Q : Reading → Type 0) → (endCause reader p frame ≡ 0 → causeIn p said frame ≡ 0 → next .number ≡ 0 → Q next)
       → told reader p said k (ended line ∷ rest) .number ≡ 0 → Q (told reader p said k (ended line ∷ rest))
-  line-ends Q f = line-causes Q (λ a c. f a (limit-none (reader .most) p said frame c .0))
+  line-ends Q f = line-causes Q (λ a c. f a (limit-none (reader .heads) p said frame c .0))
 
   pub line-read : (Q : Reading → Type 0) → (causeIn p said frame ≡ 0 → next .number ≡ 0 → Q next)
       → told reader p said k (ended line ∷ rest) .number ≡ 0 → Q (told reader p said k (ended line ∷ rest))

@@ -65,23 +65,23 @@ module _ (reader : Reader) (text : List ℕ) (p : Progress) (said : Lists) (line
     abbrev rest : Reading
     rest = told reader (after p frame) (saidAfter p said frame) (line + 1) (linesFrom [] (drop (i + 1) text))
 
-    line-is : ahead reader text p said line from i ≡ unless end 0 (unless (lineCause (reader .most) p said frame) line rest)
+    line-is : ahead reader text p said line from i ≡ unless end 0 (unless (lineCause (reader .heads) p said frame) line rest)
     unfolding told
     line-is =
         ap (told reader p said line) (lines-end text (current text from i) i k h)
         ∙ ap
         (λ (x : Frame).
         unless (endCause reader p x) 0
-        (unless (lineCause (reader .most) p said x) line (told reader (after p x) (saidAfter p said x) (line + 1) (linesFrom [] (drop (i + 1) text)))))
+        (unless (lineCause (reader .heads) p said x) line (told reader (after p x) (saidAfter p said x) (line + 1) (linesFrom [] (drop (i + 1) text)))))
         (sym f)
-        ∙ ap (λ (c : ℕ). unless c 0 (unless (lineCause (reader .most) p said frame) line rest)) (sym d)
+        ∙ ap (λ (c : ℕ). unless c 0 (unless (lineCause (reader .heads) p said frame) line rest)) (sym d)
 
     -- the links end with it and are refused
     pub line-ends : (end ≡ 0 → ⊥) → ahead reader text p said line from i ≡ refusal end 0
     line-ends n = line-is ∙ unless-some end 0 _ n
 
     -- or its frame is refused or accepted
-    module _ (o : end ≡ 0) (cause : ℕ) (e : cause ≡ lineCause (reader .most) p said frame) where
+    module _ (o : end ≡ 0) (cause : ℕ) (e : cause ≡ lineCause (reader .heads) p said frame) where
       line-goes : ahead reader text p said line from i ≡ unless cause line rest
       line-goes = line-is ∙ unless-none end 0 _ o ∙ ap (λ (c : ℕ). unless c line rest) (sym e)
 
@@ -183,7 +183,7 @@ module _ (reader : Reader) (text : List ℕ) (said : Lists) (at : Cursor) (i : �
     pub pass-ends : (end ≡ 0 → ⊥) → reading reader text ≡ refusal end 0
     pass-ends n = sym (g .same) ∙ line-ends reader text (at .progress) said (at .line) (at .from) i k h frame f end d n
 
-    module _ (o : end ≡ 0) (cause : ℕ) (e : cause ≡ lineCause (reader .most) (at .progress) said frame) where
+    module _ (o : end ≡ 0) (cause : ℕ) (e : cause ≡ lineCause (reader .heads) (at .progress) said frame) where
       pub pass-refused : (cause ≡ 0 → ⊥) → reading reader text ≡ refusal cause (at .line)
       pass-refused n = sym (g .same) ∙ line-refused reader text (at .progress) said (at .line) (at .from) i k h frame f end d o cause e n
 
@@ -192,7 +192,7 @@ module _ (reader : Reader) (text : List ℕ) (said : Lists) (at : Cursor) (i : �
           → length (last .words) ≡ length (said .words) → length (last .later) ≡ length (said .later)
           → Going reader text last (record { progress = next; line = at .line + 1; from = i + 1; cause = 0 }) (i + 1)
       pass-told next last z q w l m =
-          let small = kept-next (reader .most) (at .progress) said (g .twenty) (g .forty) frame cause next e z q in
+          let small = kept-next (reader .heads) (at .progress) said (g .twenty) (g .forty) frame cause next e z q in
           record {
             accepted = refl;
             begun = omega arith;

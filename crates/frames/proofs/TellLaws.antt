@@ -29,9 +29,10 @@ use Rattle.lines.specs.declared.Rounds.the-variants.{Left}
 use Rattle.lines.specs.declared.Frame.{Frame}
 use Rattle.lines.specs.declared.Frame.the-variants.{Foreign, Unknown, Head, Link, Group, Channel, FaultSet, Start, Later, Message, Broadcast}
 use Rattle.frames.specs.declared.Stage.the-variants.{Nothing, Links, Grouped, Shared, Faults, Started, Words}
+use Rattle.frames.specs.declared.Heads.{Heads}
 use Rattle.frames.specs.declared.Progress.{Progress}
 use Rattle.frames.specs.declared.told.Told.{Told}
-use Rattle.frames.specs.Reading.{isAt, inPlan, isStarted, formOf, hasEdition, otherForm, isShared, wrongForm, noLinks, planned, Lists, both, nothingSaid, kindRead, lists, roundsOf, headCause, linkCause, groupCause, channelCause, badSetCause, faultSetCause, startCause, laterCause, isWord, messageCause, isBroadcast, broadcastCause, causeIn, headAbove, lineCause, linked, grouped, after, saidAfter}
+use Rattle.frames.specs.Reading.{isAt, inPlan, isStarted, formOf, hasEdition, otherForm, isShared, wrongForm, noLinks, planned, Lists, both, nothingSaid, kindRead, lists, roundsOf, headCause, linkCause, groupCause, channelCause, badSetCause, faultSetCause, startCause, laterCause, isWord, messageCause, isBroadcast, broadcastCause, causeIn, untakenCause, headsCause, lineCause, linked, grouped, after, saidAfter}
 use Rattle.frames.proofs.Limits.{limit-none, limit-below}
 use Rattle.frames.proofs.Keeps.{head-accepted, link-accepted, group-accepted, start-accepted, later-accepted}
 
@@ -87,18 +88,21 @@ module _ (p : Progress) (n source f : ℕ) (kind : BoundKind) (e : kind ≡ kind
   unfolding headCause
   head-wrong stage h = cause-later _ _ _ (not-yes stage) ∙ cause-here _ _ _ (not-i (sym (ap (inRange n source) e) ∙ h))
 
-  -- 4 and 14, by a reader with a limit
-  pub head-placed : (most : ℕ) → isAt Nothing p ≡ true
-      → firstCause (not (inRange n source kind) gives 4 ∷ ltb most n gives 14 ∷ []) ≡ firstCause (given (headCause p n source f) ∷ ltb most n gives 14 ∷ [])
-  head-placed most stage =
-      ⊎-elim (λ h. cause-later _ 4 _ (not-yes h) ∙ sym (given-passes _ _ (head-right stage h)))
+  -- 4, and then what the reader has against it
+  pub head-placed : (heads : Heads) → isAt Nothing p ≡ true
+      → firstCause (not (inRange n source kind) gives 4 ∷ given (untakenCause heads n kind) ∷ [])
+      ≡ firstCause (given (headCause p n source f) ∷ given (untakenCause heads n (kindRead f)) ∷ [])
+  head-placed heads stage =
+      ⊎-elim
+      (λ h.
+      cause-later _ 4 _ (not-yes h) ∙ ap (λ (k : BoundKind). firstCause (given (untakenCause heads n k) ∷ [])) e ∙ sym (given-passes _ _ (head-right stage h)))
       (λ h. cause-here _ 4 _ (not-i h) ∙ sym (given-is _ _ 4 (head-wrong stage h) (λ z. omega arith))) (decide (inRange n source kind))
 
--- its line, by a reader with a limit
-pub head-line : (most : ℕ) (p : Progress) (said : Lists) (n source f : ℕ)
-    → firstCause (given (headCause p n source f) ∷ ltb most n gives 14 ∷ []) ≡ lineCause most p said (Head n source f)
-unfolding lineCause causeIn headAbove
-head-line most p said n source f = refl
+-- its line, by a reader that takes these
+pub head-line : (heads : Heads) (p : Progress) (said : Lists) (n source f : ℕ)
+    → firstCause (given (headCause p n source f) ∷ given (untakenCause heads n (kindRead f)) ∷ []) ≡ lineCause heads p said (Head n source f)
+unfolding lineCause causeIn headsCause
+head-line heads p said n source f = refl
 
 -- ---- a link
 
@@ -472,19 +476,19 @@ module _ (p : Progress) (words : List ℕ) (round from layout : ℕ) where
 -- ---- a frame
 
 -- what was found of a frame by its variant holds of the frame
-module _ (most : ℕ) (p : Progress) (said last : Lists) (frame known : Frame) (r : Told) (e : frame ≡ known) where
-  pub told-by : r .cause ≡ lineCause most p said known → (r .cause ≡ 0 → r .progress ≡ after p known)
+module _ (heads : Heads) (p : Progress) (said last : Lists) (frame known : Frame) (r : Told) (e : frame ≡ known) where
+  pub told-by : r .cause ≡ lineCause heads p said known → (r .cause ≡ 0 → r .progress ≡ after p known)
       → last ≡ pick (eqb (r .cause) 0) (saidAfter p said known) said
-      → (r .cause ≡ lineCause most p said frame) × (r .cause ≡ 0 → r .progress ≡ after p frame)
+      → (r .cause ≡ lineCause heads p said frame) × (r .cause ≡ 0 → r .progress ≡ after p frame)
       × (last ≡ pick (eqb (r .cause) 0) (saidAfter p said frame) said)
   told-by a b d = rw e (a, b, d)
 
   -- of one that is no head the causes are its own
-  pub told-in : headAbove most known ≡ false → r .cause ≡ causeIn p said known → (r .cause ≡ 0 → r .progress ≡ after p known)
+  pub told-in : headsCause heads known ≡ 0 → r .cause ≡ causeIn p said known → (r .cause ≡ 0 → r .progress ≡ after p known)
       → last ≡ pick (eqb (r .cause) 0) (saidAfter p said known) said
-      → (r .cause ≡ lineCause most p said frame) × (r .cause ≡ 0 → r .progress ≡ after p frame)
+      → (r .cause ≡ lineCause heads p said frame) × (r .cause ≡ 0 → r .progress ≡ after p frame)
       × (last ≡ pick (eqb (r .cause) 0) (saidAfter p said frame) said)
-  told-in h a = told-by (a ∙ sym (limit-below most p said known h))
+  told-in h a = told-by (a ∙ sym (limit-below heads p said known h))
 
 -- of the two lists one is changed, or neither
 pub either : (b : Bool) (said : Lists) → said ≡ pick b said said
@@ -503,7 +507,7 @@ changed-later true last next words later e = ap (both words) e
 changed-later false last next words later e = ap (both words) e
 
 -- an accepted frame leaves at most 20 terminals and 40 rounds
-module _ (most : ℕ) (p : Progress) (said : Lists) (twenty : p .plan .n ≤ mostTerminals) (forty : p .rounds ≤ mostRounds) where
+module _ (heads : Heads) (p : Progress) (said : Lists) (twenty : p .plan .n ≤ mostTerminals) (forty : p .rounds ≤ mostRounds) where
   kept : (frame : Frame) → causeIn p said frame ≡ 0 → (after p frame .plan .n ≤ mostTerminals) × (after p frame .rounds ≤ mostRounds)
   unfolding inRange after linked grouped
   kept Foreign h = (twenty, forty)
@@ -518,6 +522,6 @@ module _ (most : ℕ) (p : Progress) (said : Lists) (twenty : p .plan .n ≤ mos
   kept (Message form round from to edition layout) h = (twenty, forty)
   kept (Broadcast round from layout) h = (twenty, forty)
 
-  pub kept-next : (frame : Frame) (cause : ℕ) (next : Progress) → cause ≡ lineCause most p said frame → cause ≡ 0 → next ≡ after p frame
+  pub kept-next : (frame : Frame) (cause : ℕ) (next : Progress) → cause ≡ lineCause heads p said frame → cause ≡ 0 → next ≡ after p frame
       → (next .plan .n ≤ mostTerminals) × (next .rounds ≤ mostRounds)
-  kept-next frame cause next e z q = rw q (kept frame (limit-none most p said frame (sym e ∙ z) .0))
+  kept-next frame cause next e z q = rw q (kept frame (limit-none heads p said frame (sym e ∙ z) .0))

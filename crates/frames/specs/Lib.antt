@@ -1,7 +1,9 @@
--- What the contracts of the readers cite, in the order in which it is read; Tells, Archive and Quote are for claims about files.
+-- What the contracts of the readers cite, in the order in which it is read; Tells, Archive, Begins, Quote and Margins are for claims about files.
 pub mod Lines
 pub mod Reading
 pub mod Pass
 pub mod Tells
 pub mod Archive
+pub mod Begins
 pub mod Quote
+pub mod Margins

@@ -29,6 +29,7 @@ use Rattle.frames.specs.declared.Stage.the-variants.{Nothing, Links, Gro
 use Rattle.frames.specs.declared.Progress.{Progress}
 use Rattle.frames.specs.declared.FileRead.{FileRead}
 use Rattle.frames.specs.declared.ArchiveRead.{ArchiveRead}
+use Rattle.frames.specs.declared.Heads.{Heads}
 use Rattle.frames.specs.declared.Reader.{Reader}
 use Rattle.frames.specs.Lines.{Line, ended, cut, linesFrom}
 
@@ -45,19 +46,26 @@ planKinds = 2 ^ 1 + 2 ^ 2 + 2 ^ 7
 abbrev pub runKinds : Set
 runKinds = 2 ^ 1 + 2 ^ 2 + 2 ^ 3 + 2 ^ 4 + 2 ^ 5 + 2 ^ 7 + 2 ^ 8 + 2 ^ 9
 
--- the readers of new plans and of runs; that of the archive, which opens plans with a deaf terminal too (document 02, P6); and that of the quoting desk,
--- which takes fewer terminals (document 02, P5)
+-- the heads that most readers take: all that are in range
+abbrev pub allHeads : Heads
+allHeads = record { most = mostTerminals; groups = true }
+
+-- the readers of new plans and of runs; that of the archive, which opens plans with a deaf terminal too (document 02, P6); that of the quoting desk,
+-- which takes fewer terminals (document 02, P5); and that of margins, which takes no plan with groups (document 02, P1)
 abbrev pub planReader : Reader
-planReader = record { kinds = planKinds; archive = false; most = mostTerminals }
+planReader = record { kinds = planKinds; archive = false; heads = allHeads }
 
 abbrev pub runReader : Reader
-runReader = record { kinds = runKinds; archive = false; most = mostTerminals }
+runReader = record { kinds = runKinds; archive = false; heads = allHeads }
 
 abbrev pub archiveReader : Reader
-archiveReader = record { kinds = planKinds; archive = true; most = mostTerminals }
+archiveReader = record { kinds = planKinds; archive = true; heads = allHeads }
 
 abbrev pub quoteReader : Reader
-quoteReader = record { kinds = planKinds; archive = false; most = mostQuoted }
+quoteReader = record { kinds = planKinds; archive = false; heads = record { most = mostQuoted; groups = true } }
+
+abbrev pub marginsReader : Reader
+marginsReader = record { kinds = planKinds; archive = false; heads = record { most = mostTerminals; groups = false } }
 
 -- ---- what is known after some lines
 
@@ -249,23 +257,28 @@ causeIn p said (Later round edition layout) = laterCause p round edition layout
 causeIn p said (Message form round from to edition layout) = messageCause p (said .words) form round from to edition layout
 causeIn p said (Broadcast round from layout) = broadcastCause p (said .words) round from layout
 
--- a head with more terminals than the reader takes
-unfoldable pub headAbove : (most : ℕ) → Frame → Bool
-headAbove most Foreign = false
-headAbove most Unknown = false
-headAbove most (Head n source f) = ltb most n
-headAbove most (Link from to) = false
-headAbove most (Group s) = false
-headAbove most (Channel layout) = false
-headAbove most (FaultSet s) = false
-headAbove most (Start form edition layout rounds) = false
-headAbove most (Later round edition layout) = false
-headAbove most (Message form round from to edition layout) = false
-headAbove most (Broadcast round from layout) = false
+-- why a reader does not take a head in range, 0 where it does. 14: it has more terminals than the reader takes (document 02, P5); 4: it lists groups, and
+-- the reader takes none (document 02, P1)
+unfoldable pub untakenCause : Heads → (n : ℕ) → BoundKind → ℕ
+untakenCause heads n kind = firstCause (ltb (heads .most) n gives 14 ∷ (lists kind and not (heads .groups)) gives 4 ∷ [])
 
--- the causes of a line, by a reader that takes at most so many: 14 comes after 3 and 4, and a head has no other (document 02, P5)
-unfoldable pub lineCause : (most : ℕ) → Progress → Lists → Frame → ℕ
-lineCause most p said frame = firstCause (given (causeIn p said frame) ∷ headAbove most frame gives 14 ∷ [])
+-- the same of a frame: every reader takes those that are no heads
+unfoldable pub headsCause : Heads → Frame → ℕ
+headsCause heads Foreign = 0
+headsCause heads Unknown = 0
+headsCause heads (Head n source f) = untakenCause heads n (kindRead f)
+headsCause heads (Link from to) = 0
+headsCause heads (Group s) = 0
+headsCause heads (Channel layout) = 0
+headsCause heads (FaultSet s) = 0
+headsCause heads (Start form edition layout rounds) = 0
+headsCause heads (Later round edition layout) = 0
+headsCause heads (Message form round from to edition layout) = 0
+headsCause heads (Broadcast round from layout) = 0
+
+-- the causes of a line, by a reader that takes these heads: its own come after 3 and 4, and a head has no other
+unfoldable pub lineCause : Heads → Progress → Lists → Frame → ℕ
+lineCause heads p said frame = firstCause (given (causeIn p said frame) ∷ given (headsCause heads frame) ∷ [])
 
 -- ---- where the links end (document 02, P6 and P10): at the first line after the head that passes 1 and 2 and is not a link, nor, where groups are
 -- listed, a group; or else at the end of the file
@@ -396,7 +409,7 @@ told reader p said k [] = unless (linksCause reader p) 0 (record { number = 0; l
 told reader p said k (cut line ∷ rest) = refusal 1 k
 told reader p said k (ended line ∷ rest) =
     unless (endCause reader p (frameOf (reader .kinds) line)) 0
-    (unless (lineCause (reader .most) p said (frameOf (reader .kinds) line)) k
+    (unless (lineCause (reader .heads) p said (frameOf (reader .kinds) line)) k
     (told reader (after p (frameOf (reader .kinds) line)) (saidAfter p said (frameOf (reader .kinds) line)) (k + 1) rest))
 
 -- the file's length comes first of all
@@ -416,6 +429,9 @@ archiveReading text = reading archiveReader text
 
 unfoldable pub quoteReading : (text : List ℕ) → Reading
 quoteReading text = reading quoteReader text
+
+unfoldable pub marginsReading : (text : List ℕ) → Reading
+marginsReading text = reading marginsReader text
 
 unfoldable pub runReading : (text : List ℕ) → Reading
 runReading text = whole (reading runReader text)

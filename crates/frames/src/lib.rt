@@ -1,5 +1,5 @@
-// Hexadecimal lines: the readers of plan files, new ones, those of the archive and of the quoting desk,
-// and of run files.
+// Hexadecimal lines: the readers of plan files, new ones, those of the archive, of the quoting desk and
+// of margins, and of run files.
 mod deaf;
 mod ends;
 mod told;
@@ -7,7 +7,7 @@ mod told;
 ghost use mathlib.Core.Path.{_≡_};
 ghost use Prim.Native.Nat.{_+_, _<_, _≤_};
 ghost use lib.ListN.{length};
-ghost use Rattle.frames.specs.Reading.{mostBytes, stageOf, formOf, hasEdition, isAt, inPlan, isStarted, otherForm, isShared, wrongForm, unstarted, planned, nothingRead, both, nothingSaid, refusal, reading, planReading, archiveReading, quoteReading, fileRead, archiveRead, runFile, wordsRead, laterRead};
+ghost use Rattle.frames.specs.Reading.{mostBytes, stageOf, formOf, hasEdition, isAt, inPlan, isStarted, otherForm, isShared, wrongForm, unstarted, planned, nothingRead, both, nothingSaid, refusal, reading, planReading, archiveReading, quoteReading, marginsReading, fileRead, archiveRead, runFile, wordsRead, laterRead};
 ghost use Rattle.frames.specs.Pass.{Going};
 use lines::Form;
 use plan::Plan;
@@ -31,12 +31,18 @@ const MOST_TERMINALS: u8 = 20;
 
 const MOST_QUOTED: u8 = 12;
 
+// The heads that a reader takes: with how many terminals at most, and whether with groups too.
+pub struct Heads {
+    pub most: u8,
+    pub groups: bool,
+}
+
 // What a reader opens: the kinds of frame that it knows, whether plans with a deaf terminal too, as
-// that of the archive does, and how many terminals it takes.
+// that of the archive does, and the heads that it takes.
 pub struct Reader {
     pub kinds: u32,
     pub archive: bool,
-    pub most: u8,
+    pub heads: Heads,
 }
 
 // How far a file was read: nothing; the head and perhaps links; groups too; the default layout of a
@@ -253,7 +259,7 @@ fn pass(
                 cause: end,
             };
         }
-        let told = told::tell(reader.most, known, words, later, frame);
+        let told = told::tell(reader.heads, known, words, later, frame);
         if told.cause != 0 {
             return Cursor {
                 progress: known,
@@ -323,7 +329,8 @@ fn read(reader: Reader, text: &[u8], words: &mut [u32], later: &mut [u32]) -> Fi
     read_lines(reader, text, words, later)
 }
 
-// The plan of a file with head, links and groups only, of which every terminal but the source hears somebody.
+// The plan of a file with head, links and groups only, of which every terminal but the source hears
+// somebody.
 pub fn read_plan(text: &[u8]) -> FileRead
     ensures { λ r. ⌜ r ≡ fileRead (planReading (now (text .entry))) ⌝ }
 {
@@ -332,7 +339,10 @@ pub fn read_plan(text: &[u8]) -> FileRead
     let reader = Reader {
         kinds: PLAN_KINDS,
         archive: false,
-        most: MOST_TERMINALS,
+        heads: Heads {
+            most: MOST_TERMINALS,
+            groups: true,
+        },
     };
     read(reader, text, &mut words, &mut later)
 }
@@ -346,7 +356,27 @@ pub fn read_quote(text: &[u8]) -> FileRead
     let reader = Reader {
         kinds: PLAN_KINDS,
         archive: false,
-        most: MOST_QUOTED,
+        heads: Heads {
+            most: MOST_QUOTED,
+            groups: true,
+        },
+    };
+    read(reader, text, &mut words, &mut later)
+}
+
+// The same for margins: the plan has a bound f, and lists no groups.
+pub fn read_margins(text: &[u8]) -> FileRead
+    ensures { λ r. ⌜ r ≡ fileRead (marginsReading (now (text .entry))) ⌝ }
+{
+    let mut words = [0u32; MOST_WORDS];
+    let mut later = [0u32; MOST_ROUNDS];
+    let reader = Reader {
+        kinds: PLAN_KINDS,
+        archive: false,
+        heads: Heads {
+            most: MOST_TERMINALS,
+            groups: false,
+        },
     };
     read(reader, text, &mut words, &mut later)
 }
@@ -360,7 +390,10 @@ pub fn read_archive(text: &[u8]) -> ArchiveRead
     let reader = Reader {
         kinds: PLAN_KINDS,
         archive: true,
-        most: MOST_TERMINALS,
+        heads: Heads {
+            most: MOST_TERMINALS,
+            groups: true,
+        },
     };
     let file = read(reader, text, &mut words, &mut later);
     ArchiveRead {
@@ -393,7 +426,10 @@ pub fn read_run(text: &[u8], words: &mut [u32], later: &mut [u32]) -> FileRead
     let reader = Reader {
         kinds: RUN_KINDS,
         archive: false,
-        most: MOST_TERMINALS,
+        heads: Heads {
+            most: MOST_TERMINALS,
+            groups: true,
+        },
     };
     let file = read(reader, text, &mut said, &mut issued);
     if file.number != 0 {

@@ -2,7 +2,7 @@
 ghost use mathlib.Core.Path.{_≡_};
 ghost use mathlib.Core.Bool.{not};
 ghost use Prim.Native.Nat.{_-_, _<_, _≤_};
-ghost use lib.Dec.{eqb, ltb};
+ghost use lib.Dec.{eqb};
 ghost use mathlib.Core.List.{[], _∷_};
 ghost use lib.ListN.{length, set};
 ghost use Rattle.sets.specs.Tests.{pick};
@@ -11,7 +11,8 @@ ghost use Rattle.lines.specs.declared.Frame.the-variants.{Head, Link, Group, Ch
 ghost use Rattle.quorum.specs.Quorum.{mostTerminals, mostGroups, listed, inRange};
 ghost use Rattle.quorum.specs.Notice.{noticeOf};
 ghost use Rattle.quorum.specs.Words.{mostRounds, mostWords, placeOf, sharedPlaceOf};
-ghost use Rattle.frames.specs.Reading.{kindRead, lists, roundsOf, headCause, linkCause, groupCause, channelCause, badSetCause, faultSetCause, startCause, laterCause, isWord, messageCause, isBroadcast, broadcastCause, lineCause, linked, grouped, spoken, after, both, saidAfter};
+ghost use Rattle.frames.specs.Reading.{kindRead, lists, roundsOf, headCause, linkCause, groupCause, channelCause, badSetCause, faultSetCause, startCause, laterCause, isWord, messageCause, isBroadcast, broadcastCause, untakenCause, lineCause, linked, grouped, spoken, after, both, saidAfter};
+use super::Heads;
 use super::Progress;
 use super::Stage;
 use super::has_edition;
@@ -45,27 +46,41 @@ fn kind_read(f: u8) -> BoundKind
     BoundKind::Most(f as usize)
 }
 
-// The cause that refuses a head in its place, 0 for none: n, source or f out of range, or more terminals
-// than the reader takes.
-fn range_cause(most: u8, n: u8, source: u8, kind: BoundKind) -> u8
-    ensures { λ r. ⌜ r ≡ firstCause (not (inRange n source kind) gives 4 ∷ ltb most n gives 14 ∷ []) ⌝ }
+// Why a reader does not take a head in range, 0 where it does: it has more terminals than the reader
+// takes, or lists groups, and the reader takes none.
+fn untaken_cause(heads: Heads, n: u8, kind: BoundKind) -> u8
+    ensures { λ r. ⌜ r ≡ untakenCause heads n kind ⌝ }
+{
+    if heads.most < n {
+        return 14;
+    }
+    if heads.groups {
+        return 0;
+    }
+    if lists(kind) {
+        return 4;
+    }
+    0
+}
+
+// The cause that refuses a head in its place, 0 for none: n, source or f out of range, or the reader does
+// not take it.
+fn range_cause(heads: Heads, n: u8, source: u8, kind: BoundKind) -> u8
+    ensures { λ r. ⌜ r ≡ firstCause (not (inRange n source kind) gives 4 ∷ given (untakenCause heads n kind) ∷ []) ⌝ }
 {
     if quorum::in_range(n as usize, source as usize, kind) {
-        if most < n {
-            return 14;
-        }
-        return 0;
+        return untaken_cause(heads, n, kind);
     }
     4
 }
 
-// A head, by a reader that takes at most so many terminals.
-fn head(most: u8, p: Progress, n: u8, source: u8, f: u8) -> Told
-    ensures { λ r. ⌜ (r .cause ≡ firstCause (given (headCause p n source f) ∷ ltb most n gives 14 ∷ [])) × (r .cause ≡ 0 → r .progress ≡ after p (Head n source f)) ⌝ }
+// A head, by a reader that takes these.
+fn head(heads: Heads, p: Progress, n: u8, source: u8, f: u8) -> Told
+    ensures { λ r. ⌜ (r .cause ≡ firstCause (given (headCause p n source f) ∷ given (untakenCause heads n (kindRead f)) ∷ [])) × (r .cause ≡ 0 → r .progress ≡ after p (Head n source f)) ⌝ }
 {
     let kind = kind_read(f);
     if is_at(Stage::Nothing, p) {
-        let cause = range_cause(most, n, source, kind);
+        let cause = range_cause(heads, n, source, kind);
         if cause != 0 {
             return Told {
                 cause: cause,
@@ -531,14 +546,14 @@ fn spoken(p: Progress) -> Progress
 
 // What a frame does, or the cause that refuses it: then both lists stay as they are.
 pub(crate) fn tell(
-    most: u8,
+    heads: Heads,
     p: Progress,
     words: &mut [u32],
     later: &mut [u32],
     frame: Frame,
 ) -> Told
     requires { ⌜ (p .plan .n ≤ mostTerminals) × (p .rounds ≤ mostRounds) × (length (now words) ≡ mostWords) × (length (now later) ≡ mostRounds) ⌝ }
-    ensures { λ r. ⌜ (r .cause ≡ lineCause most p (both (now (words .entry)) (now (later .entry))) frame) × (r .cause ≡ 0 → r .progress ≡ after p frame) × (both (now (words .exit)) (now (later .exit)) ≡ pick (eqb (r .cause) 0) (saidAfter p (both (now (words .entry)) (now (later .entry))) frame) (both (now (words .entry)) (now (later .entry)))) ⌝ }
+    ensures { λ r. ⌜ (r .cause ≡ lineCause heads p (both (now (words .entry)) (now (later .entry))) frame) × (r .cause ≡ 0 → r .progress ≡ after p frame) × (both (now (words .exit)) (now (later .exit)) ≡ pick (eqb (r .cause) 0) (saidAfter p (both (now (words .entry)) (now (later .entry))) frame) (both (now (words .entry)) (now (later .entry)))) ⌝ }
 {
     match frame {
         Frame::Foreign => Told {
@@ -549,7 +564,7 @@ pub(crate) fn tell(
             cause: 2,
             progress: p,
         },
-        Frame::Head(n, source, f) => head(most, p, n, source, f),
+        Frame::Head(n, source, f) => head(heads, p, n, source, f),
         Frame::Link(from, to) => link(p, from as usize, to as usize),
         Frame::Group(s) => group(p, s),
         Frame::Channel(layout) => channel(p, layout),

@@ -2,7 +2,7 @@
 use mathlib.Core.Path.{refl, _∙_}
 use native.Mathlib.Omega.{arith}
 use borrow.Author.Needs.{needs}
-use Rattle.frames.specs.Reading.{causeIn, headAbove, saidAfter, after}
+use Rattle.frames.specs.Reading.{causeIn, headsCause, saidAfter, after}
 use Rattle.frames.proofs.TellLaws.{head-line, told-by, told-in, either, changed-words, changed-later}
 use Rattle.frames.proofs.told.tell.Statement.{statement}
 use Rattle.frames.proofs.told.tell.Tie as tie
@@ -89,11 +89,11 @@ spoken-requires-2 : tie.Need-spoken-requires-2
 spoken-requires-2 c κs = search needs
 
 returns : tie.Need-returns
-unfolding causeIn headAbove saidAfter
+unfolding causeIn headsCause saidAfter
 returns c = told-in _ _ _ _ _ _ _ (c .enum-told .given .1) refl refl (λ z. absurd (omega arith)) (either _ _)
 
 returns-2 : tie.Need-returns-2
-unfolding causeIn headAbove saidAfter
+unfolding causeIn headsCause saidAfter
 returns-2 c = told-in _ _ _ _ _ _ _ (c .enum-told2 .given .1) refl refl (λ z. absurd (omega arith)) (either _ _)
 
 returns-3 : tie.Need-returns-3
@@ -101,44 +101,44 @@ unfolding saidAfter
 returns-3 c = told-by _ _ _ _ _ _ _ (c .before .before .frame .given .1) (c .head .ensures .0 ∙ head-line _ _ _ _ _ _) (c .head .ensures .1) (either _ _)
 
 returns-4 : tie.Need-returns-4
-unfolding causeIn headAbove saidAfter
+unfolding causeIn headsCause saidAfter
 returns-4 c = told-in _ _ _ _ _ _ _ (c .before .before .frame2 .given .1) refl (c .link .ensures .0) (c .link .ensures .1) (either _ _)
 
 returns-5 : tie.Need-returns-5
-unfolding causeIn headAbove saidAfter
+unfolding causeIn headsCause saidAfter
 returns-5 c = told-in _ _ _ _ _ _ _ (c .before .before .frame3 .given .1) refl (c .group .ensures .0) (c .group .ensures .1) (either _ _)
 
 returns-6 : tie.Need-returns-6
-unfolding causeIn headAbove saidAfter
+unfolding causeIn headsCause saidAfter
 returns-6 c = told-in _ _ _ _ _ _ _ (c .before .before .frame4 .given .1) refl (c .channel .ensures .0) (c .channel .ensures .1) (either _ _)
 
 returns-7 : tie.Need-returns-7
-unfolding causeIn headAbove saidAfter
+unfolding causeIn headsCause saidAfter
 returns-7 c = told-in _ _ _ _ _ _ _ (c .before .before .frame5 .given .1) refl (c .fault-set .ensures .0) (c .fault-set .ensures .1) (either _ _)
 
 returns-8 : tie.Need-returns-8
-unfolding causeIn headAbove saidAfter
+unfolding causeIn headsCause saidAfter
 returns-8 c = told-in _ _ _ _ _ _ _ (c .before .before .frame6 .given .1) refl (c .start .ensures .0) (c .start .ensures .1) (either _ _)
 
 same-length : tie.Need-same-length
 same-length c = search needs
 
 returns-9 : tie.Need-returns-9
-unfolding causeIn headAbove saidAfter
+unfolding causeIn headsCause saidAfter
 returns-9 c = told-in _ _ _ _ _ _ _ (c .before .before .before .before .before .frame7 .given .1) refl (c .before .before .later-notice .ensures .0) (c .before .before .later-notice .ensures .1) (changed-later _ _ _ _ _ (c .before .before .later-notice .ensures .2))
 
 same-length-2 : tie.Need-same-length-2
 same-length-2 c = search needs
 
 returns-10 : tie.Need-returns-10
-unfolding causeIn headAbove saidAfter after
+unfolding causeIn headsCause saidAfter after
 returns-10 c = told-in _ _ _ _ _ _ _ (c .before .before .before .before .before .before .frame8 .given .1) refl (c .before .before .before .message .ensures .0) (λ z. c .spoken .ensures) (changed-words _ _ _ _ _ (c .before .before .before .message .ensures .1))
 
 same-length-3 : tie.Need-same-length-3
 same-length-3 c = search needs
 
 returns-11 : tie.Need-returns-11
-unfolding causeIn headAbove saidAfter after
+unfolding causeIn headsCause saidAfter after
 returns-11 c = told-in _ _ _ _ _ _ _ (c .before .before .before .before .before .before .frame9 .given .1) refl (c .before .before .before .broadcast .ensures .0) (λ z. c .spoken2 .ensures) (changed-words _ _ _ _ _ (c .before .before .before .broadcast .ensures .1))
 
 pub tell-spec : {M : Type 1} → statement M
