@@ -11,7 +11,7 @@ use Rattle.partition.specs.declared.Standing.{Standing}
 use Rattle.partition.specs.declared.Standing.the-variants.{Source, Direct, Margin, Absent}
 use Rattle.partition.specs.Margins.{standingOf, marginsCause}
 use Rattle.frames.specs.declared.FileRead.{FileRead}
-use Rattle.frames.specs.Reading.{planReading, fileRead}
+use Rattle.frames.specs.Reading.{marginsReading, fileRead}
 use Rattle.output.specs.OnFile.{refusalLine, textOn}
 
 -- a number below a hundred in decimal, by the table of characters (ISO 646, in which 0 to 9 are 48 to 57), without a leading zero
@@ -57,4 +57,4 @@ unfoldable pub marginsOn : (read : FileRead) → List ℕ
 marginsOn read = textOn read (marginsAnswer (read .progress .plan))
 
 unfoldable pub marginsText : (file : List ℕ) → List ℕ
-marginsText file = marginsOn (fileRead (planReading file))
+marginsText file = marginsOn (fileRead (marginsReading file))
