@@ -1,7 +1,8 @@
 // Plans that are bad for the search: hill climbing from given plans, a bounded number of steps each. A step
 // changes a few links, or the bound or a group, and stays where the search then has no less work.
 // Nobody is deaf in what is found, so that the programs judge it. tests/bench/run counts the instructions of
-// what is found, of plans of twelve terminals (plans/bench/quote) by `quote`.
+// what is found, of plans of twelve terminals (plans/bench/quote) by `quote`; plans/bench/margins has the worst for
+// `margins`, M with 20 terminals and N with twelve.
 //   rustc -O --edition 2021 --cfg hunt -o target/bench/hunt tests/bench/hunt.rs
 //   target/bench/hunt SEED STEPS FOLDER PLAN..     the worst three go to FOLDER as 1.hex, 2.hex, 3.hex
 //   target/bench/hunt margins SEED STEPS FOLDER PLAN..     the same for the search of `margins`; plans with a bound f
@@ -36,7 +37,7 @@ fn of_verdict(p: &Plan) -> u64 {
     WORK.load(Relaxed)
 }
 
-// The same for margins, about as the instructions go.
+// The same for margins. What a part takes beside its calls of `over` is about what four of them take.
 fn of_margins(p: &Plan) -> u64 {
     WORK.store(0, Relaxed);
     OVERS.store(0, Relaxed);
