@@ -1,7 +1,8 @@
 // The search of crates/partition/src (search.rt, bound.rt, branch.rt) in plain Rust: the same
 // functions, the same tests in the same order. tests/bench/run compiles it by `rustc -O` and
 // compares instruction counts. It reads an accepted plan file on standard input and refuses nothing.
-// groups.rs has the search for groups; hunt.rs looks for plans that are bad for either.
+// groups.rs has the search for groups, margins.rs that for margins, a program of its own; hunt.rs looks for plans
+// that are bad for one of them.
 mod groups;
 
 use std::io::{Read, Write};
@@ -9,6 +10,8 @@ use std::sync::atomic::{AtomicU64, Ordering::Relaxed};
 
 // How many parts were split, and for groups how many closures were asked for: the search's work, for hunt.rs.
 pub static WORK: AtomicU64 = AtomicU64::new(0);
+// How often `over` was called; counted by hunt.rs alone (--cfg hunt), not to slow what run counts.
+pub static OVERS: AtomicU64 = AtomicU64::new(0);
 
 #[derive(Clone, Copy)]
 pub struct Plan {
@@ -28,6 +31,8 @@ pub struct Best {
 }
 
 pub fn over(rows: &[u32; 20], f: u32, a: u32) -> u32 {
+    #[cfg(hunt)]
+    OVERS.fetch_add(1, Relaxed);
     let mut found = 0;
     for b in 0..20 {
         found |= ((f < (rows[b] & a).count_ones()) as u32) << b;
@@ -42,7 +47,7 @@ fn turn(p: &Plan, l: u32, wall: u32) -> u32 {
     l | (over(&p.rows, p.f as u32, l) & !wall)
 }
 
-fn spread(p: &Plan, s: u32, wall: u32) -> u32 {
+pub fn spread(p: &Plan, s: u32, wall: u32) -> u32 {
     let mut l = s;
     loop {
         let next = turn(p, l, wall);
@@ -53,15 +58,15 @@ fn spread(p: &Plan, s: u32, wall: u32) -> u32 {
     }
 }
 
-fn reach(p: &Plan, hearers: u32, faulty: u32) -> u32 {
+pub fn reach(p: &Plan, hearers: u32, faulty: u32) -> u32 {
     spread(p, 1 << p.source | (hearers & !faulty), faulty)
 }
 
-fn left_out(n: usize, faulty: u32, l: u32) -> u32 {
+pub fn left_out(n: usize, faulty: u32, l: u32) -> u32 {
     ((1u32 << n) - 1) & !(faulty | l)
 }
 
-fn settled(p: &Plan, out: u32, known: u32) -> u32 {
+pub fn settled(p: &Plan, out: u32, known: u32) -> u32 {
     let f = p.f as u32;
     let mut s = known;
     loop {
@@ -73,7 +78,7 @@ fn settled(p: &Plan, out: u32, known: u32) -> u32 {
     }
 }
 
-fn heard(rows: &[u32; 20], s: u32) -> u32 {
+pub fn heard(rows: &[u32; 20], s: u32) -> u32 {
     let mut found = 0;
     for b in 0..20 {
         if (s >> b) & 1 == 1 {
@@ -92,18 +97,18 @@ fn defeats(p: &Plan, hearers: u32, s: u32) -> bool {
     left_out(p.n, s, l) != 0
 }
 
-fn highest(s: u32) -> usize {
+pub fn highest(s: u32) -> usize {
     31 - s.leading_zeros() as usize
 }
 
-fn narrowed(s: u32, of: u32) -> u32 {
+pub fn narrowed(s: u32, of: u32) -> u32 {
     if of & s != 0 {
         return of & s;
     }
     s
 }
 
-fn widest(rows: &[u32; 20], s: u32) -> u32 {
+pub fn widest(rows: &[u32; 20], s: u32) -> u32 {
     let (mut ones, mut twos, mut fours, mut eights, mut sixteens) = (0, 0, 0, 0, 0);
     for &one in rows {
         let two = ones & one;

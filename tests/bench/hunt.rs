@@ -1,14 +1,18 @@
 // Plans that are bad for the search: hill climbing from given plans, a bounded number of steps each. A step
 // changes a few links, or the bound or a group, and stays where the search then has no less work.
 // Nobody is deaf in what is found, so that the programs judge it. tests/bench/run counts the instructions of
-// what is found, of plans of twelve terminals (plans/bench/quote) by `quote`.
-//   rustc -O --edition 2021 -o target/bench/hunt tests/bench/hunt.rs
+// what is found, of plans of twelve terminals (plans/bench/quote) by `quote`; plans/bench/margins has the worst for
+// `margins`, M with 20 terminals and N with twelve.
+//   rustc -O --edition 2021 --cfg hunt -o target/bench/hunt tests/bench/hunt.rs
 //   target/bench/hunt SEED STEPS FOLDER PLAN..     the worst three go to FOLDER as 1.hex, 2.hex, 3.hex
+//   target/bench/hunt margins SEED STEPS FOLDER PLAN..     the same for the search of `margins`; plans with a bound f
+#[cfg(not(hunt))]
+compile_error!("hunt.rs needs --cfg hunt");
 #[allow(dead_code)]
-#[path = "baseline.rs"]
-mod baseline;
+mod margins;
 
-use baseline::{over, read, search, Plan, WORK};
+use margins::baseline::{over, read, search, Plan, OVERS, WORK};
+use margins::fewest;
 use std::fs;
 use std::path::Path;
 use std::sync::atomic::Ordering::Relaxed;
@@ -27,10 +31,18 @@ impl Rng {
 }
 
 // The search's work.
-fn cost(p: &Plan) -> u64 {
+fn of_verdict(p: &Plan) -> u64 {
     WORK.store(0, Relaxed);
     search(p, over(&p.rows, 0, 1 << p.source));
     WORK.load(Relaxed)
+}
+
+// The same for margins. What a part takes beside its calls of `over` is about what four of them take.
+fn of_margins(p: &Plan) -> u64 {
+    WORK.store(0, Relaxed);
+    OVERS.store(0, Relaxed);
+    fewest(p, over(&p.rows, 0, 1 << p.source));
+    OVERS.load(Relaxed) + 4 * WORK.load(Relaxed)
 }
 
 fn some_deaf(p: &Plan) -> bool {
@@ -72,7 +84,7 @@ fn changed(rng: &mut Rng, p: &Plan) -> Plan {
     next
 }
 
-fn climbed(rng: &mut Rng, start: Plan, steps: usize) -> (u64, Plan) {
+fn climbed(rng: &mut Rng, cost: fn(&Plan) -> u64, start: Plan, steps: usize) -> (u64, Plan) {
     let mut best = (cost(&start), start);
     for _ in 0..steps {
         let next = changed(rng, &best.1);
@@ -99,15 +111,20 @@ fn frames(p: &Plan) -> String {
 
 fn main() {
     let words: Vec<String> = std::env::args().skip(1).collect();
-    let [seed, steps, folder, plans @ ..] = words.as_slice() else {
-        eprintln!("usage: hunt SEED STEPS FOLDER PLAN..");
+    let (cost, words): (fn(&Plan) -> u64, _) = match words.as_slice() {
+        [first, rest @ ..] if first == "margins" => (of_margins, rest),
+        all => (of_verdict, all),
+    };
+    let [seed, steps, folder, plans @ ..] = words else {
+        eprintln!("usage: hunt [margins] SEED STEPS FOLDER PLAN..");
         std::process::exit(2);
     };
     let mut rng = Rng(seed.parse().expect("a seed"));
     let steps = steps.parse().expect("a number of steps");
     let mut found: Vec<(u64, Plan)> = plans
         .iter()
-        .map(|file| climbed(&mut rng, read(&fs::read(file).expect("a plan")), steps))
+        .map(|file| read(&fs::read(file).expect("a plan")))
+        .map(|plan| climbed(&mut rng, cost, plan, steps))
         .collect();
     found.sort_by_key(|(work, _)| std::cmp::Reverse(*work));
     for (number, (work, plan)) in (1..=3).zip(&found) {
