@@ -7,6 +7,7 @@ mod lent;
 mod said;
 mod say;
 mod shared;
+mod standings;
 mod texts;
 
 // One call of a kind, and the line's length; a kind that is none has an empty line. `size` is the
@@ -16,6 +17,7 @@ fn answer(kind: u8, size: usize, body: &[u8], line: &mut [u8]) -> usize {
         b'v' => texts::verdict(size, body, line),
         b'a' => texts::archive(size, body, line),
         b'q' => texts::quote(size, body, line),
+        b'm' => texts::margins(size, body, line),
         b'd' => texts::open(body, line),
         b'r' => texts::run(size, body, line),
         b'f' => texts::read(size, body, line),
@@ -25,6 +27,7 @@ fn answer(kind: u8, size: usize, body: &[u8], line: &mut [u8]) -> usize {
         b'w' => calls::witness(body, line),
         b'c' => calls::fault_set(body, line),
         b'j' => judged::both(body, line),
+        b'M' => standings::margins(body, line),
         b'n' => calls::site(size, body, line),
         b'l' => lent::run(size, body, line),
         b'S' => shared::step(size, body, line),

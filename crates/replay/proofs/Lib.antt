@@ -1,0 +1,2 @@
+-- The size of a small number below zero (Signed).
+mod Signed
