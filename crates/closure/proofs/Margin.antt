@@ -7,11 +7,11 @@ use native.Mathlib.Omega.{arith}
 use lib.Dec.{eqb, ltb}
 use lib.IntN.{ℤ, pos, negsuc, subℕ, _+ℤ_, _-ℤ_, -ℤ-+ℤ-cancel}
 use lib.Signed.{ltZ}
-use borrow.Author.Tests.{eqb-true, eqb-false, eq-eqb, ne-eqb, ltb-true, ltb-false, lt-ltb, le-ltb}
+use borrow.Author.Tests.{eqb-false, eq-eqb, ne-eqb, ltb-true, ltb-false, lt-ltb, le-ltb}
 use Rattle.sets.specs.Tests.{_and_, pick}
 use Rattle.sets.specs.Sets.{mem, count, without}
-use Rattle.sets.proofs.Bools.{clash, decide, and-l, and-r, and-i, and-no-l, not-i, not-e, not-yes, no-by, pick-yes, pick-no}
-use Rattle.sets.proofs.Laws.{mem-zero, mem-below, below-or-not, count-le, count-none, count-more, some-member}
+use Rattle.sets.proofs.Bools.{clash, decide, and-l, and-r, and-i, not-i, not-e, no-by}
+use Rattle.sets.proofs.Laws.{mem-zero, below-or-not, count-le, count-none, count-more, some-member}
 use Rattle.sets.proofs.Operations.{mem-without}
 use Rattle.quorum.specs.declared.BoundKind.{BoundKind}
 use Rattle.quorum.specs.declared.BoundKind.the-variants.{Most}
@@ -23,7 +23,7 @@ use Rattle.closure.specs.Closure.{joins, reached, cutOff}
 use Rattle.closure.specs.Verdict.{verdict}
 use Rattle.closure.specs.Margin.{heardOfL, leavesGood, fewestBelow, fewest, Fewest, boundOf, margin, hasMargin, belowZero, KeptWaiting, MarginsTell}
 use Rattle.closure.proofs.Faults.{fault-below, fault-none}
-use Rattle.closure.proofs.Growth.{joins-good, joins-why, joins-source, joins-enough, joins-mono, reached-source, reached-closed, reached-below, reached-least}
+use Rattle.closure.proofs.Growth.{joins-why, joins-source, joins-enough, joins-mono, reached-source, reached-closed, reached-below, reached-least}
 use Rattle.closure.proofs.Witness.{cut-below, cut-good, cut-unreached, cut-is, defeats-fault, defeats-cuts, verdict-pass, verdict-fail, pass-empty}
 
 -- ---- a fault set that leaves b good

@@ -2,11 +2,11 @@
 use Prim.Native.Nat.{ℕ, zero, suc, _+_, _*_, _/_, _%_, _≤_, _<_}
 use mathlib.Core.Path.{_≡_, refl, sym, ap, _∙_, subst}
 use mathlib.Core.Logic.{_⊎_, inl, inr, ⊎-elim}
-use mathlib.Core.Bool.{Bool, true, false, not}
+use mathlib.Core.Bool.{Bool, true, false}
 use mathlib.Core.List.{List, [], _∷_, _++_, append-nil}
 use native.Mathlib.Nat.{lt-of-le-of-lt}
 use native.Mathlib.Omega.{arith}
-use lib.Dec.{T, eqb, ltb, leb, lit<}
+use lib.Dec.{T, ltb, lit<}
 use lib.IntN.{ℤ, pos, negsuc, natAbs, _-ℤ_}
 use lib.ListN.{length, length-append}
 use lib.Signed.{mag, ltZ, leZ, nonNeg}
@@ -14,9 +14,9 @@ use mir.Syntax.{w8, w32}
 use mir.Val.{Fits, SFits, toZ, ofZ}
 use mir.Facts.{toZ-ofZ}
 use borrow.Author.Tests.{le-ltb, lt-ltb, ltb-true, ltb-false, lt-leb, le-leb}
-use Rattle.sets.specs.Tests.{_and_, pick}
+use Rattle.sets.specs.Tests.{_and_}
 use Rattle.sets.specs.Sets.{bit, count}
-use Rattle.sets.proofs.Bools.{clash, and-i, and-no-l, and-no-r, pick-yes, pick-no, pick-case}
+use Rattle.sets.proofs.Bools.{clash, and-i, and-no-l, pick-yes, pick-no, pick-case}
 use Rattle.sets.proofs.Laws.{below-or-not, count-le, count-next}
 use Rattle.partition.specs.declared.Standing.{Standing}
 use Rattle.partition.specs.declared.Standing.the-variants.{Source, Direct, Margin, Absent}
@@ -24,7 +24,7 @@ use Rattle.text.specs.Texts.{joined}
 use Rattle.text.proofs.Laws.{then, room-for}
 use Rattle.margin_output.specs.declared.Tally.{Tally}
 use Rattle.margin_output.specs.Margins.{decimal, signed, directWord, standingLine, standingLines, countsLine}
-use Rattle.margin_output.specs.Counts.{standsDirect, standsBelow, standsLevel, standsAbove, tallied, tallyOf, Small}
+use Rattle.margin_output.specs.Counts.{standsDirect, standsBelow, standsLevel, standsAbove, tallied, tallyOf}
 
 -- ---- counts
 
@@ -313,5 +313,13 @@ counts-short a b c d =
     let four = three ++ (32 ∷ []) in
     let five = four ++ decimal c in
     let six = five ++ (32 ∷ []) in
-    omega (arith, length-append (six ++ decimal d) (10 ∷ []), length-append six (decimal d), length-append five (32 ∷ []), length-append four (decimal c),
-    length-append three (32 ∷ []), length-append two (decimal b), length-append (decimal a) (32 ∷ []))
+    omega (
+      arith,
+      length-append (six ++ decimal d) (10 ∷ []),
+      length-append six (decimal d),
+      length-append five (32 ∷ []),
+      length-append four (decimal c),
+      length-append three (32 ∷ []),
+      length-append two (decimal b),
+      length-append (decimal a) (32 ∷ []),
+    )

@@ -8,7 +8,6 @@ ghost use Rattle.partition.specs.Margins.{told, marginsOf};
 ghost use Rattle.text.specs.Texts.{held, putInto};
 ghost use Rattle.frames.specs.Reading.{marginsReading, fileRead};
 ghost use Rattle.output.specs.OnFile.{answerOn};
-
 ghost use Rattle.margin_output.specs.Margins.{marginsAnswer, marginsOn, marginsText};
 use frames::FileRead;
 use output::Written;

@@ -11,26 +11,25 @@ use lib.Count.{ones}
 use lib.Dec.{eqb, ltb}
 use lib.ListN.{getD}
 use borrow.Author.Tests.{ltb-true, ltb-false, lt-ltb, le-ltb, eq-eqb}
-use Rattle.sets.specs.Tests.{_and_, pick}
+use Rattle.sets.specs.Tests.{_and_}
 use Rattle.sets.specs.Sets.{mem, count, with, outside, singleton}
-use Rattle.sets.proofs.Bools.{clash, decide, and-l, and-r, and-i, and-no-l, not-i, not-e, no-by, or-l, or-r, or-e, pick-yes, pick-no, pick-case}
+use Rattle.sets.proofs.Bools.{clash, decide, and-l, and-r, and-i, and-no-l, not-i, not-e, no-by, or-l, or-e, pick-yes, pick-no, pick-case}
 use Rattle.sets.proofs.Laws.{mask-lt, mem-zero, mem-above, mem-below, mem-mask, count-mono, count-more, count-width, some-member}
 use Rattle.sets.proofs.Masks.{mem-and, mem-or, mem-not, ones-and}
 use Rattle.quorum.specs.declared.BoundKind.the-variants.{Most}
-use Rattle.quorum.specs.Quorum.{atMost, enough}
-use Rattle.quorum.proofs.Laws.{enough-most}
+use Rattle.quorum.specs.Quorum.{enough}
 use Rattle.plan.specs.declared.Plan.{Plan}
 use Rattle.plan.specs.Plan.{heardBy, hears, causeOf}
 use Rattle.plan.proofs.Laws.{Sound, sound}
-use Rattle.closure.specs.FaultSet.{hearsEnough, isFaultSet}
+use Rattle.closure.specs.FaultSet.{isFaultSet}
 use Rattle.closure.specs.Closure.{reached}
-use Rattle.closure.specs.Margin.{heardOfL, leavesGood, fewest, Fewest, hasMargin}
+use Rattle.closure.specs.Margin.{heardOfL, leavesGood, fewest, hasMargin}
 use Rattle.closure.proofs.Faults.{fault-below, fault-source, fault-bound}
 use Rattle.closure.proofs.Margin.{leaves-fault, leaves-good, leaves-i, heard-few, nobody-leaves, fewest-only}
 use Rattle.faults.specs.Rows.{over}
-use Rattle.faults.proofs.Rows.{over-why, over-low, word-of}
-use Rattle.partition.specs.Search.{direct, Inside, Apart, Between, Settled, Grown, Spread, Part, Heard, Barred, inRow, lesser, surely, hopeful, Seen, Lower}
-use Rattle.partition.proofs.Rows.{direct-mem, one-below, one-only}
+use Rattle.faults.proofs.Rows.{over-why, word-of}
+use Rattle.partition.specs.Search.{direct, Apart, Between, Settled, Grown, Spread, Part, Heard, Barred, inRow, lesser, surely, hopeful, Seen, Lower}
+use Rattle.partition.proofs.Rows.{direct-mem, one-only}
 use Rattle.partition.proofs.Members.{outside-mem, outside-i, outside-below, count-split}
 use Rattle.partition.proofs.Halves.{left-to, left-fewer, only-inn, half-of}
 use Rattle.partition.proofs.Bounds.{ears, ears-few, forced-least}

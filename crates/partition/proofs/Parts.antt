@@ -1,17 +1,16 @@
 -- The parts of the search: what each return is the least of, and what each call is given. Assumes nothing.
 use Prim.Native.Nat.{ℕ, _^_, _≤_, _<_}
-use mathlib.Core.Path.{_≡_, refl, sym, ap, _∙_, subst}
+use mathlib.Core.Path.{_≡_, sym, ap, _∙_, subst}
 use mathlib.Core.Logic.{_⊎_, inl, inr, ⊎-elim}
 use mathlib.Core.Bool.{true, false, not}
-use native.Mathlib.Nat.{le-refl, le-trans, lt-of-lt-of-le, lt-of-le-of-lt}
+use native.Mathlib.Nat.{le-trans, lt-of-lt-of-le, lt-of-le-of-lt}
 use native.Mathlib.Omega.{arith}
 use lib.Bits.{bitAnd, bitOr, and-le-l, or-lt}
 use lib.Dec.{eqb}
 use lib.Pow.{pow-mono}
-use Rattle.sets.specs.Tests.{_and_}
-use Rattle.sets.specs.Sets.{mem, count, with, outside}
-use Rattle.sets.proofs.Bools.{clash, decide, and-l, and-r, and-i, and-yes, and-no-l, and-no-r, or-e, not-i, not-e, not-yes, no-by, same-test}
-use Rattle.sets.proofs.Laws.{mem-zero, set-ext, some-member, count-mono, count-more}
+use Rattle.sets.specs.Sets.{mem, with, outside}
+use Rattle.sets.proofs.Bools.{clash, and-l, and-r, and-i, and-yes, or-e, no-by}
+use Rattle.sets.proofs.Laws.{mem-zero, some-member}
 use Rattle.sets.proofs.Masks.{mem-and, mem-or}
 use Rattle.plan.specs.declared.Plan.{Plan}
 use Rattle.plan.proofs.Laws.{sound}
@@ -21,7 +20,7 @@ use Rattle.closure.specs.Verdict.{defeats}
 use Rattle.closure.proofs.Faults.{fault-below}
 use Rattle.closure.proofs.Witness.{defeats-fault}
 use Rattle.partition.specs.Search.{key, Inside, Between, Settled, Hopeless, Spread, Grown, Part, Least}
-use Rattle.partition.proofs.Members.{outside-mem, outside-i, outside-below, with-below, with-keeps, with-one, with-why, key-mono}
+use Rattle.partition.proofs.Members.{key-mono}
 use Rattle.partition.proofs.Halves.{left-to, left-fewer, only-inn, Half, out-low, keeps-out, fewer-without, inn-low, keeps-inn, fewer-with, half-of}
 use Rattle.partition.proofs.Leasts.{stays, least-among, least-then}
 use Rattle.partition.proofs.Bounds.{forced-bounded, forced-least}

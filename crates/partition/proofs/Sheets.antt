@@ -17,9 +17,9 @@ use mir.Facts.{toZ-ofZ}
 use borrow.Author.Tests.{eqb-true, eqb-false, eq-eqb, ne-eqb, lt-ltb, le-ltb, leb-true}
 use Rattle.sets.specs.Tests.{_and_, pick}
 use Rattle.sets.specs.Causes.{firstCause}
-use Rattle.sets.specs.Sets.{mem, all}
+use Rattle.sets.specs.Sets.{all}
 use Rattle.sets.specs.Tables.{table}
-use Rattle.sets.proofs.Bools.{clash, and-l, and-r, and-i, and-no-l, and-no-r, not-i, not-e, no-by, pick-yes, pick-no, pick-case}
+use Rattle.sets.proofs.Bools.{clash, and-l, and-r, and-i, and-no-l, and-no-r, not-i, pick-yes, pick-no, pick-case}
 use Rattle.sets.proofs.Laws.{all-i, all-at}
 use Rattle.quorum.specs.declared.BoundKind.{BoundKind}
 use Rattle.quorum.specs.declared.BoundKind.the-variants.{Most, Groups}
@@ -27,10 +27,9 @@ use Rattle.quorum.specs.declared.Bound.{Bound}
 use Rattle.quorum.specs.Quorum.{mostTerminals, mostGroups, groupAt, listed, inRange, listedSound, groupsSound, others}
 use Rattle.plan.specs.declared.Plan.{Plan}
 use Rattle.plan.specs.Plan.{hears, linksSound, causeWithin, causeOf}
-use Rattle.plan.proofs.Laws.{Sound, sound}
+use Rattle.plan.proofs.Laws.{sound}
 use Rattle.closure.specs.Margin.{fewest, hasMargin, boundOf, margin}
 use Rattle.closure.proofs.Margin.{heard-few, fewest-least, margin-is}
-use Rattle.partition.specs.Search.{direct}
 use Rattle.partition.specs.declared.Standing.{Standing}
 use Rattle.partition.specs.declared.Standing.the-variants.{Source, Direct, Margin, Absent}
 use Rattle.partition.specs.declared.Place.{Place}
@@ -38,7 +37,6 @@ use Rattle.partition.specs.declared.Outcome.{Outcome}
 use Rattle.partition.specs.declared.Outcome.the-variants.{Known}
 use Rattle.partition.specs.declared.Sheet.{Sheet}
 use Rattle.partition.specs.Margins.{standingOf, placeOf, isMost, groupless, marginsCause, Told, allAbsent, outcomeNumber, marginsOf, told, noMargins}
-use Rattle.partition.proofs.Rows.{direct-mem}
 
 -- ---- how one terminal stands
 

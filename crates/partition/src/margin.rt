@@ -174,5 +174,14 @@ pub(crate) fn fewest(p: Plan, f: u32, hearers: u32) -> [u32; 20]
 {
     let source = sets::singleton(p.source);
     let sought = search::outside(p.n, source, hearers);
-    inside(p, f, hearers, 0, source, source | hearers, sought, [20u32; 20])
+    inside(
+        p,
+        f,
+        hearers,
+        0,
+        source,
+        source | hearers,
+        sought,
+        [20u32; 20],
+    )
 }

@@ -1,7 +1,7 @@
 // How each terminal of a plan with a bound f stands.
 ghost use mathlib.Core.Path.{_≡_};
 ghost use mathlib.Core.Bool.{true};
-ghost use Prim.Native.Nat.{ℕ, _+_, _<_, _≤_};
+ghost use Prim.Native.Nat.{_+_, _<_, _≤_};
 ghost use lib.Dec.{eqb};
 ghost use lib.IntN.{pos, _-ℤ_};
 ghost use lib.ListN.{getD};
@@ -13,11 +13,11 @@ ghost use Rattle.closure.specs.Margin.{fewest, hasMargin};
 ghost use Rattle.partition.specs.Search.{direct};
 ghost use Rattle.partition.specs.Margins.{standingOf, placeOf};
 ghost use Rattle.partition.specs.declared.Outcome.the-variants.{Known};
-use super::margin;
 use super::Outcome;
 use super::Place;
 use super::Sheet;
 use super::Standing;
+use super::margin;
 use plan::Plan;
 
 // No place lists a group.

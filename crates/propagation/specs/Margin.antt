@@ -8,7 +8,6 @@ use lib.Signed.{ltZ, leZ}
 use Rattle.sets.specs.Tests.{_and_}
 use Rattle.sets.specs.Sets.{mem, count}
 use Rattle.quorum.specs.Notice.{Notice, silent}
-use Rattle.quorum.specs.declared.BoundKind.the-variants.{Most}
 use Rattle.terminal.specs.declared.State.the-variants.{Waiting}
 use Rattle.terminal.specs.Rule.{View, holds}
 use Rattle.plan.specs.declared.Plan.{Plan}

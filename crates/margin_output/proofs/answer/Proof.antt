@@ -1,59 +1,42 @@
-use Prim.Native.Nat.{_≤_}
+-- The table, or why the record is refused. Assumes nothing.
 use native.Mathlib.Omega.{arith}
+use borrow.Author.Needs.{needs}
 use Rattle.partition.specs.declared.Outcome.the-variants.{WrongRange, WrongLink}
 use Rattle.margin_output.proofs.TableLaws.{tally-few}
 use Rattle.margin_output.proofs.AnswerLaws.{places-small, answer-known, answer-refused}
-use borrow.Author.Needs.{needs}
 use Rattle.margin_output.proofs.answer.Statement.{statement}
 use Rattle.margin_output.proofs.answer.Tie as tie
-use Rattle.margin_output.proofs.answer.Reads as reads
-use Rattle.margin_output.proofs.answer.Lts as lts
-use Rattle.margin_output.proofs.counting.counted.Reads as counted-reads
-use Rattle.margin_output.proofs.table.lines.Reads as lines-reads
-use Rattle.margin_output.proofs.table.with_counts.Reads as with-counts-reads
-use Rattle.output.proofs.refusal.Reads as refusal-reads
 
--- src/lib.rt:36:46
 enum-told : tie.Need-enum-told
 enum-told c = search needs
 
--- src/lib.rt:36:46
 lines-requires : tie.Need-lines-requires
 lines-requires c κs = places-small _ _ (c .before .before .before .pre) (c .enum-told .given .1)
 
--- src/lib.rt:36:68
 counted-requires : tie.Need-counted-requires
 counted-requires c κs = search needs
 
--- src/lib.rt:36:27
 with-counts-requires : tie.Need-with-counts-requires
 with-counts-requires c κs = let few = tally-few 20 _ _ (c .counted .ensures) in (omega (arith, few .0), omega (arith, few .1), omega (arith, few .2), omega (arith, few .3))
 
--- src/lib.rt:37:32
 enum-told-2 : tie.Need-enum-told-2
 enum-told-2 c = search needs
 
--- src/lib.rt:37:32
 refusal-requires : tie.Need-refusal-requires
 refusal-requires c κs = search needs
 
--- src/lib.rt:38:31
 enum-told-3 : tie.Need-enum-told-3
 enum-told-3 c = search needs
 
--- src/lib.rt:38:31
 refusal-requires-2 : tie.Need-refusal-requires-2
 refusal-requires-2 c κs = search needs
 
--- src/lib.rt:29:1
 returns : tie.Need-returns
 returns c = answer-known _ _ (c .before .before .before .before .before .before .pre) (c .before .before .before .enum-told .given .1) _ _ _ (c .before .before .lines .ensures) (c .before .counted .ensures) (c .with-counts .ensures)
 
--- src/lib.rt:29:1
 returns-2 : tie.Need-returns-2
 returns-2 c = answer-refused _ _ (c .before .before .before .before .pre) WrongRange (c .before .enum-told2 .given .1) (λ z. omega arith) _ (c .refusal .ensures)
 
--- src/lib.rt:29:1
 returns-3 : tie.Need-returns-3
 returns-3 c = answer-refused _ _ (c .before .before .before .before .pre) WrongLink (c .before .enum-told3 .given .1) (λ z. omega arith) _ (c .refusal2 .ensures)
 

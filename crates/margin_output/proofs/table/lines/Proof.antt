@@ -1,19 +1,15 @@
+-- The lines of the terminals so far. Assumes nothing.
 use Prim.Native.Nat.{ℕ, _≤_, _-_}
-use mathlib.Core.Path.{_≡_, refl, sym, ap, subst, _∙_}
-use mathlib.Core.List.{List}
+use mathlib.Core.Path.{_≡_, refl, ap, _∙_}
 use native.Mathlib.Omega.{arith}
-use borrow.Author.Needs.{needs}
 use lib.ListN.{length}
+use borrow.Author.Needs.{needs}
 use Rattle.text.specs.Texts.{held}
 use Rattle.margin_output.specs.Margins.{standingLines}
 use Rattle.margin_output.specs.Counts.{standingIn}
 use Rattle.margin_output.proofs.TableLaws.{lines-short, next-line}
 use Rattle.margin_output.proofs.table.lines.Statement.{statement}
 use Rattle.margin_output.proofs.table.lines.Tie as tie
-use Rattle.margin_output.proofs.table.lines.Reads as reads
-use Rattle.margin_output.proofs.table.lines.Lts as lts
-use Rattle.margin_output.proofs.table.with_line.Reads as with-line-reads
-use Rattle.text.proofs.empty.Reads as empty-reads
 
 abbrev Inv-loop : tie.InvT-loop
 Inv-loop places t₀ b₀ t b = (b ≤ 20) × (held t ≡ standingLines b (standingIn places))
@@ -21,44 +17,34 @@ Inv-loop places t₀ b₀ t b = (b ≤ 20) × (held t ≡ standingLines b (stand
 abbrev μ-loop : tie.MeasureT-loop
 μ-loop places t₀ b₀ t b = 20 - b
 
--- src/table.rt:60:9
 empty-requires : tie.Need-empty-requires Inv-loop μ-loop
 empty-requires c κs = search needs
 
--- src/table.rt:62:5
 loop-holds : tie.Need-loop-holds Inv-loop μ-loop
 unfolding standingLines
 loop-holds c = (omega arith, c .empty .ensures)
 
--- src/table.rt:63:21
 mul-place : tie.Need-mul-place Inv-loop μ-loop
 mul-place c = omega arith
 
--- src/table.rt:63:21
 array-copy-out-place : tie.Need-array-copy-out-place Inv-loop μ-loop
 array-copy-out-place c = omega arith
 
--- src/table.rt:65:26
 cast-with-line : tie.Need-cast-with-line Inv-loop μ-loop
 cast-with-line c = omega arith
 
--- src/table.rt:65:9
 with-line-requires : tie.Need-with-line-requires Inv-loop μ-loop
 with-line-requires c κs = let turn = c .before .before .loop in let short = lines-short (turn .b) (standingIn (c .before .before .before .before .args .t1)) in let e = ap length (turn .inv .1) in (omega arith, c .before .before .before .before .pre (turn .b) (omega arith), omega (arith, short, e))
 
--- src/table.rt:66:9
 add-b : tie.Need-add-b Inv-loop μ-loop
 add-b c = omega arith
 
--- src/table.rt:62:5
 loop-less : tie.Need-loop-less Inv-loop μ-loop
 loop-less c = omega arith
 
--- src/table.rt:62:5
 loop-again : tie.Need-loop-again Inv-loop μ-loop
 loop-again c = let turn = c .before .before .before .loop in (omega arith, next-line (turn .b) (standingIn (c .before .before .before .before .before .args .t1)) _ _ _ (omega arith) refl (turn .inv .1) (c .with-line .ensures))
 
--- src/table.rt:56:1
 returns : tie.Need-returns Inv-loop μ-loop
 returns c = let turn = c .before .loop in let e : turn .b ≡ 20 = omega arith in turn .inv .1 ∙ ap (λ (k : ℕ). standingLines k (standingIn (c .before .before .before .args .t1))) e
 

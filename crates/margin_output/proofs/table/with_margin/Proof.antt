@@ -1,55 +1,41 @@
+-- A sign and the size, read back from its bits. Assumes nothing.
 use mathlib.Core.Path.{sym, ap, _∙_}
+use mathlib.Core.List.{_∷_, []}
 use lib.IntN.{ℤ, pos, natAbs}
 use lib.Signed.{ltZ}
 use mir.Facts.{toZ-ofZ}
-use mathlib.Core.List.{_∷_, []}
-use Prim.Native.Nat.{ℕ}
+use borrow.Author.Needs.{needs}
 use Rattle.text.specs.Texts.{held, joined}
 use Rattle.text.proofs.Laws.{then}
 use Rattle.margin_output.specs.Margins.{decimal}
 use Rattle.margin_output.proofs.TableLaws.{less-fits, less-is, same-is, size-read, size-low, signed-below, signed-above}
-use borrow.Author.Needs.{needs}
 use Rattle.margin_output.proofs.table.with_margin.Statement.{statement}
 use Rattle.margin_output.proofs.table.with_margin.Tie as tie
-use Rattle.margin_output.proofs.table.with_margin.Reads as reads
-use Rattle.margin_output.proofs.table.with_margin.Lts as lts
-use Rattle.margin_output.proofs.counting.is_below.Reads as is-below-reads
-use Rattle.margin_output.proofs.table.with_number.Reads as with-number-reads
-use Rattle.text.proofs.Text.raw.Reads as raw-reads
 
--- src/table.rt:31:8
 is-below-requires : tie.Need-is-below-requires
 is-below-requires c κs = search needs
 
--- src/table.rt:32:20
 sub-less : tie.Need-sub-less
 sub-less c = less-fits (c .before .before .args .m) (c .before .before .pre) (sym (ap (λ (z : ℤ). ltZ z (pos 0)) (toZ-ofZ (c .before .before .fits .m))) ∙ sym (c .before .is-below .ensures) ∙ c .if1 .taken)
 
--- src/table.rt:33:28
 raw-requires : tie.Need-raw-requires
 raw-requires c κs = search needs
 
--- src/table.rt:33:39
 cast-with-number : tie.Need-cast-with-number
 cast-with-number c = size-read (c .before .before .before .args .m) (c .before .before .before .pre) _ (less-is (c .before .before .before .args .m) (c .before .before .before .pre) (sym (ap (λ (z : ℤ). ltZ z (pos 0)) (toZ-ofZ (c .before .before .before .fits .m))) ∙ sym (c .before .before .is-below .ensures) ∙ c .before .if1 .taken))
 
--- src/table.rt:33:9
 with-number-requires : tie.Need-with-number-requires
 with-number-requires c κs = size-low (c .before .before .before .args .m) (c .before .before .before .pre) _ (less-is (c .before .before .before .args .m) (c .before .before .before .pre) (sym (ap (λ (z : ℤ). ltZ z (pos 0)) (toZ-ofZ (c .before .before .before .fits .m))) ∙ sym (c .before .before .is-below .ensures) ∙ c .before .if1 .taken))
 
--- src/table.rt:33:9
 returns : tie.Need-returns
 returns c = let below = (sym (ap (λ (z : ℤ). ltZ z (pos 0)) (toZ-ofZ (c .before .before .before .before .fits .m))) ∙ sym (c .before .before .before .is-below .ensures) ∙ c .before .before .if1 .taken) in let small = c .before .before .before .before .pre in then _ (45 ∷ []) _ (c .before .raw .ensures) (c .with-number .ensures ∙ ap (λ (z : ℤ). joined (held (c .before .raw .result)) (decimal (natAbs z))) (less-is (c .before .before .before .before .args .m) small below)) ∙ ap (joined (held (c .before .before .before .before .args .t))) (signed-below (c .before .before .before .before .args .m) small below)
 
--- src/table.rt:35:20
 cast-with-number-2 : tie.Need-cast-with-number-2
 cast-with-number-2 c = size-read (c .before .before .args .m) (c .before .before .pre) _ (same-is (c .before .before .args .m) (c .before .before .pre) (sym (ap (λ (z : ℤ). ltZ z (pos 0)) (toZ-ofZ (c .before .before .fits .m))) ∙ sym (c .before .is-below .ensures) ∙ c .if1 .left))
 
--- src/table.rt:35:5
 with-number-requires-2 : tie.Need-with-number-requires-2
 with-number-requires-2 c κs = size-low (c .before .before .args .m) (c .before .before .pre) _ (same-is (c .before .before .args .m) (c .before .before .pre) (sym (ap (λ (z : ℤ). ltZ z (pos 0)) (toZ-ofZ (c .before .before .fits .m))) ∙ sym (c .before .is-below .ensures) ∙ c .if1 .left))
 
--- src/table.rt:27:1
 returns-2 : tie.Need-returns-2
 returns-2 c = let below = (sym (ap (λ (z : ℤ). ltZ z (pos 0)) (toZ-ofZ (c .before .before .before .fits .m))) ∙ sym (c .before .before .is-below .ensures) ∙ c .before .if1 .left) in let small = c .before .before .before .pre in c .with-number2 .ensures ∙ ap (λ (z : ℤ). joined (held (c .before .before .before .args .t)) (decimal (natAbs z))) (same-is (c .before .before .before .args .m) small below) ∙ ap (joined (held (c .before .before .before .args .t))) (signed-above (c .before .before .before .args .m) small below)
 

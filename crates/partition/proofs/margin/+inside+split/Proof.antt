@@ -90,18 +90,20 @@ inside-lowered-requires : (t : ℕ) → inside-lts.Need-lowered-requires (inside
 inside-lowered-requires t c κs = search needs
 
 inside-split-requires : (t : ℕ) → inside-lts.Need-split-requires (inside-calls t) (inside-at t) inside.Post
-inside-split-requires t c κs = 
+inside-split-requires t c κs =
     let given = c .before .before .before .before .before .pre .1 in
     let all = c .before .before .before .before .spread .ensures in
-    let l = all-fewer (given .0) all in
-    (omega arith, (
-      all-part (given .0) all,
-      and-below _ _ _ (given .1),
-      seen-now (given .0) _ (given .1) (c .before .before .before .before .before .args .counts) all (c .before .before .before .if1 .left) _ (c .before .reach .ensures) (c .lowered .result) (c .lowered .ensures),
-    ))
+    let l = all-fewer (given .0) all in (
+      omega arith,
+      (
+        all-part (given .0) all,
+        and-below _ _ _ (given .1),
+        seen-now (given .0) _ (given .1) (c .before .before .before .before .before .args .counts) all (c .before .before .before .if1 .left) _ (c .before .reach .ensures) (c .lowered .result) (c .lowered .ensures),
+      ),
+    )
 
 inside-returns-2 : (t : ℕ) → inside-lts.Need-returns-2 (inside-calls t) (inside-at t) inside.Post
-inside-returns-2 t c = 
+inside-returns-2 t c =
     let given = c .before .before .before .before .before .before .pre .1 in
     let all = c .before .before .before .before .before .spread .ensures in
     low-inside (given .0) _ (given .1) _ all (c .before .before .before .before .if1 .left) _ (c .before .before .reach .ensures) _ (c .before .lowered .ensures) (c .split .ensures)
@@ -119,12 +121,12 @@ split-outside-requires : (t : ℕ) → split-lts.Need-outside-requires (split-ca
 split-outside-requires t c κs = sound _ (c .before .before .before .before .pre .1 .0 .plan) .twenty
 
 split-returns : (t : ℕ) → split-lts.Need-returns (split-calls t) (split-at t) split.Post
-split-returns t c = 
+split-returns t c =
     let given = c .before .before .before .before .before .before .pre .1 in
     none-hopeful (given .0) _ (given .1) _ (given .2) (c .before .before .before .before .before .barred .ensures) (c .before .before .before .before .settled .ensures) _ (c .before .before .hopeful .ensures) (c .if1 .taken)
 
 split-returns-2 : (t : ℕ) → split-lts.Need-returns-2 (split-calls t) (split-at t) split.Post
-split-returns-2 t c = 
+split-returns-2 t c =
     let given = c .before .before .before .before .before .before .before .pre .1 in
     none-free (given .0) _ (given .1) _ (given .2) (c .before .before .before .before .before .before .barred .ensures) _ (c .before .before .outside .ensures) (c .if2 .taken)
 
@@ -138,7 +140,7 @@ split-with-requires : (t : ℕ) → split-lts.Need-with-requires (split-calls t)
 split-with-requires t c κs = search needs
 
 split-inside-requires : (t : ℕ) → split-lts.Need-inside-requires (split-calls t) (split-at t) split.Post
-split-inside-requires t c κs = 
+split-inside-requires t c κs =
     let given = c .before .before .before .before .before .before .before .before .before .before .pre .1 in
     let bar = c .before .before .before .before .before .before .before .before .before .barred .ensures in
     let shut = shut-part (given .0) bar in
@@ -154,7 +156,7 @@ split-with-requires-2 : (t : ℕ) → split-lts.Need-with-requires-2 (split-call
 split-with-requires-2 t c κs = search needs
 
 split-split-requires : (t : ℕ) → split-lts.Need-split-requires (split-calls t) (split-at t) split.Post
-split-split-requires t c κs = 
+split-split-requires t c κs =
     let given = c .before .before .before .before .before .before .before .before .before .before .before .before .pre .1 in
     let bar = c .before .before .before .before .before .before .before .before .before .before .before .barred .ensures in
     let shut = shut-part (given .0) bar in
@@ -163,15 +165,17 @@ split-split-requires t c κs =
     let free = c .before .before .before .before .before .before .before .outside .ensures in
     let one = c .before .before .before .chosen .ensures in
     let l = without-less shut _ _ free one _ (c .with2 .ensures) in
-    let m = shut-fewer (given .0) bar in
-    (omega arith, (
-      part-without shut _ _ free one _ (c .with2 .ensures) sure,
-      and-below _ _ _ (given .1),
-      seen-first (given .0) _ (given .1) _ (given .2) bar sure _ hope _ _ free one (c .before .inside .ensures),
-    ))
+    let m = shut-fewer (given .0) bar in (
+      omega arith,
+      (
+        part-without shut _ _ free one _ (c .with2 .ensures) sure,
+        and-below _ _ _ (given .1),
+        seen-first (given .0) _ (given .1) _ (given .2) bar sure _ hope _ _ free one (c .before .inside .ensures),
+      ),
+    )
 
 split-returns-3 : (t : ℕ) → split-lts.Need-returns-3 (split-calls t) (split-at t) split.Post
-split-returns-3 t c = 
+split-returns-3 t c =
     let given = c .before .before .before .before .before .before .before .before .before .before .before .before .before .pre .1 in
     let bar = c .before .before .before .before .before .before .before .before .before .before .before .before .barred .ensures in
     let sure = c .before .before .before .before .before .before .before .before .before .before .before .settled .ensures in

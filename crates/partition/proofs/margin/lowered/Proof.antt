@@ -1,18 +1,15 @@
+-- The counts so far are the lesser ones. Assumes nothing.
 use Prim.Native.Nat.{ℕ, _≤_, _<_, _-_}
 use mathlib.Core.Path.{_≡_, refl, ap, _∙_}
 use mathlib.Core.Bool.{Bool}
 use native.Mathlib.Omega.{arith}
-use borrow.Author.Needs.{needs}
 use lib.ListN.{length, getD, length-set}
+use borrow.Author.Needs.{needs}
 use Rattle.sets.specs.Sets.{mem}
 use Rattle.sets.proofs.Tables.{filled-more}
 use Rattle.partition.specs.Search.{lesser}
 use Rattle.partition.proofs.margin.lowered.Statement.{statement}
 use Rattle.partition.proofs.margin.lowered.Tie as tie
-use Rattle.partition.proofs.margin.lowered.Reads as reads
-use Rattle.partition.proofs.margin.lowered.Lts as lts
-use Rattle.partition.proofs.margin.lesser.Reads as lesser-reads
-use Rattle.sets.proofs.member.Reads as member-reads
 
 abbrev Inv-loop : tie.InvT-loop
 Inv-loop sought l rows before after₀ b₀ after b = (b ≤ 20) × (length after ≡ 20) × ((i : ℕ) → i < b → getD after i 0 ≡ lesser (getD rows i 0) (mem i sought) l (getD before i 0))
@@ -20,55 +17,42 @@ Inv-loop sought l rows before after₀ b₀ after b = (b ≤ 20) × (length afte
 abbrev μ-loop : tie.MeasureT-loop
 μ-loop sought l rows before after₀ b₀ after b = 20 - b
 
--- src/margin.rt:37:5
 loop-holds : tie.Need-loop-holds Inv-loop μ-loop
 loop-holds c = (omega arith, refl, λ i h. absurd (omega arith))
 
--- src/margin.rt:38:26
 mul-lesser : tie.Need-mul-lesser Inv-loop μ-loop
 mul-lesser c = omega arith
 
--- src/margin.rt:38:26
 array-read-lesser : tie.Need-array-read-lesser Inv-loop μ-loop
 array-read-lesser c = omega arith
 
--- src/margin.rt:38:35
 member-requires : tie.Need-member-requires Inv-loop μ-loop
 member-requires c κs = search needs
 
--- src/margin.rt:38:63
 mul-lesser-2 : tie.Need-mul-lesser-2 Inv-loop μ-loop
 mul-lesser-2 c = omega arith
 
--- src/margin.rt:38:63
 array-read-lesser-2 : tie.Need-array-read-lesser-2 Inv-loop μ-loop
 array-read-lesser-2 c = omega arith
 
--- src/margin.rt:38:13
 lesser-requires : tie.Need-lesser-requires Inv-loop μ-loop
 lesser-requires c κs = search needs
 
--- src/margin.rt:39:9
 mul-after : tie.Need-mul-after Inv-loop μ-loop
 mul-after c = omega arith
 
--- src/margin.rt:39:9
 array-write-after : tie.Need-array-write-after Inv-loop μ-loop
 array-write-after c = omega arith
 
--- src/margin.rt:40:9
 add-b : tie.Need-add-b Inv-loop μ-loop
 add-b c = omega arith
 
--- src/margin.rt:37:5
 loop-less : tie.Need-loop-less Inv-loop μ-loop
 loop-less c = omega arith
 
--- src/margin.rt:37:5
 loop-again : tie.Need-loop-again Inv-loop μ-loop
 loop-again c = let turn = c .before .before .before .loop in let a = c .before .before .before .before .args in (omega arith, length-set (turn .after) (turn .b) _ ∙ turn .inv .1, filled-more (λ i. lesser (getD (a .t1) i 0) (mem i (a .sought)) (a .l) (getD (a .t4) i 0)) (turn .after) (turn .b) _ (let e = turn .inv .1 in omega arith) (c .lesser .ensures ∙ ap (λ (y : Bool). lesser (getD (a .t1) (turn .b) 0) y (a .l) (getD (a .t4) (turn .b) 0)) (c .before .member .ensures)) (turn .inv .2))
 
--- src/margin.rt:32:1
 returns : tie.Need-returns Inv-loop μ-loop
 returns c = let e : c .before .loop .b ≡ 20 = omega arith in λ i k. c .before .loop .inv .2 i (omega arith)
 

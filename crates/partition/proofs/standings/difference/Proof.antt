@@ -1,26 +1,22 @@
+-- Two small counts, read back from their bits. Assumes nothing.
 use Prim.Native.Nat.{_+_, _≤_}
 use mathlib.Core.Path.{_≡_, sym, subst, _∙_}
-use lib.IntN.{ℤ, pos, _-ℤ_}
+use native.Mathlib.Omega.{arith}
+use lib.IntN.{pos, _-ℤ_}
 use mir.Syntax.{w32}
 use mir.Val.{SFits, toZ}
 use mir.Facts.{toZ-ofZ}
-use Rattle.partition.proofs.Sheets.{small-count, difference-fits}
-use native.Mathlib.Omega.{arith}
 use borrow.Author.Needs.{needs}
+use Rattle.partition.proofs.Sheets.{small-count, difference-fits}
 use Rattle.partition.proofs.standings.difference.Statement.{statement}
 use Rattle.partition.proofs.standings.difference.Tie as tie
-use Rattle.partition.proofs.standings.difference.Reads as reads
-use Rattle.partition.proofs.standings.difference.Lts as lts
 
--- src/standings.rt:42:15
 cast-has : tie.Need-cast-has
 cast-has c = search needs
 
--- src/standings.rt:43:18
 add-needs : tie.Need-add-needs
 add-needs c = search needs
 
--- src/standings.rt:43:17
 cast-needs : tie.Need-cast-needs
 cast-needs c = search needs
 
@@ -31,11 +27,9 @@ few c = let l = c .pre .0 in omega arith
 read : (c : tie.Start) → toZ w32 (c .args .heard) -ℤ toZ w32 (c .args .f + 1) ≡ pos (c .args .heard) -ℤ pos (c .args .f + 1)
 read c = λ i. small-count (c .args .heard) (c .pre .1) i -ℤ small-count (c .args .f + 1) (few c) i
 
--- src/standings.rt:44:5
 sub-result : tie.Need-sub-result
 sub-result c = subst (SFits w32) (sym (read c)) (difference-fits (c .args .heard) (c .args .f + 1) (c .pre .1) (few c))
 
--- src/standings.rt:38:1
 returns : tie.Need-returns
 returns c = toZ-ofZ (sub-result c) ∙ read c
 

@@ -1,54 +1,41 @@
-use native.Mathlib.Omega.{arith}
+-- A small number is its size below zero. Assumes nothing.
 use mathlib.Core.Path.{sym, subst}
-use lib.IntN.{ℤ, pos}
-use lib.Signed.{_≤ℤ_}
+use native.Mathlib.Omega.{arith}
 use mir.Facts.{toZ-ofZ}
 use mir.Syntax.{w32}
 use mir.Val.{SFits, toZ, ofZ}
-use Rattle.replay.proofs.Signed.{from-zero, less-fits, less-size}
 use borrow.Author.Needs.{needs}
+use Rattle.replay.proofs.Signed.{from-zero, less-fits, less-size}
 use Rattle.replay.proofs.standings.bits.Statement.{statement}
 use Rattle.replay.proofs.standings.bits.Tie as tie
-use Rattle.replay.proofs.standings.bits.Reads as reads
-use Rattle.replay.proofs.standings.bits.Lts as lts
 
--- src/lib.rt:4:9
 returns : tie.Need-returns
 returns c = search needs
 
--- src/lib.rt:7:9
 returns-2 : tie.Need-returns-2
 returns-2 c = search needs
 
--- src/lib.rt:10:16
 cast-result : tie.Need-cast-result
 cast-result c = from-zero _ (subst (SFits w32) (sym (toZ-ofZ (c .before .before .before .fits .m))) (c .before .before .before .fits .m)) (c .if3 .taken)
 
--- src/lib.rt:10:9
 returns-3 : tie.Need-returns-3
 returns-3 c = search needs
 
--- src/lib.rt:12:16
 sub-less : tie.Need-sub-less
 sub-less c = less-fits (toZ w32 (ofZ w32 (c .before .before .before .args .m))) (c .before .before .if1 .left) (c .if3 .left)
 
--- src/lib.rt:13:16
 cast-size : tie.Need-cast-size
 cast-size c = less-size (toZ w32 (ofZ w32 (c .before .before .before .args .m))) (c .before .before .if1 .left) (c .if3 .left)
 
--- src/lib.rt:15:9
 returns-4 : tie.Need-returns-4
 returns-4 c = search needs
 
--- src/lib.rt:17:19
 sub-result : tie.Need-sub-result
 sub-result c = search needs
 
--- src/lib.rt:17:5
 sub-result-2 : tie.Need-sub-result-2
 sub-result-2 c = let f = less-size (toZ w32 (ofZ w32 (c .before .before .before .before .args .m))) (c .before .before .before .if1 .left) (c .before .if3 .left) .1 .fits in omega (arith, f)
 
--- src/lib.rt:2:1
 returns-5 : tie.Need-returns-5
 returns-5 c = search needs
 
