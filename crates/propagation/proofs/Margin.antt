@@ -7,11 +7,11 @@ use native.Mathlib.Omega.{arith}
 use lib.IntN.{ℤ, pos, _+ℤ_}
 use lib.Signed.{ltZ, leZ}
 use borrow.Author.Tests.{le-leb}
-use Rattle.sets.specs.Tests.{_and_}
+use Rattle.sets.specs.Tests.{_and_, _or_}
 use Rattle.sets.specs.Sets.{mem}
 use Rattle.sets.proofs.Bools.{clash, decide, and-l, and-r, and-i, not-i, not-e, no-by}
 use Rattle.sets.proofs.Laws.{mem-zero, count-mono}
-use Rattle.quorum.specs.Notice.{silent}
+use Rattle.quorum.specs.Notice.{editionOf, layoutOf, silent}
 use Rattle.quorum.specs.declared.BoundKind.the-variants.{Most}
 use Rattle.quorum.proofs.Notices.{silent-zero}
 use Rattle.terminal.specs.declared.State.the-variants.{Waiting, Taken}
@@ -37,6 +37,11 @@ use Rattle.propagation.proofs.Rounds.{word, stepped, other-at-start, ne
 use Rattle.propagation.proofs.Safety.{not-both}
 use Rattle.propagation.proofs.Liveness.{told}
 use Rattle.propagation.proofs.Demand3.{reached-last, kept-waiting}
+
+-- layout 1 in edition 1 is a notice
+some-notice : silent 65537 ≡ false
+unfolding silent editionOf layoutOf _or_
+some-notice = refl
 
 -- ---- what a terminal has noted
 
@@ -172,7 +177,10 @@ module _ (p : Plan) (s : Sound p) where
             (w .0, silence, w .1, w .2, w .3 (oneNotice notice) silence (p .n - 1) (λ _ _ _ _ _ _ _. refl)),
         λ w. waits-below notice b said has (w .0) (w .1) (w .2) (w .3) (w .4),
       );
-      for-ever = for-ever;
+      for-ever = λ b lb has. (
+        for-ever b lb has,
+        λ w. waits-below 65537 b some-notice has (w .0) silence (w .1) (w .2) (w .3 (oneNotice 65537) silence (p .n - 1) (λ _ _ _ _ _ _ _. refl)),
+      );
     }
 
 pub margins-hold-of : (p : Plan) → causeOf p ≡ 0 → (f : ℕ) → p .bound .kind ≡ Most f → MarginsHold p f

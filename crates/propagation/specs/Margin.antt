@@ -38,7 +38,8 @@ pub record MarginsHold (p : Plan) (f : ℕ) : Type 0 where
       → (ltZ (margin p b) (pos 0) ≡ true)
       ↔ ((faulty : ℕ) × (script : Script)
       × (isFaultSet p faulty ≡ true) × Good p faulty b × (site p faulty (oneNotice notice) script (p .n - 1) b .state ≡ Waiting))
-  -- and then some fault set, by silence alone, keeps it waiting for ever, whatever the office issues
-  pub for-ever : (b : ℕ) → b < p .n → hasMargin p b ≡ true → ltZ (margin p b) (pos 0) ≡ true
-      → (faulty : ℕ) × (isFaultSet p faulty ≡ true) × Good p faulty b
-      × ((office : Office) (script : Script) (r : ℕ) → Silent p faulty r script → site p faulty office script r b .state ≡ Waiting)
+  -- and exactly if some fault set, by silence alone, keeps it waiting for ever, whatever the office issues
+  pub for-ever : (b : ℕ) → b < p .n → hasMargin p b ≡ true
+      → (ltZ (margin p b) (pos 0) ≡ true)
+      ↔ ((faulty : ℕ) × (isFaultSet p faulty ≡ true) × Good p faulty b
+      × ((office : Office) (script : Script) (r : ℕ) → Silent p faulty r script → site p faulty office script r b .state ≡ Waiting))
