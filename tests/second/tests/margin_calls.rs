@@ -3,6 +3,7 @@
 mod common;
 
 use common::bytes::Bytes;
+use common::calls::{calls_of, read_back};
 use common::margins_bytes;
 use second::faults::{Fault, Sound};
 use second::margin_files::{margin_case, Fitted};
@@ -14,36 +15,12 @@ use second::reader::{read_margins, read_plan};
 use second::record::{self, Call};
 use std::collections::{BTreeMap, BTreeSet};
 
-/// The recorded calls of this kind.
-fn calls_of(kind: u8) -> Vec<Call> {
-    let calls = record::calls(record::SEED).into_iter();
-    calls.filter(|call| call.kind == kind).collect()
-}
-
 // ---- files
 
-/// Number, length and list: the text in front and marks after it, or marks alone.
+/// With room and without, of answers and of refusals.
 #[test]
 fn margins_are_read_back() {
-    let (mut fits, mut short) = ([0; 2], [0; 2]);
-    for call in calls_of(b'm') {
-        let text = margins_bytes(&call.body).into_bytes();
-        let refusal = text.starts_with(b"ff");
-        let number = match refusal {
-            true => u8::from_str_radix(std::str::from_utf8(&text[2..4]).expect("digits"), 16),
-            false => Ok(12 * u8::from(call.lent < text.len())),
-        };
-        let room = call.lent >= text.len();
-        let written = if room { text.len() } else { 0 };
-        let mut line = Bytes(&call.line);
-        assert_eq!(line.byte(), number.expect("a number"));
-        assert_eq!(usize::from(line.pair()), written);
-        assert_eq!(line.0.len(), call.lent);
-        assert!(line.0.starts_with(&text[..written]));
-        assert!(line.0[written..].iter().all(|&byte| byte == 0x5a));
-        fits[usize::from(refusal)] += u32::from(call.lent == text.len());
-        short[usize::from(refusal)] += u32::from(call.lent + 1 == text.len());
-    }
+    let (fits, short) = read_back(b'm', margins_bytes);
     assert!(fits.iter().all(|&count| count > 50), "{fits:?}");
     assert!(short.iter().all(|&count| count > 5), "{short:?}");
 }

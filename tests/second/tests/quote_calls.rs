@@ -3,6 +3,7 @@
 mod common;
 
 use common::bytes::Bytes;
+use common::calls::{calls_of, read_back};
 use common::{quote_bytes, refused, verdict_bytes};
 use second::faults::{Fault, Sound};
 use second::generate::{case, Kind};
@@ -98,34 +99,10 @@ fn records_differ_above_twelve_only() {
 
 // ---- recorded files
 
-/// The recorded calls of this kind.
-fn calls_of(kind: u8) -> Vec<Call> {
-    let calls = record::calls(record::SEED).into_iter();
-    calls.filter(|call| call.kind == kind).collect()
-}
-
-/// Number, length and list: the text in front and marks after it, or marks alone.
+/// With room and without, of answers and of refusals.
 #[test]
 fn quotes_are_read_back() {
-    let (mut fits, mut short) = ([0; 2], [0; 2]);
-    for call in calls_of(b'q') {
-        let text = quote_bytes(&call.body).into_bytes();
-        let refusal = text.starts_with(b"ff");
-        let number = match refusal {
-            true => u8::from_str_radix(std::str::from_utf8(&text[2..4]).expect("digits"), 16),
-            false => Ok(12 * u8::from(call.lent < text.len())),
-        };
-        let room = call.lent >= text.len();
-        let written = if room { text.len() } else { 0 };
-        let mut line = Bytes(&call.line);
-        assert_eq!(line.byte(), number.expect("a number"));
-        assert_eq!(usize::from(line.pair()), written);
-        assert_eq!(line.0.len(), call.lent);
-        assert!(line.0.starts_with(&text[..written]));
-        assert!(line.0[written..].iter().all(|&byte| byte == 0x5a));
-        fits[usize::from(refusal)] += u32::from(call.lent == text.len());
-        short[usize::from(refusal)] += u32::from(call.lent + 1 == text.len());
-    }
+    let (fits, short) = read_back(b'q', quote_bytes);
     assert!(fits.iter().all(|&count| count > 30), "{fits:?}");
     assert!(short.iter().all(|&count| count > 5), "{short:?}");
 }

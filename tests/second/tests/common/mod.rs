@@ -3,6 +3,7 @@
 #![allow(dead_code)]
 
 pub mod bytes;
+pub mod calls;
 
 use second::groups::Bound;
 use second::notice::{notice, Notice, OLD_EDITION};
