@@ -1,5 +1,5 @@
 -- Laws of counts, of masks and of membership, for every n together and over the width. Assumes nothing.
-use Prim.Native.Nat.{ℕ, zero, suc, _+_, _-_, _*_, _/_, _^_, _≤_, _<_, zero-le, suc-le-suc}
+use Prim.Native.Nat.{ℕ, zero, suc, _+_, _*_, _/_, _^_, _≤_, _<_, zero-le, suc-le-suc}
 use mathlib.Core.Path.{_≡_, refl, sym, ap, ap₂, _∙_, subst}
 use mathlib.Core.Logic.{_⊎_, inl, inr, ⊎-elim}
 use mathlib.Core.Bool.{Bool, true, false, not, _||_}
@@ -167,6 +167,17 @@ pub count-le : (n : ℕ) (P : ℕ → Bool) → count n P ≤ n
 unfolding count
 count-le zero P = zero-le
 count-le (suc n) P = let t : count n (λ j. P (suc j)) ≤ n = count-le n (λ j. P (suc j)) in omega (arith, bit-le (P 0))
+
+-- two properties that differ at one place alone are counted one apart at most
+pub count-apart : (n a : ℕ) (P Q : ℕ → Bool) → ((i : ℕ) → i < n → (i ≡ a → ⊥) → P i ≡ true → Q i ≡ true) → count n P ≤ count n Q + 1
+unfolding count
+count-apart zero a P Q h = zero-le
+count-apart (suc n) zero P Q h =
+    let rest = count-mono n (λ i. P (suc i)) (λ i. Q (suc i)) (λ i l. h (suc i) (suc-le-suc l) (λ e. absurd (omega arith))) in
+    omega (arith, bit-le (P 0))
+count-apart (suc n) (suc a) P Q h =
+    let rest = count-apart n a (λ i. P (suc i)) (λ i. Q (suc i)) (λ i l e. h (suc i) (suc-le-suc l) (λ z. e (omega arith))) in
+    omega (arith, bit-mono (P 0) (Q 0) (h 0 (zero-lt-suc n) (λ e. absurd (omega arith))))
 
 -- one more member counts one more
 pub count-more : (n : ℕ) (P Q : ℕ → Bool) → ((i : ℕ) → i < n → P i ≡ true → Q i ≡ true)
