@@ -23,7 +23,7 @@ use Rattle.frames.specs.declared.Heads.{Heads}
 use Rattle.frames.specs.declared.Progress.{Progress}
 use Rattle.frames.specs.declared.Reader.{Reader}
 use Rattle.frames.specs.Lines.{Line, ended, cut, linesFrom}
-use Rattle.frames.specs.Reading.{mostBytes, allHeads, planReader, archiveReader, quoteReader, runReader, isStarted, isShared, kindRead, nothingRead, Lists, nothingSaid, headCause, linkCause, groupCause, channelCause, badSetCause, faultSetCause, startCause, laterCause, messageCause, broadcastCause, causeIn, untakenCause, headsCause, lineCause, endsLinks, linksCause, endCause, linked, grouped, after, saidAfter, Reading, refusal, told, reading, whole, planReading, archiveReading, quoteReading, marginsReading, runReading}
+use Rattle.frames.specs.Reading.{mostBytes, allHeads, planReader, archiveReader, quoteReader, runReader, isStarted, isShared, kindRead, nothingRead, Lists, nothingSaid, headCause, linkCause, groupCause, channelCause, badSetCause, faultSetCause, startCause, laterCause, messageCause, broadcastCause, causeIn, untakenCause, headsCause, lineCause, endsLinks, linksCause, endCause, linked, grouped, after, saidAfter, Reading, refusal, told, reading, whole, planReading, archiveReading, quoteReading, marginsReading, drawingReading, runReading}
 use Rattle.frames.specs.Quote.{quotedAbove, fileAbove, Quoting}
 use Rattle.frames.specs.Margins.{fileGrouped}
 use Rattle.frames.proofs.Unless.{unless-never}
@@ -31,6 +31,7 @@ use Rattle.frames.proofs.Limits.{taken, untaken-above, taken-is}
 use Rattle.frames.proofs.Keeps.{limit-free}
 use Rattle.frames.proofs.Taking.{reading-takes, file-untaken, file-alike}
 use Rattle.frames.proofs.Margins.{measuring}
+use Rattle.frames.proofs.Drawing.{drawn}
 
 -- ---- an accepted file has no more terminals than its reader takes
 
@@ -116,11 +117,11 @@ below-taken n source kind r h = taken (quoteReader .heads) n kind (ltb-false mos
 module _ (text : List ℕ) where
   text-above : fileAbove text ≡ true → quoteReading text ≡ refusal 14 1
   unfolding fileAbove quoteReading
-  text-above h = file-untaken (quoteReader .heads) quotedAbove 14 (λ z. omega arith) above-refused below-taken text h
+  text-above h = file-untaken false (quoteReader .heads) quotedAbove 14 (λ z. omega arith) above-refused below-taken text h
 
   text-alike : fileAbove text ≡ false → quoteReading text ≡ planReading text
-  unfolding fileAbove quoteReading
-  text-alike h = file-alike (quoteReader .heads) quotedAbove 14 (λ z. omega arith) above-refused below-taken text h
+  unfolding fileAbove planReading quoteReading
+  text-alike h = file-alike false (quoteReader .heads) quotedAbove 14 (λ z. omega arith) above-refused below-taken text h
 
   text-never : planReading text .number ≡ 14 → ⊥
   unfolding planReading
@@ -130,11 +131,18 @@ module _ (text : List ℕ) where
   unfolding archiveReading
   archive-never h = reading-never archiveReader refl text h
 
-  -- the reader of margins refuses by 4, or as that of new plans does
+  -- the readers of margins and of drawings refuse by 4, or as that of new plans and that of the archive do
+  groupless-never : (r free : Reading) → (fileGrouped text ≡ true → r ≡ refusal 4 1) → (fileGrouped text ≡ false → r ≡ free)
+      → (free .number ≡ 14 → ⊥) → r .number ≡ 14 → ⊥
+  groupless-never r free refused alike never h =
+      ⊎-elim (λ t. let e = ap (λ (x : Reading). x .number) (refused t) in omega arith)
+      (λ t. never (sym (ap (λ (x : Reading). x .number) (alike t)) ∙ h)) (decide (fileGrouped text))
+
   margins-never : marginsReading text .number ≡ 14 → ⊥
-  margins-never h =
-      ⊎-elim (λ t. let e = ap (λ (r : Reading). r .number) (measuring text .grouped t) in omega arith)
-      (λ t. text-never (sym (ap (λ (r : Reading). r .number) (measuring text .alike t)) ∙ h)) (decide (fileGrouped text))
+  margins-never = groupless-never _ _ (measuring text .grouped) (measuring text .alike) text-never
+
+  drawing-never : drawingReading text .number ≡ 14 → ⊥
+  drawing-never = groupless-never _ _ (drawn text .grouped) (drawn text .alike) archive-never
 
   -- a run file without its start is refused by 3
   run-never : runReading text .number ≡ 14 → ⊥
@@ -150,5 +158,6 @@ module _ (text : List ℕ) where
     never = text-never;
     never-archived = archive-never;
     never-measured = margins-never;
+    never-drawn = drawing-never;
     never-run = run-never;
   }

@@ -1,5 +1,5 @@
--- What a reader leaves by the heads that it takes; and one of plan files that takes fewer than that of new plans, beside it: the first line decides. Assumes
--- nothing.
+-- What a reader leaves by the heads that it takes; and one of plan files that takes fewer, beside the one that takes all and is else the same: the first
+-- line decides. Assumes nothing.
 use Prim.Native.Nat.{ℕ, _+_}
 use mathlib.Core.Path.{_≡_, refl, sym, ap, _∙_}
 use mathlib.Core.Logic.{⊎-elim}
@@ -20,7 +20,7 @@ use Rattle.frames.specs.declared.Heads.{Heads}
 use Rattle.frames.specs.declared.Progress.{Progress}
 use Rattle.frames.specs.declared.Reader.{Reader}
 use Rattle.frames.specs.Lines.{Line, ended, cut, linesFrom}
-use Rattle.frames.specs.Reading.{mostBytes, planKinds, allHeads, planReader, stageOf, isAt, nothingRead, Lists, nothingSaid, kindRead, causeIn, untakenCause, headsCause, lineCause, linksCause, endCause, after, saidAfter, Reading, refusal, unless, told, reading, planReading}
+use Rattle.frames.specs.Reading.{mostBytes, planKinds, allHeads, stageOf, isAt, nothingRead, Lists, nothingSaid, kindRead, causeIn, untakenCause, headsCause, lineCause, linksCause, endCause, after, saidAfter, Reading, refusal, unless, told, reading}
 use Rattle.frames.specs.Begins.{headWhere, firstWhere, fileWhere}
 use Rattle.frames.proofs.Unless.{unless-none, unless-some}
 use Rattle.frames.proofs.Limits.{limit-none, limit-untaken, limit-unless}
@@ -49,11 +49,18 @@ module _ (reader : Reader) (I : Progress → Type 0)
   reading-takes text i =
       text-read reader text (λ (r : Reading). I (r .progress)) (λ one. told-takes nothingRead nothingSaid 1 (linesFrom [] text) i)
 
--- ---- beside the reader of new plans
+-- ---- beside the reader of plan files that takes all heads: that of new plans, or that of the archive
 
-module _ (few : Heads) where
-  abbrev pub taking : Reader
-  taking = record { kinds = planKinds; archive = false; heads = few }
+-- one that opens plans with a deaf terminal too, or does not
+abbrev pub readerOf : (archive : Bool) → Heads → Reader
+readerOf archive heads = record { kinds = planKinds; archive = archive; heads = heads }
+
+module _ (archive : Bool) (few : Heads) where
+  abbrev taking : Reader
+  taking = readerOf archive few
+
+  abbrev free : Reader
+  free = readerOf archive allHeads
 
   abbrev following : Reader → Progress → Lists → ℕ → Frame → List Line → Reading
   following reader p said k frame rest = told reader (after p frame) (saidAfter p said frame) (k + 1) rest
@@ -62,20 +69,20 @@ module _ (few : Heads) where
   same-line : (p : Progress) (said : Lists) (k : ℕ) (line : List ℕ) (rest : List Line)
       → lineCause few p said (frameOf planKinds line) ≡ causeIn p said (frameOf planKinds line)
       → (causeIn p said (frameOf planKinds line) ≡ 0
-      → following taking p said k (frameOf planKinds line) rest ≡ following planReader p said k (frameOf planKinds line) rest)
-      → told taking p said k (ended line ∷ rest) ≡ told planReader p said k (ended line ∷ rest)
+      → following taking p said k (frameOf planKinds line) rest ≡ following free p said k (frameOf planKinds line) rest)
+      → told taking p said k (ended line ∷ rest) ≡ told free p said k (ended line ∷ rest)
   unfolding told endCause linksCause
   same-line p said k line rest e next =
       ap (unless (endCause taking p (frameOf planKinds line)) 0)
       (ap (λ (c : ℕ). unless c k (following taking p said k (frameOf planKinds line) rest)) e
       ∙ ⊎-elim (λ z. ap (unless (causeIn p said (frameOf planKinds line)) k) (next z)) (λ n. unless-some _ k _ n ∙ sym (unless-some _ k _ n))
       (equal-or-not (causeIn p said (frameOf planKinds line)) 0)
-      ∙ ap (λ (c : ℕ). unless c k (following planReader p said k (frameOf planKinds line) rest))
+      ∙ ap (λ (c : ℕ). unless c k (following free p said k (frameOf planKinds line) rest))
       (sym (limit-free allHeads p said (frameOf planKinds line) refl)))
 
   -- after the head it does not matter which heads a reader takes
   same-later : (p : Progress) (said : Lists) (k : ℕ) (lines : List Line) → (stageOf (p .stage) ≡ 0 → ⊥)
-      → told taking p said k lines ≡ told planReader p said k lines
+      → told taking p said k lines ≡ told free p said k lines
   unfolding told linksCause
   same-later p said k [] s = refl
   same-later p said k (cut line ∷ rest) s = refl
@@ -118,7 +125,7 @@ module _ (few : Heads) where
         ∙ ap (λ (x : ℕ). refusal x 1) c
 
     lines-alike : (lines : List Line) → firstWhere test lines ≡ false
-        → told taking nothingRead nothingSaid 1 lines ≡ told planReader nothingRead nothingSaid 1 lines
+        → told taking nothingRead nothingSaid 1 lines ≡ told free nothingRead nothingSaid 1 lines
     unfolding told linksCause
     lines-alike [] h = refl
     lines-alike (cut line ∷ rest) h = refl
@@ -141,8 +148,8 @@ module _ (few : Heads) where
       unfolding fileWhere reading
       file-untaken h = pick-yes _ _ _ (and-l fitting _ h) ∙ lines-untaken (linesFrom [] text) (and-r fitting _ h)
 
-      pub file-alike : fileWhere test text ≡ false → reading taking text ≡ planReading text
-      unfolding fileWhere planReading reading
+      pub file-alike : fileWhere test text ≡ false → reading taking text ≡ reading free text
+      unfolding fileWhere reading
       file-alike h =
           ⊎-elim (λ t. pick-yes _ _ _ t ∙ lines-alike (linesFrom [] text) (sym (and-yes fitting _ t) ∙ h) ∙ sym (pick-yes _ _ _ t))
           (λ t. pick-no _ _ _ t ∙ sym (pick-no _ _ _ t)) (decide fitting)

@@ -1,4 +1,4 @@
--- What the contracts of the readers cite, in the order in which it is read; Tells, Archive, Begins, Quote and Margins are for claims about files.
+-- What the contracts of the readers cite, in the order in which it is read; Tells, Archive, Begins, Quote, Margins and Drawing are for claims about files.
 pub mod Lines
 pub mod Reading
 pub mod Pass
@@ -7,3 +7,4 @@ pub mod Archive
 pub mod Begins
 pub mod Quote
 pub mod Margins
+pub mod Drawing

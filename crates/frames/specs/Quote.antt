@@ -6,7 +6,7 @@ use mathlib.Core.List.{List}
 use lib.Dec.{ltb}
 use Rattle.quorum.specs.declared.BoundKind.{BoundKind}
 use Rattle.plan.specs.Plan.{mostQuoted}
-use Rattle.frames.specs.Reading.{refusal, planReading, archiveReading, quoteReading, marginsReading, runReading}
+use Rattle.frames.specs.Reading.{refusal, planReading, archiveReading, quoteReading, marginsReading, drawingReading, runReading}
 use Rattle.frames.specs.Begins.{fileWhere}
 
 -- more terminals than the quoting desk takes
@@ -25,4 +25,5 @@ pub record Quoting (text : List ℕ) : Type 0 where
   pub never : planReading text .number ≡ 14 → ⊥
   pub never-archived : archiveReading text .number ≡ 14 → ⊥
   pub never-measured : marginsReading text .number ≡ 14 → ⊥
+  pub never-drawn : drawingReading text .number ≡ 14 → ⊥
   pub never-run : runReading text .number ≡ 14 → ⊥

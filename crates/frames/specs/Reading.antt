@@ -51,7 +51,8 @@ abbrev pub allHeads : Heads
 allHeads = record { most = mostTerminals; groups = true }
 
 -- the readers of new plans and of runs; that of the archive, which opens plans with a deaf terminal too (document 02, P6); that of the quoting desk,
--- which takes fewer terminals (document 02, P5); and that of margins, which takes no plan with groups (document 02, P1)
+-- which takes fewer terminals (document 02, P5); that of margins, which takes no plan with groups (document 02, P1); and that of drawings, which opens
+-- what the archive opens but takes no plan with groups (document 02, P13)
 abbrev pub planReader : Reader
 planReader = record { kinds = planKinds; archive = false; heads = allHeads }
 
@@ -66,6 +67,9 @@ quoteReader = record { kinds = planKinds; archive = false; heads = record { most
 
 abbrev pub marginsReader : Reader
 marginsReader = record { kinds = planKinds; archive = false; heads = record { most = mostTerminals; groups = false } }
+
+abbrev pub drawingReader : Reader
+drawingReader = record { kinds = planKinds; archive = true; heads = record { most = mostTerminals; groups = false } }
 
 -- ---- what is known after some lines
 
@@ -258,7 +262,7 @@ causeIn p said (Message form round from to edition layout) = messageCause p (sai
 causeIn p said (Broadcast round from layout) = broadcastCause p (said .words) round from layout
 
 -- why a reader does not take a head in range, 0 where it does. 14: it has more terminals than the reader takes (document 02, P5); 4: it lists groups, and
--- the reader takes none (document 02, P1)
+-- the reader takes none (document 02, P1 and P13)
 unfoldable pub untakenCause : Heads → (n : ℕ) → BoundKind → ℕ
 untakenCause heads n kind = firstCause (ltb (heads .most) n gives 14 ∷ (lists kind and not (heads .groups)) gives 4 ∷ [])
 
@@ -432,6 +436,9 @@ quoteReading text = reading quoteReader text
 
 unfoldable pub marginsReading : (text : List ℕ) → Reading
 marginsReading text = reading marginsReader text
+
+unfoldable pub drawingReading : (text : List ℕ) → Reading
+drawingReading text = reading drawingReader text
 
 unfoldable pub runReading : (text : List ℕ) → Reading
 runReading text = whole (reading runReader text)

@@ -1,5 +1,5 @@
-// Hexadecimal lines: the readers of plan files, new ones, those of the archive, of the quoting desk and
-// of margins, and of run files.
+// Hexadecimal lines: the readers of plan files, new ones, those of the archive, of the quoting desk, of
+// margins and of drawings, and of run files.
 mod deaf;
 mod ends;
 mod told;
@@ -7,7 +7,7 @@ mod told;
 ghost use mathlib.Core.Path.{_≡_};
 ghost use Prim.Native.Nat.{_+_, _<_, _≤_};
 ghost use lib.ListN.{length};
-ghost use Rattle.frames.specs.Reading.{mostBytes, stageOf, formOf, hasEdition, isAt, inPlan, isStarted, otherForm, isShared, wrongForm, unstarted, planned, nothingRead, both, nothingSaid, refusal, reading, planReading, archiveReading, quoteReading, marginsReading, fileRead, archiveRead, runFile, wordsRead, laterRead};
+ghost use Rattle.frames.specs.Reading.{mostBytes, planKinds, stageOf, formOf, hasEdition, isAt, inPlan, isStarted, otherForm, isShared, wrongForm, unstarted, planned, nothingRead, both, nothingSaid, refusal, reading, planReading, archiveReading, quoteReading, marginsReading, drawingReading, fileRead, archiveRead, runFile, wordsRead, laterRead};
 ghost use Rattle.frames.specs.Pass.{Going};
 use lines::Form;
 use plan::Plan;
@@ -329,77 +329,62 @@ fn read(reader: Reader, text: &[u8], words: &mut [u32], later: &mut [u32]) -> Fi
     read_lines(reader, text, words, later)
 }
 
-// The plan of a file with head, links and groups only, of which every terminal but the source hears
-// somebody.
-pub fn read_plan(text: &[u8]) -> FileRead
-    ensures { λ r. ⌜ r ≡ fileRead (planReading (now (text .entry))) ⌝ }
+// A plan file, by a reader that opens plans with a deaf terminal too or does not (`archive`), and takes
+// the heads with so many terminals at most, with groups too or not.
+fn read_plan_file(archive: bool, most: u8, groups: bool, text: &[u8]) -> FileRead
+    ensures { λ r. ⌜ r ≡ fileRead (reading (record { kinds = planKinds; archive = archive; heads = record { most = most; groups = groups } }) (now (text .entry))) ⌝ }
 {
     let mut words = [0u32; MOST_WORDS];
     let mut later = [0u32; MOST_ROUNDS];
     let reader = Reader {
         kinds: PLAN_KINDS,
-        archive: false,
+        archive: archive,
         heads: Heads {
-            most: MOST_TERMINALS,
-            groups: true,
+            most: most,
+            groups: groups,
         },
     };
     read(reader, text, &mut words, &mut later)
+}
+
+// The plan of a file with head, links and groups only, of which every terminal but the source hears
+// somebody.
+pub fn read_plan(text: &[u8]) -> FileRead
+    ensures { λ r. ⌜ r ≡ fileRead (planReading (now (text .entry))) ⌝ }
+{
+    read_plan_file(false, MOST_TERMINALS, true, text)
 }
 
 // The same for the quoting desk: the plan has at most twelve terminals.
 pub fn read_quote(text: &[u8]) -> FileRead
     ensures { λ r. ⌜ r ≡ fileRead (quoteReading (now (text .entry))) ⌝ }
 {
-    let mut words = [0u32; MOST_WORDS];
-    let mut later = [0u32; MOST_ROUNDS];
-    let reader = Reader {
-        kinds: PLAN_KINDS,
-        archive: false,
-        heads: Heads {
-            most: MOST_QUOTED,
-            groups: true,
-        },
-    };
-    read(reader, text, &mut words, &mut later)
+    read_plan_file(false, MOST_QUOTED, true, text)
 }
 
 // The same for margins: the plan has a bound f, and lists no groups.
 pub fn read_margins(text: &[u8]) -> FileRead
     ensures { λ r. ⌜ r ≡ fileRead (marginsReading (now (text .entry))) ⌝ }
 {
-    let mut words = [0u32; MOST_WORDS];
-    let mut later = [0u32; MOST_ROUNDS];
-    let reader = Reader {
-        kinds: PLAN_KINDS,
-        archive: false,
-        heads: Heads {
-            most: MOST_TERMINALS,
-            groups: false,
-        },
-    };
-    read(reader, text, &mut words, &mut later)
+    read_plan_file(false, MOST_TERMINALS, false, text)
 }
 
 // The plan of a plan file, whoever is deaf, and the deaf terminals.
 pub fn read_archive(text: &[u8]) -> ArchiveRead
     ensures { λ r. ⌜ r ≡ archiveRead (archiveReading (now (text .entry))) ⌝ }
 {
-    let mut words = [0u32; MOST_WORDS];
-    let mut later = [0u32; MOST_ROUNDS];
-    let reader = Reader {
-        kinds: PLAN_KINDS,
-        archive: true,
-        heads: Heads {
-            most: MOST_TERMINALS,
-            groups: true,
-        },
-    };
-    let file = read(reader, text, &mut words, &mut later);
+    let file = read_plan_file(true, MOST_TERMINALS, true, text);
     ArchiveRead {
         file: file,
         deaf: deaf::deaf_set(file.progress.plan),
     }
+}
+
+// The plan of a plan file for drawings, whoever is deaf: it has a bound f, and lists no groups.
+pub fn read_drawing(text: &[u8]) -> FileRead
+    ensures { λ r. ⌜ r ≡ fileRead (drawingReading (now (text .entry))) ⌝ }
+{
+    read_plan_file(true, MOST_TERMINALS, false, text)
 }
 
 fn copy_notices(from: &[u32], to: &mut [u32])

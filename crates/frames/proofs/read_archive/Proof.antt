@@ -9,23 +9,15 @@ use Rattle.frames.proofs.FileLaws.{archived}
 use Rattle.frames.proofs.read_archive.Statement.{statement}
 use Rattle.frames.proofs.read_archive.Tie as tie
 
-slice-aggregate-read : tie.Need-slice-aggregate-read
-slice-aggregate-read c = search needs
-
-slice-aggregate-read-2 : tie.Need-slice-aggregate-read-2
-slice-aggregate-read-2 c = search needs
-
-read-requires : tie.Need-read-requires
-read-requires c κs = search needs
+read-plan-file-requires : tie.Need-read-plan-file-requires
+read-plan-file-requires c κs = search needs
 
 deaf-set-requires : tie.Need-deaf-set-requires
-deaf-set-requires c κs = subst (λ (f : FileRead). f .progress .plan .n ≤ 20) (sym (c .before .before .read .ensures .0)) (reading-twenty archiveReader _)
+deaf-set-requires c κs = subst (λ (f : FileRead). f .progress .plan .n ≤ 20) (sym (c .read-plan-file .ensures)) (reading-twenty archiveReader _)
 
 returns : tie.Need-returns
 unfolding archiveReading
-returns c = archived _ _ (archiveReading (c .before .before .before .before .before .before .before .args .text .now)) (c .before .before .before .read .ensures .0) (c .deaf-set .ensures)
+returns c = archived _ _ (archiveReading (c .before .before .before .args .text .now)) (c .before .read-plan-file .ensures) (c .deaf-set .ensures)
 
 pub read-archive-spec : {M : Type 1} → statement M
-read-archive-spec =
-    tie.close
-    (tie.spec slice-aggregate-read slice-aggregate-read-2 read-requires deaf-set-requires returns)
+read-archive-spec = tie.close (tie.spec read-plan-file-requires deaf-set-requires returns)

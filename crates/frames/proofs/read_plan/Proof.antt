@@ -1,22 +1,15 @@
--- The reader of files that knows the kinds of a plan. Assumes nothing.
+-- The reader of plan files, for new plans. Assumes nothing.
 use borrow.Author.Needs.{needs}
 use Rattle.frames.specs.Reading.{planReading}
 use Rattle.frames.proofs.read_plan.Statement.{statement}
 use Rattle.frames.proofs.read_plan.Tie as tie
 
-slice-aggregate-read : tie.Need-slice-aggregate-read
-slice-aggregate-read c = search needs
-
-slice-aggregate-read-2 : tie.Need-slice-aggregate-read-2
-slice-aggregate-read-2 c = search needs
-
-read-requires : tie.Need-read-requires
-read-requires c κs = search needs
+read-plan-file-requires : tie.Need-read-plan-file-requires
+read-plan-file-requires c κs = search needs
 
 returns : tie.Need-returns
 unfolding planReading
-returns c = c .before .before .read .ensures .0
+returns c = c .read-plan-file .ensures
 
 pub read-plan-spec : {M : Type 1} → statement M
-read-plan-spec =
-    tie.close (tie.spec slice-aggregate-read slice-aggregate-read-2 read-requires returns)
+read-plan-spec = tie.close (tie.spec read-plan-file-requires returns)
