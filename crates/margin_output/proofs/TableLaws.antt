@@ -1,29 +1,30 @@
 -- The table's lines and counts. Assumes nothing.
-use Prim.Native.Nat.{ℕ, zero, suc, _+_, _*_, _/_, _%_, _≤_, _<_}
+use Prim.Native.Nat.{ℕ, zero, suc, _+_, _*_, _≤_, _<_}
 use mathlib.Core.Path.{_≡_, refl, sym, ap, _∙_, subst}
 use mathlib.Core.Logic.{_⊎_, inl, inr, ⊎-elim}
 use mathlib.Core.Bool.{Bool, true, false}
 use mathlib.Core.List.{List, [], _∷_, _++_, append-nil}
 use native.Mathlib.Nat.{lt-of-le-of-lt}
 use native.Mathlib.Omega.{arith}
-use lib.Dec.{T, ltb, lit<}
+use lib.Dec.{T, lit<}
 use lib.IntN.{ℤ, pos, negsuc, natAbs, _-ℤ_}
 use lib.ListN.{length, length-append}
 use lib.Signed.{mag, ltZ, leZ, nonNeg}
 use mir.Syntax.{w8, w32}
 use mir.Val.{Fits, SFits, toZ, ofZ}
 use mir.Facts.{toZ-ofZ}
-use borrow.Author.Tests.{le-ltb, lt-ltb, ltb-true, ltb-false, lt-leb, le-leb}
+use borrow.Author.Tests.{ltb-true, ltb-false, lt-leb, le-leb}
 use Rattle.sets.specs.Tests.{_and_}
 use Rattle.sets.specs.Sets.{bit, count}
-use Rattle.sets.proofs.Bools.{clash, and-i, and-no-l, pick-yes, pick-no, pick-case}
+use Rattle.sets.proofs.Bools.{clash, and-i, and-no-l}
 use Rattle.sets.proofs.Laws.{below-or-not, count-le, count-next}
 use Rattle.partition.specs.declared.Standing.{Standing}
 use Rattle.partition.specs.declared.Standing.the-variants.{Source, Direct, Margin, Absent}
+use Rattle.text.specs.Digits.{decimal}
 use Rattle.text.specs.Texts.{joined}
-use Rattle.text.proofs.Laws.{then, room-for}
+use Rattle.text.proofs.Laws.{then, room-for, decimal-short}
 use Rattle.margin_output.specs.declared.Tally.{Tally}
-use Rattle.margin_output.specs.Margins.{decimal, signed, directWord, standingLine, standingLines, countsLine}
+use Rattle.margin_output.specs.Margins.{signed, directWord, standingLine, standingLines, countsLine}
 use Rattle.margin_output.specs.Counts.{standsDirect, standsBelow, standsLevel, standsAbove, tallied, tallyOf}
 
 -- ---- counts
@@ -136,19 +137,7 @@ tally-few k standing t e =
     subst (λ (x : Tally). (x .direct ≤ k) × (x .below ≤ k) × (x .level ≤ k) × (x .above ≤ k)) (sym e)
     (count-le k (λ b. standsDirect (standing b)), count-le k (λ b. standsBelow (standing b)), count-le k (λ b. standsLevel (standing b)), count-le k (λ b. standsAbove (standing b)))
 
--- ---- digits
-
-pub decimal-one : (v : ℕ) → v < 10 → (48 + v) ∷ [] ≡ decimal v
-unfolding decimal
-decimal-one v h = sym (pick-yes _ _ _ (lt-ltb v 10 h))
-
-pub decimal-two : (v : ℕ) → 10 ≤ v → (48 + v / 10) ∷ (48 + v % 10) ∷ [] ≡ decimal v
-unfolding decimal
-decimal-two v h = sym (pick-no _ _ _ (le-ltb v 10 h))
-
-pub decimal-short : (v : ℕ) → length (decimal v) ≤ 2
-unfolding decimal
-decimal-short v = pick-case (λ (l : List ℕ). length l ≤ 2) (ltb v 10) ((48 + v) ∷ []) ((48 + v / 10) ∷ (48 + v % 10) ∷ []) (λ h. omega arith) (λ h. omega arith)
+-- ---- a margin in decimal
 
 -- a margin below zero, and another, by its size
 module _ (m : ℤ) (small : mag m ≤ 20) where
@@ -208,9 +197,6 @@ module _ (m : ℤ) (small : mag m ≤ 20) where
   pub size-read : (z : ℤ) → z ≡ pos (natAbs m) → T (nonNeg z) × Fits w8 (natAbs z)
   size-read z e = subst (λ (x : ℤ). T (nonNeg x) × Fits w8 (natAbs x)) (sym e) (tt, record { fits = lt-of-le-of-lt size-small (lit< tt) })
 
-  pub size-low : (z : ℤ) → z ≡ pos (natAbs m) → natAbs z < 100
-  size-low z e = subst (λ (x : ℤ). natAbs x < 100) (sym e) (let l = size-small in omega arith)
-
 -- ---- lines
 
 -- one part after the other, each with room
@@ -246,13 +232,13 @@ line-counts xs t p q r s u v w y =
     let six = then xs _ (32 ∷ []) (then xs _ (decimal (t .level)) four u) v in
     then xs _ (10 ∷ []) (then xs _ (decimal (t .above)) six w) y
 
--- a line has at most ten bytes, and the counts at most twelve
-signed-short : (m : ℤ) → length (signed m) ≤ 3
+-- a line has at most eleven bytes, and the counts at most sixteen
+signed-short : (m : ℤ) → length (signed m) ≤ 4
 unfolding signed
 signed-short (pos v) = let h = decimal-short v in omega arith
 signed-short (negsuc v) = let h = decimal-short (suc v) in omega arith
 
-line-short : (b : ℕ) (s : Standing) → length (standingLine b s) ≤ 10
+line-short : (b : ℕ) (s : Standing) → length (standingLine b s) ≤ 11
 unfolding standingLine
 line-short b Source = omega arith
 line-short b Direct =
@@ -264,7 +250,7 @@ line-short b (Margin m) =
     omega (arith, length-append (decimal b ++ (32 ∷ []) ++ signed m) (10 ∷ []), length-append (decimal b ++ (32 ∷ [])) (signed m), length-append (decimal b) (32 ∷ []))
 line-short b Absent = omega arith
 
-pub lines-short : (k : ℕ) (standing : ℕ → Standing) → length (standingLines k standing) ≤ 10 * k
+pub lines-short : (k : ℕ) (standing : ℕ → Standing) → length (standingLines k standing) ≤ 11 * k
 unfolding standingLines
 lines-short zero standing = omega arith
 lines-short (suc k) standing =
@@ -301,7 +287,7 @@ lines-absent n (suc k) standing f h =
     at-or-not : (a b : ℕ) → (a ≤ b) ⊎ (b < a)
     at-or-not a b = ⊎-elim inr inl (below-or-not b a)
 
-pub counts-short : (a b c d : ℕ) → length (countsLine a b c d) ≤ 12
+pub counts-short : (a b c d : ℕ) → length (countsLine a b c d) ≤ 16
 unfolding countsLine
 counts-short a b c d =
     let w = decimal-short a in

@@ -1,7 +1,7 @@
 -- What `margins` prints on any file (document 02, P1). Assumes nothing.
-use Prim.Native.Nat.{ℕ, zero, suc, _+_, _/_, _%_}
+use Prim.Native.Nat.{ℕ, zero, suc}
 use mathlib.Core.List.{List, [], _∷_, _++_}
-use lib.Dec.{eqb, ltb}
+use lib.Dec.{eqb}
 use lib.IntN.{ℤ, pos, negsuc}
 use Rattle.sets.specs.Tests.{pick}
 use Rattle.sets.specs.Sets.{Terminal}
@@ -10,13 +10,10 @@ use Rattle.closure.specs.Margin.{directOnes, belowZero, atZero, aboveZero}
 use Rattle.partition.specs.declared.Standing.{Standing}
 use Rattle.partition.specs.declared.Standing.the-variants.{Source, Direct, Margin, Absent}
 use Rattle.partition.specs.Margins.{standingOf, marginsCause}
+use Rattle.text.specs.Digits.{decimal}
 use Rattle.frames.specs.declared.FileRead.{FileRead}
 use Rattle.frames.specs.Reading.{marginsReading, fileRead}
 use Rattle.output.specs.OnFile.{refusalLine, textOn}
-
--- a number below a hundred in decimal, by the table of characters (ISO 646, in which 0 to 9 are 48 to 57), without a leading zero
-unfoldable pub decimal : ℕ → List ℕ
-decimal v = pick (ltb v 10) ((48 + v) ∷ []) ((48 + v / 10) ∷ (48 + v % 10) ∷ [])
 
 -- a minus sign before one below zero
 unfoldable pub signed : ℤ → List ℕ

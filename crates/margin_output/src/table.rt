@@ -4,24 +4,13 @@ ghost use Prim.Native.Nat.{ℕ, _<_, _≤_};
 ghost use lib.ListN.{length};
 ghost use lib.Signed.{mag};
 ghost use Rattle.text.specs.Texts.{held, joined};
-ghost use Rattle.margin_output.specs.Margins.{decimal, signed, directWord, standingLine, standingLines, countsLine};
+ghost use Rattle.margin_output.specs.Margins.{signed, directWord, standingLine, standingLines, countsLine};
 ghost use Rattle.margin_output.specs.Counts.{standingIn, Small};
 use super::Tally;
 use super::counting;
 use partition::Place;
 use partition::Standing;
 use text::Text;
-
-// A number in decimal: 48 is the character 0.
-fn with_number(t: Text, v: u8) -> Text
-    requires { ⌜ v < 100 ⌝ }
-    ensures { λ r. ⌜ held r ≡ joined (held t) (decimal v) ⌝ }
-{
-    if v < 10 {
-        return t.raw(48 + v);
-    }
-    t.raw(48 + v / 10).raw(48 + v % 10)
-}
 
 // A minus sign (45), where it is below zero, and its size.
 fn with_margin(t: Text, m: i32) -> Text
@@ -30,9 +19,9 @@ fn with_margin(t: Text, m: i32) -> Text
 {
     if counting::is_below(m) {
         let less = 0 - m;
-        return with_number(t.raw(45), less as u8);
+        return t.raw(45).decimal(less as u8);
     }
-    with_number(t, m as u8)
+    t.decimal(m as u8)
 }
 
 fn with_direct(t: Text) -> Text
@@ -43,13 +32,13 @@ fn with_direct(t: Text) -> Text
 
 // A terminal's line; the source has none.
 fn with_line(t: Text, b: u8, s: Standing) -> Text
-    requires { ⌜ (b < 100) × Small s × (length (held t) ≤ 344) ⌝ }
+    requires { ⌜ Small s × (length (held t) ≤ 344) ⌝ }
     ensures { λ r. ⌜ held r ≡ joined (held t) (standingLine b s) ⌝ }
 {
     match s {
         Standing::Source => t,
-        Standing::Direct => with_direct(with_number(t, b).raw(32)).raw(10),
-        Standing::Margin(m) => with_margin(with_number(t, b).raw(32), m).raw(10),
+        Standing::Direct => with_direct(t.decimal(b).raw(32)).raw(10),
+        Standing::Margin(m) => with_margin(t.decimal(b).raw(32), m).raw(10),
         Standing::Absent => t,
     }
 }
@@ -71,11 +60,10 @@ pub(crate) fn lines(places: [Place; 20]) -> Text
 
 // The last line.
 pub(crate) fn with_counts(t: Text, counts: Tally) -> Text
-    requires { ⌜ (counts .direct < 100) × (counts .below < 100) × (counts .level < 100) × (counts .above < 100) ⌝ }
     ensures { λ r. ⌜ held r ≡ joined (held t) (countsLine (counts .direct) (counts .below) (counts .level) (counts .above)) ⌝ }
 {
-    let one = with_number(t, counts.direct).raw(32);
-    let two = with_number(one, counts.below).raw(32);
-    let three = with_number(two, counts.level).raw(32);
-    with_number(three, counts.above).raw(10)
+    let one = t.decimal(counts.direct).raw(32);
+    let two = one.decimal(counts.below).raw(32);
+    let three = two.decimal(counts.level).raw(32);
+    three.decimal(counts.above).raw(10)
 }

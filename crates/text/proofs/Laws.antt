@@ -18,7 +18,7 @@ use Rattle.sets.proofs.Laws.{equal-or-not}
 use Rattle.digits.specs.Digits.{characterOf}
 use Rattle.digits.proofs.Laws.{character-no-end}
 use Rattle.text.specs.declared.Written.{Written}
-use Rattle.text.specs.Digits.{hexByte}
+use Rattle.text.specs.Digits.{hexByte, decimal}
 use Rattle.text.specs.Texts.{joined, writtenOf, putInto}
 
 -- ---- bytes as digits
@@ -147,3 +147,23 @@ put-back number text out h = ⊎-elim go (λ n. absurd (n (sym (given-decides nu
         let c = cause-none (ltb (length out) (length text)) 12 [] (λ y. omega arith) (sym (given-passes number (ltb (length out) (length text) gives 12 ∷ []) z) ∙ h) .0 in
         let k : length text ≤ length out = ltb-false (length out) (length text) c in
         (z, ap₂ take (pick-no _ _ _ c) (put-fits text out k ∙ sets-eq text out 0 (omega arith)) ∙ take-append-seam text (drop (0 + length text) out))
+
+-- ---- a byte in decimal
+
+pub decimal-one : (v : ℕ) → v < 10 → (48 + v) ∷ [] ≡ decimal v
+unfolding decimal
+decimal-one v h = sym (pick-yes _ _ _ (lt-ltb v 10 h))
+
+pub decimal-two : (v : ℕ) → 10 ≤ v → v < 100 → (48 + v / 10) ∷ (48 + v % 10) ∷ [] ≡ decimal v
+unfolding decimal
+decimal-two v h k = sym (pick-no _ _ _ (le-ltb v 10 h) ∙ pick-yes _ _ _ (lt-ltb v 100 k))
+
+pub decimal-three : (v : ℕ) → 100 ≤ v → (48 + v / 100) ∷ (48 + v / 10 % 10) ∷ (48 + v % 10) ∷ [] ≡ decimal v
+unfolding decimal
+decimal-three v h = sym (pick-no _ _ _ (le-ltb v 10 (omega arith)) ∙ pick-no _ _ _ (le-ltb v 100 h))
+
+pub decimal-short : (v : ℕ) → length (decimal v) ≤ 3
+unfolding decimal
+decimal-short v =
+    pick-case (λ (l : List ℕ). length l ≤ 3) (ltb v 10) _ _ (λ h. omega arith)
+    (λ h. pick-case (λ (l : List ℕ). length l ≤ 3) (ltb v 100) _ _ (λ k. omega arith) (λ k. omega arith))

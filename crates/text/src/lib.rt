@@ -1,4 +1,4 @@
-// Text out: bytes as hexadecimal digits, a text that is put together by value, and a text put into a
+// Text out: bytes as hexadecimal digits and in decimal, a text that is put together by value, and a text put into a
 // lent list once it is whole.
 ghost use mathlib.Core.Path.{_≡_};
 ghost use mathlib.Core.List.{[], _∷_};
@@ -6,7 +6,7 @@ ghost use Prim.Native.Nat.{_≤_, _/_, _%_};
 ghost use lib.ListN.{length};
 ghost use lib.Seq.{paste};
 ghost use Rattle.digits.specs.Digits.{characterOf};
-ghost use Rattle.text.specs.Digits.{hexByte, hexPair, hexTriple};
+ghost use Rattle.text.specs.Digits.{hexByte, hexPair, hexTriple, decimal};
 ghost use Rattle.text.specs.Texts.{held, joined, writtenOf, putInto};
 
 // The bytes that a text has room for.
@@ -111,6 +111,21 @@ impl Text {
     {
         let low = v % 16777216;
         self.byte((low / 65536) as u8).pair((low % 65536) as u16)
+    }
+
+    // A byte in decimal: 48 is the character 0.
+    pub fn decimal(self, v: u8) -> Text
+        ensures { λ r. ⌜ held r ≡ joined (held self) (decimal v) ⌝ }
+    {
+        if v < 10 {
+            return self.raw(48 + v);
+        }
+        if v < 100 {
+            return self.raw(48 + v / 10).raw(48 + v % 10);
+        }
+        self.raw(48 + v / 100)
+            .raw(48 + v / 10 % 10)
+            .raw(48 + v % 10)
     }
 
     // How many bytes it holds.

@@ -1,13 +1,14 @@
 -- What the verdict's answer tells of a bound, which records are refused, and how many bounds are counted. Assumes nothing.
 use Prim.Native.Nat.{ℕ, suc, _≤_, _<_}
-use mathlib.Core.Path.{_≡_, refl, sym, ap, ap₂, _∙_}
+use mathlib.Core.Path.{_≡_, refl, sym, ap, ap₂, _∙_, subst}
 use mathlib.Core.Logic.{⊎-elim}
 use mathlib.Core.Bool.{true, false}
 use native.Mathlib.Omega.{arith}
-use borrow.Author.Tests.{lt-ltb, eq-eqb, ne-eqb}
+use borrow.Author.Tests.{lt-ltb, eq-eqb, ne-eqb, eqb-true}
+use lib.Dec.{eqb}
 use Rattle.sets.specs.Tests.{_and_, pick}
 use Rattle.sets.specs.Sets.{all}
-use Rattle.sets.proofs.Bools.{clash, decide, and-l, and-r, and-i, not-i, no-by, pick-yes, pick-no}
+use Rattle.sets.proofs.Bools.{clash, decide, and-l, and-r, and-i, not-i, no-by, pick-yes, pick-no, pick-case}
 use Rattle.sets.proofs.Causes.{cause-here}
 use Rattle.quorum.specs.declared.BoundKind.the-variants.{Most}
 use Rattle.quorum.specs.Quorum.{atMost, inRange, groupsSound, groupAt}
@@ -41,18 +42,29 @@ module _ (p : Plan) (z : causeOf p ≡ 0) where
 -- ---- the records
 
 module _ (d : Drawing) where
-  -- a drawing that is sound with the bound 0 is so with every other below n
+  pub greatest-sound : causeOf (withBound d 0) ≡ 0 → greatestOf d ≡ record { number = 0; passed = greatest d }
+  unfolding greatestOf
+  greatest-sound z = pick-yes _ _ _ (eq-eqb (causeOf (withBound d 0)) 0 z)
+
+  -- a drawing that is sound with one bound is so with every other below n
+  sound-other : (f g : ℕ) → causeOf (withBound d f) ≡ 0 → g < d .n → causeOf (withBound d g) ≡ 0
+  unfolding inRange linksSound heardBy groupsSound groupAt
+  sound-other f g z l =
+      let t = tests (withBound d f) z in
+      let r = t .range in
+      tested (withBound d g)
+      (record {
+        range = and-i _ _ (and-l _ _ r) (and-i _ _ (and-l _ _ (and-r _ _ r)) (and-i _ _ (and-l _ _ (and-r _ _ (and-r _ _ r))) (lt-ltb g (d .n) l)));
+        links = t .links;
+        groups = t .groups;
+      })
+
+  pub sound-zero : (f : ℕ) → causeOf (withBound d f) ≡ 0 → causeOf (withBound d 0) ≡ 0
+  sound-zero f z = let l = sound (withBound d f) z .source-below in sound-other f 0 z (omega arith)
+
   module _ (z : causeOf (withBound d 0) ≡ 0) where
     pub sound-with : (f : ℕ) → f < d .n → causeOf (withBound d f) ≡ 0
-    unfolding inRange linksSound heardBy groupsSound groupAt
-    sound-with f l =
-        let t = tests (withBound d 0) z in
-        tested (withBound d f)
-        (record {
-          range = and-i _ _ (and-l _ _ (t .range)) (and-i _ _ (and-l _ _ (and-r _ _ (t .range))) (and-i _ _ (and-l _ _ (and-r _ _ (and-r _ _ (t .range)))) (lt-ltb f (d .n) l)));
-          links = t .links;
-          groups = t .groups;
-        })
+    sound-with f l = sound-other 0 f z l
 
     -- what is answered of the plan with a bound
     module _ (f : ℕ) (l : f < d .n) (q : Plan) (e : q ≡ withBound d f) (a : Answer) (t : a ≡ answerOf q) where
@@ -91,11 +103,18 @@ module _ (d : Drawing) where
         highest-only d (d .n) _ _ (record { most = omega arith; above = λ g m k. absurd (omega arith); last = last }) (highest d)
 
     pub told-greatest : (r : Greatest) → told r .number ≡ 0 → height (told r .passed) ≡ height (greatest d) → told r ≡ greatestOf d
-    unfolding greatestOf
-    told-greatest r n h = told-both (told r) n (same-height _ _ h) ∙ sym (pick-yes _ _ _ (eq-eqb (causeOf (withBound d 0)) 0 z))
+    told-greatest r n h = told-both (told r) n (same-height _ _ h) ∙ sym (greatest-sound z)
       where
         told-both : (t : Told) → t .number ≡ 0 → t .passed ≡ greatest d → t ≡ record { number = 0; passed = greatest d }
         told-both t n p = ap₂ (λ (a : ℕ) (b : Tolerance). record { number = a; passed = b }) n p
+
+  -- at most twenty bounds pass, and none of a record that is refused
+  pub height-small : (t : Told) → t ≡ greatestOf d → height (t .passed) ≤ 20
+  unfolding greatestOf
+  height-small t e =
+      subst (λ (x : Told). height (x .passed) ≤ 20) (sym e)
+      (pick-case (λ (x : Told). height (x .passed) ≤ 20) (eqb (causeOf (withBound d 0)) 0) _ _
+      (λ z. let m = highest d .most in let w = twenty (eqb-true (causeOf (withBound d 0)) 0 z) in omega arith) (λ z. omega arith))
 
   pub told-refused : (k : ℕ) → suc k ≡ causeOf (withBound d 0) → record { number = suc k; passed = none } ≡ greatestOf d
   unfolding greatestOf

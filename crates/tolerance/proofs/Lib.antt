@@ -5,4 +5,4 @@ mod Heard
 mod Heights
 pub mod Links
 pub mod Rows
-mod Answers
+pub mod Answers

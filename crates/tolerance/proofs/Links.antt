@@ -1,18 +1,18 @@
 -- What other links and other bounds do to what a drawing passes. Assumes nothing.
-use Prim.Native.Nat.{ℕ, _+_, _-_, _≤_, _<_}
+use Prim.Native.Nat.{ℕ, zero, suc, _+_, _-_, _≤_, _<_}
 use mathlib.Core.Path.{_≡_, refl, sym, ap, _∙_, subst}
 use mathlib.Core.Logic.{⊎-elim}
 use mathlib.Core.Bool.{true, false, not}
 use mathlib.Core.List.{List}
 use native.Mathlib.Omega.{arith}
-use lib.Dec.{eqb}
+use lib.Dec.{eqb, ltb}
 use lib.ListN.{getD, set, length, length-set, List·getD-eq-default}
 use lib.Pow.{pow-pos}
 use lib.Seq.{getD-set-same}
 use borrow.Author.Tests.{ltb-true, lt-ltb, eq-eqb, ne-eqb}
 use Rattle.sets.specs.Tests.{_and_}
 use Rattle.sets.specs.Sets.{mem, without}
-use Rattle.sets.proofs.Bools.{clash, decide, and-l, and-r, and-i, not-i, not-e, no-by}
+use Rattle.sets.proofs.Bools.{clash, decide, and-l, and-r, and-i, not-i, not-e, no-by, same-test}
 use Rattle.sets.proofs.Laws.{below-or-not, equal-or-not, mem-zero, mem-mask, mask-of, count-mono, some-member}
 use Rattle.plan.specs.Plan.{heardBy, hears}
 use Rattle.plan.specs.Deaf.{isDeaf, deafSet}
@@ -22,7 +22,7 @@ use Rattle.closure.proofs.Growth.{joins-source, reached-source, reached-closed}
 use Rattle.closure.proofs.Witness.{cut-below, cut-good, cut-unreached, defeats-cuts, verdict-fail}
 use Rattle.closure.proofs.Deaf.{deaf-fails}
 use Rattle.tolerance.specs.declared.Drawing.{Drawing}
-use Rattle.tolerance.specs.Greatest.{withBound, passesWith, none, upTo, greatest}
+use Rattle.tolerance.specs.Greatest.{withBound, passesWith, none, upTo, greatest, height}
 use Rattle.tolerance.specs.Links.{linked, redrawn, withoutLink, LinksCost}
 use Rattle.tolerance.proofs.Carries.{carried}
 use Rattle.tolerance.proofs.Heard.{heardOf, enough-is, linked-is, link-kept, one-fewer}
@@ -43,6 +43,16 @@ module _ (d : Drawing) (k : d .source < d .n) where
   pub smaller : (f g : ℕ) → g ≤ f → passesWith d f ≡ true → passesWith d g ≡ true
   unfolding passesWith heardOf
   smaller f g l = passes-still d k f (d .rows) g (λ b m h. h) (λ b s m h. omega arith)
+
+  decides : (f : ℕ) → f < d .n → passesWith d f ≡ ltb f (height (greatest d))
+  decides f l =
+      same-test _ _
+      (λ t. lt-ltb f _ (⊎-elim (λ b. b) (λ b. clash t (highest d .above f b l)) (below-or-not f (height (greatest d)))))
+      (λ t. up-to (height (greatest d)) refl (ltb-true f (height (greatest d)) t))
+    where
+      up-to : (h : ℕ) → height (greatest d) ≡ h → f < h → passesWith d f ≡ true
+      up-to zero e m = absurd (omega arith)
+      up-to (suc g) e m = smaller g f (omega arith) (highest d .last g (sym e))
 
   one-less : (a b : ℕ) → (a ≡ d .source → ⊥) → (f : ℕ) → passesWith d (f + 1) ≡ true → passesWith (withoutLink d a b) f ≡ true
   one-less a b e f =
@@ -121,6 +131,7 @@ emptied d a b only =
 pub links-cost : (d : Drawing) → d .source < d .n → LinksCost d
 links-cost d k = record {
   is-greatest = greatest-is d;
+  decides = decides d k;
   smaller = smaller d k;
   one-less = one-less d k;
   at-most-one = λ a b e. height-one d (withoutLink d a b) refl (one-less d k a b e);

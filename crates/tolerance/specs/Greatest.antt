@@ -12,6 +12,10 @@ use Rattle.tolerance.specs.declared.Drawing.{Drawing}
 abbrev pub withBound : Drawing → (f : ℕ) → Plan
 withBound d f = record { n = d .n; source = d .source; bound = atMost f; rows = d .rows }
 
+-- and a plan has a drawing, whatever its bound
+abbrev pub drawingOf : Plan → Drawing
+drawingOf p = record { n = p .n; source = p .source; rows = p .rows }
+
 unfoldable pub passesWith : Drawing → (f : ℕ) → Bool
 passesWith d f = verdict (withBound d f) .passed
 

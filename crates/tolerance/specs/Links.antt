@@ -3,6 +3,7 @@ use Prim.Native.Nat.{ℕ, _+_, _-_, _≤_, _<_}
 use mathlib.Core.Path.{_≡_}
 use mathlib.Core.Bool.{Bool, true}
 use mathlib.Core.List.{List}
+use lib.Dec.{ltb}
 use lib.ListN.{getD, set}
 use Rattle.sets.specs.Sets.{Terminal, Set, without}
 use Rattle.plan.specs.Plan.{hears}
@@ -25,6 +26,8 @@ withoutLink d a b = redrawn d (set (d .rows) b (without (d .n) (getD (d .rows) b
 -- of every drawing whose source is one of its terminals
 pub record LinksCost (d : Drawing) : Type 0 where
   pub is-greatest : IsGreatest d (greatest d)
+  -- it passes exactly for the bounds up to that
+  pub decides : (f : ℕ) → f < d .n → passesWith d f ≡ ltb f (height (greatest d))
   -- one that passes for f passes for every smaller bound
   pub smaller : (f g : ℕ) → g ≤ f → passesWith d f ≡ true → passesWith d g ≡ true
   -- without a link that doesn't start at the source it passes for one less; so the greatest f is lowered by at most one, from 0 to none included

@@ -2,7 +2,6 @@
 use native.Mathlib.Omega.{arith}
 use borrow.Author.Needs.{needs}
 use Rattle.partition.specs.declared.Outcome.the-variants.{WrongRange, WrongLink}
-use Rattle.margin_output.proofs.TableLaws.{tally-few}
 use Rattle.margin_output.proofs.AnswerLaws.{places-small, answer-known, answer-refused}
 use Rattle.margin_output.proofs.answer.Statement.{statement}
 use Rattle.margin_output.proofs.answer.Tie as tie
@@ -17,7 +16,7 @@ counted-requires : tie.Need-counted-requires
 counted-requires c κs = search needs
 
 with-counts-requires : tie.Need-with-counts-requires
-with-counts-requires c κs = let few = tally-few 20 _ _ (c .counted .ensures) in (omega (arith, few .0), omega (arith, few .1), omega (arith, few .2), omega (arith, few .3))
+with-counts-requires c κs = search needs
 
 enum-told-2 : tie.Need-enum-told-2
 enum-told-2 c = search needs

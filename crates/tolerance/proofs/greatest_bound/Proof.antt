@@ -1,7 +1,8 @@
-use Rattle.tolerance.proofs.Answers.{told-greatest, told-refused, never-seventeen}
-use Rattle.plan.specs.Plan.{numberOf, causeOf}
+-- The plan's cause decides, then the count. Assumes nothing.
 use mathlib.Core.Path.{sym, ap, _∙_}
 use borrow.Author.Needs.{needs}
+use Rattle.plan.specs.Plan.{numberOf, causeOf}
+use Rattle.tolerance.proofs.Answers.{told-greatest, told-refused, never-seventeen}
 use Rattle.tolerance.proofs.greatest_bound.Statement.{statement}
 use Rattle.tolerance.proofs.greatest_bound.Tie as tie
 

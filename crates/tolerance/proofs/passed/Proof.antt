@@ -1,9 +1,10 @@
-use Rattle.tolerance.proofs.Answers.{twenty, counted, counted-all}
-use Rattle.tolerance.specs.Greatest.{passesWith}
-use native.Mathlib.Omega.{arith}
+-- All bounds so far pass. Assumes nothing.
+use Prim.Native.Nat.{ℕ, suc, _-_, _≤_}
 use mathlib.Core.Bool.{true}
 use mathlib.Core.Path.{_≡_, sym, ap, _∙_}
-use Prim.Native.Nat.{ℕ, suc, _-_, _≤_}
+use native.Mathlib.Omega.{arith}
+use Rattle.tolerance.specs.Greatest.{passesWith}
+use Rattle.tolerance.proofs.Answers.{twenty, counted, counted-all}
 use Rattle.tolerance.proofs.passed.Statement.{statement}
 use Rattle.tolerance.proofs.passed.Tie as tie
 

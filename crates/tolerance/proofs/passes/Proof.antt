@@ -1,9 +1,10 @@
-use Rattle.tolerance.proofs.Answers.{never-refused, told-pass, told-fail}
+-- The verdict's answer tells it. Assumes nothing.
+use mathlib.Core.Path.{ap}
+use native.Mathlib.Omega.{arith}
+use borrow.Author.Needs.{needs}
 use Rattle.partition.specs.declared.Judgement.{Judgement}
 use Rattle.partition.specs.Answer.{answered}
-use native.Mathlib.Omega.{arith}
-use mathlib.Core.Path.{ap}
-use borrow.Author.Needs.{needs}
+use Rattle.tolerance.proofs.Answers.{never-refused, told-pass, told-fail}
 use Rattle.tolerance.proofs.passes.Statement.{statement}
 use Rattle.tolerance.proofs.passes.Tie as tie
 

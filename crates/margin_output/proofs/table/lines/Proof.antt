@@ -34,7 +34,7 @@ cast-with-line : tie.Need-cast-with-line Inv-loop μ-loop
 cast-with-line c = omega arith
 
 with-line-requires : tie.Need-with-line-requires Inv-loop μ-loop
-with-line-requires c κs = let turn = c .before .before .loop in let short = lines-short (turn .b) (standingIn (c .before .before .before .before .args .t1)) in let e = ap length (turn .inv .1) in (omega arith, c .before .before .before .before .pre (turn .b) (omega arith), omega (arith, short, e))
+with-line-requires c κs = let turn = c .before .before .loop in let short = lines-short (turn .b) (standingIn (c .before .before .before .before .args .t1)) in let e = ap length (turn .inv .1) in (c .before .before .before .before .pre (turn .b) (omega arith), omega (arith, short, e))
 
 add-b : tie.Need-add-b Inv-loop μ-loop
 add-b c = omega arith
