@@ -3,7 +3,7 @@ use Prim.Native.Nat.{_≤_}
 use mathlib.Core.Path.{sym, subst}
 use borrow.Author.Needs.{needs}
 use Rattle.frames.specs.declared.FileRead.{FileRead}
-use Rattle.frames.specs.Reading.{archiveReader, archiveReading}
+use Rattle.frames.specs.Reading.{archiveReading}
 use Rattle.frames.proofs.Accepted.{reading-twenty}
 use Rattle.frames.proofs.FileLaws.{archived}
 use Rattle.frames.proofs.read_archive.Statement.{statement}
@@ -13,7 +13,7 @@ read-plan-file-requires : tie.Need-read-plan-file-requires
 read-plan-file-requires c κs = search needs
 
 deaf-set-requires : tie.Need-deaf-set-requires
-deaf-set-requires c κs = subst (λ (f : FileRead). f .progress .plan .n ≤ 20) (sym (c .read-plan-file .ensures)) (reading-twenty archiveReader _)
+deaf-set-requires c κs = subst (λ (f : FileRead). f .progress .plan .n ≤ 20) (sym (c .read-plan-file .ensures)) (reading-twenty _ _)
 
 returns : tie.Need-returns
 unfolding archiveReading
