@@ -371,42 +371,43 @@ fn silent(checks: &mut Checks, label: &str, out: &str, status: i32) {
     checks.holds(&format!("{label} has no greatest bound"), is);
 }
 
+const REFUSED: [(&str, &str); 8] = [
+    (
+        "terminals 21\nsource 0\ngroup 1\n",
+        "refused, line 1 (terminals 21): 2 to 20 terminals are allowed (cause 4)",
+    ),
+    (
+        "terminals 21\nsource 0\n",
+        "refused, line 1 (terminals 21): 2 to 20 terminals are allowed (cause 4)",
+    ),
+    (
+        "terminals 4\nsource 4\n0 > 1\n",
+        "refused, line 2 (source 4): 0 to 3 are allowed for 4 terminals (cause 4)",
+    ),
+    (
+        "terminals 4\nsource 0\nbound 4\n",
+        "refused, line 3 (bound 4): 0 to 3 are allowed for 4 terminals (cause 4)",
+    ),
+    (
+        "terminals 4\nsource 0\n0 > 1\n2 > 1 4\n",
+        "refused, line 4 (2 > 4): the terminals are 0 to 3 (cause 5)",
+    ),
+    (
+        "terminals 4\nsource 0\nbound 1\n0 > 1 1\n",
+        "refused, line 4 (0 > 1): line 4 has this link already (cause 6)",
+    ),
+    (
+        "source 0\n0 > 1\n",
+        "line 2: expected 'terminals NUMBER' before the first link",
+    ),
+    (
+        "terminals 2\nsource 0\ngroup 1\nbound 1\n",
+        "line 4: 'bound', and line 3 has a 'group': a plan has a bound or groups, not both",
+    ),
+];
+
 fn refused_texts(checks: &mut Checks) {
-    let table = [
-        (
-            "terminals 21\nsource 0\ngroup 1\n",
-            "refused, line 1 (terminals 21): 2 to 20 terminals are allowed (cause 4)",
-        ),
-        (
-            "terminals 21\nsource 0\n",
-            "refused, line 1 (terminals 21): 2 to 20 terminals are allowed (cause 4)",
-        ),
-        (
-            "terminals 4\nsource 4\n0 > 1\n",
-            "refused, line 2 (source 4): 0 to 3 are allowed for 4 terminals (cause 4)",
-        ),
-        (
-            "terminals 4\nsource 0\nbound 4\n",
-            "refused, line 3 (bound 4): 0 to 3 are allowed for 4 terminals (cause 4)",
-        ),
-        (
-            "terminals 4\nsource 0\n0 > 1\n2 > 1 4\n",
-            "refused, line 4 (2 > 4): the terminals are 0 to 3 (cause 5)",
-        ),
-        (
-            "terminals 4\nsource 0\nbound 1\n0 > 1 1\n",
-            "refused, line 4 (0 > 1): line 4 has this link already (cause 6)",
-        ),
-        (
-            "source 0\n0 > 1\n",
-            "line 2: expected 'terminals NUMBER' before the first link",
-        ),
-        (
-            "terminals 2\nsource 0\ngroup 1\nbound 1\n",
-            "line 4: 'bound', and line 3 has a 'group': a plan has a bound or groups, not both",
-        ),
-    ];
-    for (text, told) in table {
+    for (text, told) in REFUSED {
         for word in ["greatest", "links"] {
             let done = checks.call_with(&[word], text.as_bytes());
             checks.tells(&format!("{word} of {text:?}"), &done, 1, told);
