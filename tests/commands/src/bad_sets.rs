@@ -1,15 +1,23 @@
-//! Margins by the words of the request (document 02, P1): every set of terminals is tried.
+//! Margins, and the greatest bound, by the words of the requests (document 02, P1 and P13): every set
+//! of terminals is tried, and every bound.
 
 use std::collections::BTreeMap;
 
 /// A plan with a bound, by its frames.
+#[derive(Clone)]
 pub struct Site {
     terminals: u8,
-    source: u8,
+    pub source: u8,
     bound: u32,
     /// By hearer, whom it hears as a number whose bit j is terminal j.
     hears: BTreeMap<u8, u32>,
 }
+
+/// A sender and a hearer.
+pub type Link = (u8, u8);
+
+/// None where the drawing fails for 0, which counts as one step below it.
+pub type Greatest = Option<u32>;
 
 /// None where the terminal hears the source.
 pub type Margins = BTreeMap<u8, Option<i32>>;
@@ -104,8 +112,45 @@ impl Site {
         table + &format!("{direct} {below} {at} {above}\n")
     }
 
-    /// As `explain` tells them, of a file without names.
+    fn passes(&self) -> bool {
+        let all = (1 << self.terminals) - 1;
+        (0..=all)
+            .filter(|set| self.may_be_bad(*set))
+            .all(|bad| self.reached(bad) | bad == all)
+    }
+
+    /// From above, so that nothing is taken for granted of the smaller ones.
+    pub fn greatest(&self) -> Greatest {
+        let mut bounds = (0..u32::from(self.terminals)).rev();
+        bounds.find(|bound| {
+            let bound = *bound;
+            Site {
+                bound,
+                ..self.clone()
+            }
+            .passes()
+        })
+    }
+
+    /// What is left of it without each link, by sender and then by hearer.
+    pub fn without_links(&self) -> Vec<(Link, Greatest)> {
+        let all =
+            (0..self.terminals).flat_map(|from| (0..self.terminals).map(move |to| (from, to)));
+        all.filter(|(from, to)| self.heard_of(*to, 1 << from) == 1)
+            .map(|(from, to)| {
+                let mut site = self.clone();
+                site.hears.insert(to, self.hears[&to] & !(1 << from));
+                ((from, to), site.greatest())
+            })
+            .collect()
+    }
+
+    /// As `explain` tells of the greatest bound and the margins, of a file without names.
     pub fn told(&self) -> String {
+        greatest_told(self.greatest()) + &self.margins_told()
+    }
+
+    fn margins_told(&self) -> String {
         let margins = self.margins();
         let mut rows: Vec<(i32, u8)> = margins
             .iter()
@@ -127,6 +172,13 @@ impl Site {
             false => format!("hear the source (direct): {}\n", direct.join(", ")),
         };
         heading(self.bound + 1) + &rows.collect::<String>() + &last
+    }
+}
+
+pub fn greatest_told(greatest: Greatest) -> String {
+    match greatest {
+        Some(bound) => format!("the greatest bound for which this drawing passes is {bound}\n"),
+        None => "this drawing fails for every bound, even for 0\n".into(),
     }
 }
 

@@ -85,9 +85,12 @@ fn first_use(checks: &mut Checks, copy: &Copy) {
     copy.calls();
 }
 
+/// What `explain` and `draw` may ask.
+const ALL_OF_A_PLAN: &str = "verdict archive run rewrite margins greatest";
+
 /// A word has the programs proved that it asks, and no other; `verdict` has its own by now. What is
 /// proved for one word serves the others that ask it.
-const EACH_WORD: [(&str, &str); 17] = [
+const EACH_WORD: [(&str, &str); 21] = [
     ("verdict", ""),
     ("check", "archive"),
     ("archive", ""),
@@ -95,7 +98,9 @@ const EACH_WORD: [(&str, &str); 17] = [
     ("run", "run"),
     ("trace", ""),
     ("mend", "verdict archive run rewrite"),
-    ("explain", "verdict archive run rewrite margins"),
+    ("links", "greatest"),
+    ("greatest", ""),
+    ("explain", ALL_OF_A_PLAN),
     ("draw", ""),
     ("margins", ""),
     ("with-bad", ""),
@@ -105,6 +110,8 @@ const EACH_WORD: [(&str, &str); 17] = [
     ("verdict", ""),
     ("quote", ""),
     ("margins", ""),
+    ("greatest", ""),
+    ("links", ""),
 ];
 
 fn each_word(checks: &mut Checks, copy: &Copy) {
@@ -140,16 +147,16 @@ fn several_words(checks: &mut Checks, copy: &Copy) {
         ("mend", "margins", String::new()),
         ("margins", "margins", call("margins")),
         ("margins", "verdict", String::new()),
-        (
-            "draw",
-            "margins",
-            call("verdict archive run rewrite margins"),
-        ),
-        (
-            "explain",
-            "margins",
-            call("verdict archive run rewrite margins"),
-        ),
+        ("margins", "greatest", String::new()),
+        ("mend", "greatest", String::new()),
+        ("greatest", "greatest", call("greatest")),
+        ("greatest", "archive", String::new()),
+        ("links", "greatest", call("greatest")),
+        ("links", "verdict", String::new()),
+        ("draw", "greatest", call(ALL_OF_A_PLAN)),
+        ("explain", "greatest", call(ALL_OF_A_PLAN)),
+        ("draw", "margins", call(ALL_OF_A_PLAN)),
+        ("explain", "margins", call(ALL_OF_A_PLAN)),
     ];
     for (word, gone, wanted) in table {
         copy.remove(&format!("target/bin/{gone}"));
@@ -175,6 +182,7 @@ fn newer_sources(checks: &mut Checks, copy: &Copy) {
         ("tools/site/Cargo.toml", cargo),
         ("crates/quote/src/main.rt", String::new()),
         ("crates/margins/src/main.rt", String::new()),
+        ("crates/greatest/src/main.rt", String::new()),
         ("crates/other/src/lib.rt", String::new()),
         ("README.md", String::new()),
     ];

@@ -3,12 +3,12 @@
 use crate::checks::{done, read, Checks};
 use std::process::Command;
 
-const WORDS: [&str; 15] = [
-    "check", "explain", "draw", "mend", "with-bad", "trace", "verdict", "archive", "quote",
-    "margins", "run", "show", "plan", "rewrite", "test",
+const WORDS: [&str; 17] = [
+    "check", "explain", "draw", "mend", "with-bad", "greatest", "links", "trace", "verdict",
+    "archive", "quote", "margins", "run", "show", "plan", "rewrite", "test",
 ];
-const ONE_FILE: [&str; 7] = [
-    "explain", "draw", "mend", "trace", "show", "plan", "rewrite",
+const ONE_FILE: [&str; 8] = [
+    "explain", "draw", "mend", "links", "trace", "show", "plan", "rewrite",
 ];
 
 pub fn check(checks: &mut Checks) {
@@ -91,7 +91,7 @@ fn frames_page(checks: &mut Checks) {
 }
 
 /// Calls that no file can mend.
-const WRONG: [(&[&str], &str); 15] = [
+const WRONG: [(&[&str], &str); 18] = [
     (
         &["mend", "--calls=x", "plans/a.txt"],
         "'--calls=x' has no number after the '='",
@@ -122,6 +122,12 @@ const WRONG: [(&[&str], &str); 15] = [
     (&["archive", "--csv"], "'archive' has no option '--csv'"),
     (&["quote", "--mend"], "'quote' has no option '--mend'"),
     (&["margins", "--csv"], "'margins' has no option '--csv'"),
+    (&["greatest", "--mend"], "'greatest' has no option '--mend'"),
+    (&["links", "--calls=9"], "'links' has no option '--calls=9'"),
+    (
+        &["link", "plans/a.txt"],
+        "unknown word 'link'; './hulmayek help' lists the words",
+    ),
     (
         &["margin", "plans/a.txt"],
         "unknown word 'margin'; './hulmayek help' lists the words",
@@ -184,6 +190,8 @@ fn unwritable_output(checks: &mut Checks) {
         ("archive plans/b.hex >/dev/full", full),
         ("quote plans/h.hex >/dev/full", full),
         ("margins plans/h.hex >/dev/full", full),
+        ("greatest plans/h.hex >/dev/full", full),
+        ("links plans/h.hex >/dev/full", full),
         ("explain plans/h.txt >/dev/full", full),
         ("check plans/a.txt >/dev/full", full),
         ("draw plans/h.txt >/dev/full", full),
@@ -192,6 +200,8 @@ fn unwritable_output(checks: &mut Checks) {
         ("verdict plans/h.hex >&-", closed),
         ("quote plans/h.hex >&-", closed),
         ("margins plans/h.hex >&-", closed),
+        ("greatest plans/h.hex >&-", closed),
+        ("links plans/h.hex >&-", closed),
         ("check plans/a.txt >&-", closed),
         ("help >&-", closed),
     ];

@@ -1,7 +1,9 @@
 //! Deaf terminals: others than the source that hear nobody. A new plan with one is refused, and the
 //! archive opens it (document 02, P6). What each word makes of such a plan is worked out by hand.
 
+use crate::bad_sets::greatest_told;
 use crate::checks::{lines, Checks};
+use crate::greatest;
 use crate::margins;
 use crate::plans::files_in;
 use crate::quote::alike;
@@ -90,6 +92,8 @@ const SITES: [Site; 4] = [
     },
 ];
 
+const NOTHING_TO_LOSE: &str = "this drawing fails for every bound, even for 0\nno link costs anything, since there is nothing to lose\n";
+
 fn refusal(hear: &str) -> String {
     format!("refused, the whole file: {hear}; {RULE}")
 }
@@ -115,7 +119,8 @@ fn explained(checks: &mut Checks, site: &Site) {
         "fail: even with no bad terminal, the cut-off ones wait for ever",
         "bad (F): none",
     ];
-    let wanted = lines(&new) + &lines(&archived) + &lines(site.told);
+    let told = lines(site.told) + &greatest_told(None);
+    let wanted = lines(&new) + &lines(&archived) + &told;
     let done = checks.call_with(&["explain"], site.text.as_bytes());
     checks.ends(
         &format!("explain of {:?}", site.text),
@@ -144,6 +149,8 @@ fn read_as_the_archive(checks: &mut Checks, site: &Site) {
         let table = [
             ("archive", 0, verdict.as_str()),
             ("check", 3, "fail\n"),
+            ("greatest", 0, "none\n"),
+            ("links", 0, NOTHING_TO_LOSE),
             ("plan", 0, &frames),
             ("rewrite", 0, &frames),
             ("show", 0, shown),
@@ -194,6 +201,7 @@ fn where_the_links_end(checks: &mut Checks) {
         }
         if word == "verdict" {
             margins::refuses(checks, frames, wanted);
+            greatest::like_archive(checks, frames);
         }
     }
 }
@@ -264,6 +272,8 @@ fn plan_of_a_run(checks: &mut Checks) {
     let table = [
         ("archive", 0, "8101000000000003000004\n"),
         ("check", 3, "fail\n"),
+        ("greatest", 0, "none\n"),
+        ("links", 0, NOTHING_TO_LOSE),
     ];
     for (word, status, wanted) in table {
         let done = checks.call_with(&[word], DEAF_RUN.as_bytes());

@@ -3,6 +3,7 @@
 
 use crate::answers::EXAMPLE;
 use crate::checks::{lines, Checks};
+use crate::greatest;
 use crate::margins;
 use crate::quote::alike;
 
@@ -188,6 +189,7 @@ pub fn refused(checks: &mut Checks, Row(program, answer, why, _): &Row, frames: 
     }
     if *program == "verdict" {
         margins::refuses(checks, frames, answer);
+        greatest::like_archive(checks, frames);
     }
     let done = checks.call(&["explain", &file]);
     let wanted = format!("{answer}\n{told}\n");
@@ -249,6 +251,7 @@ pub fn answered(checks: &mut Checks, table: &[(&str, Vec<&str>, &str)]) {
         }
         if *word == "verdict" {
             margins::refuses(checks, frames, wanted);
+            greatest::like_archive(checks, frames);
         }
     }
 }

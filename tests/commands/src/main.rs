@@ -5,11 +5,13 @@ mod bad_sets;
 mod builds;
 mod calls;
 mod checks;
+mod cost_pictures;
 mod deaf;
 mod edition_frames;
 mod edition_pictures;
 mod edition_texts;
 mod editions;
+mod greatest;
 mod group_frames;
 mod group_mends;
 mod group_pictures;
@@ -37,7 +39,7 @@ use std::process::ExitCode;
 
 type Topic = (&'static str, fn(&mut Checks));
 
-const TOPICS: [Topic; 16] = [
+const TOPICS: [Topic; 17] = [
     ("answers", answers::check),
     ("calls", calls::check),
     ("plans", plans::check),
@@ -47,6 +49,7 @@ const TOPICS: [Topic; 16] = [
     ("deaf", deaf::check),
     ("quote", quote::check),
     ("margins", margins::check),
+    ("greatest", greatest::check),
     ("groups", groups::check),
     ("editions", editions::check),
     ("shared", shared::check),

@@ -269,8 +269,8 @@ fn refused_drawing(checks: &mut Checks) {
     checks.ends("verdict of j", &done, 1, "ff040001\n", "");
     let why = "refused, line 2 (terminals 1): 2 to 20 terminals are allowed (cause 4)";
     for word in [
-        "plan", "verdict", "archive", "quote", "margins", "check", "explain", "draw", "show",
-        "mend",
+        "plan", "verdict", "archive", "quote", "margins", "greatest", "links", "check", "explain",
+        "draw", "show", "mend",
     ] {
         let done = checks.call(&[word, "plans/j.txt"]);
         checks.tells(&format!("{word} of j.txt"), &done, 1, why);

@@ -3,6 +3,7 @@
 
 use crate::answers::EXAMPLE;
 use crate::checks::{lines, Checks};
+use crate::greatest;
 use crate::margins;
 use crate::quote::alike;
 
@@ -314,6 +315,7 @@ fn refused(checks: &mut Checks, Row(program, cause, line, why, _): &Row, frames:
     }
     if *program == "verdict" {
         margins::refuses(checks, frames, frame.trim_end());
+        greatest::like_archive(checks, frames);
     }
     let done = checks.call(&["explain", &file]);
     checks.ends(
@@ -324,7 +326,7 @@ fn refused(checks: &mut Checks, Row(program, cause, line, why, _): &Row, frames:
         "",
     );
     let others: &[&str] = match *program {
-        "verdict" => &["check", "draw", "show", "mend"],
+        "verdict" => &["check", "draw", "show", "mend", "links"],
         _ => &["draw", "show", "trace"],
     };
     for word in others {
@@ -365,12 +367,16 @@ fn kind_that_is_lacking(checks: &mut Checks) {
         ("archive", "archive"),
         ("quote", "quote"),
         ("margins", "margins"),
+        ("greatest", "greatest"),
+        ("links", "greatest"),
         ("rewrite", "rewrite"),
     ] {
         let done = checks.call_with(&[word], frames.as_bytes());
         let told = format!("hulmayek: refused, line 6 (03000002): kind 03, a run's bad set: '{program}' has 01 and 02 only (cause 2)\n");
         match word {
-            "check" => checks.ends("check of a run's frames", &done, 1, "", &told),
+            "check" | "links" => {
+                checks.ends(&format!("{word} of a run's frames"), &done, 1, "", &told)
+            }
             _ => checks.ends(
                 &format!("{word} of a run's frames"),
                 &done,

@@ -1,5 +1,6 @@
 //! The proved programs, as the script has built them.
 
+use crate::costs::Greatest;
 use crate::document::Document;
 use crate::frames::{self, Answer, Plan, Refusal, State, Verdict, DEAF};
 use crate::margins::Margins;
@@ -98,6 +99,14 @@ impl Programs {
             Answer::Margins(margins) => Ok(Some(margins)),
             Answer::Refused(_) => Ok(None),
             _ => Err(Trouble::Broken("'margins' gave no margins".into())),
+        }
+    }
+
+    /// The greatest bound of a plan that has one, and that a program has accepted.
+    pub fn greatest(&self, plan: &Plan) -> Result<Greatest, Trouble> {
+        match self.ask("greatest", plan.to_frames().as_bytes())?.1 {
+            Answer::Greatest(greatest) => Ok(greatest),
+            _ => Err(Trouble::Broken("'greatest' gave no bound".into())),
         }
     }
 

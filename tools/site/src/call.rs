@@ -4,7 +4,7 @@ use crate::ask::Programs;
 use crate::document::{self, Document};
 use crate::frames::{self, Answer, DEAF};
 use crate::search::LIMIT;
-use crate::{draw, margins, mend, shown, silence, tell, trace, words, Told, Trouble};
+use crate::{costs, draw, margins, mend, shown, silence, tell, trace, words, Told, Trouble};
 
 pub struct Call {
     word: String,
@@ -16,7 +16,11 @@ pub struct Call {
 
 /// The words' options; the last one has a number after it.
 const OPTIONS: [(&str, &str); 3] = [("draw", "--mend"), ("trace", "--csv"), ("mend", "--calls=")];
-const MANY_FILES: [&str; 6] = ["verdict", "archive", "quote", "margins", "check", "run"];
+const MANY_FILES: [&str; 7] = [
+    "verdict", "archive", "quote", "margins", "greatest", "check", "run",
+];
+/// They do not look at the bound.
+const OF_DRAWINGS: [&str; 2] = ["greatest", "links"];
 
 const PASSES: u8 = 0;
 const REFUSED: u8 = 1;
@@ -84,7 +88,8 @@ impl Call {
 
     /// What a file may have meant otherwise is said where it is not refused.
     fn answer_of_file(&self, file: &str, programs: &Programs) -> Result<Told, Trouble> {
-        let (document, warnings) = document::read(file)?;
+        let is_drawing = OF_DRAWINGS.contains(&self.word.as_str());
+        let (document, warnings) = document::read(file, is_drawing)?;
         let answer = self.answer_of(&document, programs)?;
         for warning in warnings {
             tell(&warning);
@@ -94,13 +99,14 @@ impl Call {
 
     fn answer_of(&self, document: &Document, programs: &Programs) -> Result<Told, Trouble> {
         match self.word.as_str() {
-            program @ ("verdict" | "archive" | "quote" | "margins") => {
+            program @ ("verdict" | "archive" | "quote" | "margins" | "greatest") => {
                 asked(program, document.plan_frames(), document, programs)
             }
             "run" => asked("run", document.frames(), document, programs),
             "rewrite" | "plan" => rewritten(document, programs),
             "check" => checked(document, programs),
             "explain" => explained(document, programs),
+            "links" => costs::links(document, programs).map(plainly),
             "show" => show(document, programs).map(plainly),
             "draw" => draw::draw(document, self.option.is_some(), programs).map(plainly),
             "trace" => trace::trace(document, self.option.is_some(), programs).map(plainly),
@@ -201,9 +207,13 @@ fn in_words(
 ) -> Result<Vec<String>, Trouble> {
     Ok(match answer {
         Answer::Refused(refusal) => vec![document.refusal_in_words(program, refusal)],
-        Answer::Verdict(verdict) => words::of_verdict(document, verdict, programs)?,
+        Answer::Verdict(verdict) => {
+            let mut lines = words::of_verdict(document, verdict, programs)?;
+            lines.extend(costs::told(document, programs)?);
+            lines
+        }
         Answer::Terminals(states) => words::of_states(document, states),
-        Answer::Plan | Answer::Margins(_) => Vec::new(),
+        Answer::Plan | Answer::Margins(_) | Answer::Greatest(_) => Vec::new(),
     })
 }
 

@@ -81,8 +81,8 @@ fn no_file(file: &str, error: &io::Error) -> Trouble {
     })
 }
 
-/// The document of a file, and the warnings about it.
-pub fn read(file: &str) -> Result<(Document, Vec<String>), Trouble> {
+/// The document of a file, and the warnings about it. Of a drawing a text need not have the bound.
+pub fn read(file: &str, is_drawing: bool) -> Result<(Document, Vec<String>), Trouble> {
     let bytes = bytes_of(file)?;
     if is_utf16(&bytes) {
         let why = "the file is UTF-16 text (in Windows 'Unicode'); save it as UTF-8";
@@ -97,7 +97,7 @@ pub fn read(file: &str) -> Result<(Document, Vec<String>), Trouble> {
         return Err(Trouble::Refused(why.into()));
     }
     let text = String::from_utf8_lossy(text);
-    let draft = text::read(&text).map_err(Trouble::Refused)?;
+    let draft = text::read(&text, is_drawing).map_err(Trouble::Refused)?;
     let warnings = draft.warnings();
     let (lines, plan_lines) = draft.frames();
     let plan_length = lines[..plan_lines].iter().map(|(line, _)| line.len()).sum();

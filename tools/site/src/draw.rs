@@ -2,6 +2,7 @@
 
 use crate::ask::Programs;
 use crate::channel;
+use crate::costs::Costs;
 use crate::document::{Document, Extras};
 use crate::frames::{Plan, State, Verdict};
 use crate::margins::Margins;
@@ -30,6 +31,7 @@ pub fn draw(document: &Document, mended: bool, programs: &Programs) -> Result<St
     };
     let told = Told {
         margins: programs.margins(&plan)?.unwrap_or_default(),
+        costs: Costs::of_plan(&plan, programs)?,
         ..of_verdict(document, &plan, &verdict, &new)
     };
     Ok(Sheet::new(&plan, document, told, new).picture())
@@ -64,6 +66,7 @@ fn of_verdict(document: &Document, plan: &Plan, verdict: &Verdict, new: &[Link])
         beside: BTreeMap::new(),
         default: None,
         margins: Margins::default(),
+        costs: None,
     }
 }
 
@@ -130,6 +133,7 @@ fn of_run(document: &Document, states: &[(u8, State)]) -> Told {
         beside: states.iter().filter_map(since(carried)).collect(),
         default: run.default,
         margins: Margins::default(),
+        costs: None,
     }
 }
 

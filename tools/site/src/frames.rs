@@ -1,6 +1,7 @@
 //! Frames, one a line: from bytes to numbers and back. Nothing is checked here but the form:
 //! what comes in has been accepted by a proved program, or was printed by one.
 
+use crate::costs::{self, Greatest};
 use crate::groups::Limit;
 use crate::margins::Margins;
 use crate::notice::{Later, Notice};
@@ -85,6 +86,7 @@ pub enum Answer {
     /// A plan in its fixed order.
     Plan,
     Margins(Margins),
+    Greatest(Greatest),
 }
 
 /// The limit is the bound, or says that groups are listed.
@@ -309,9 +311,11 @@ fn hearer_of(rest: &[u8]) -> (Option<u8>, &[u8]) {
     }
 }
 
-/// What a program printed: frames, by the kind of the first, or margins.
+/// What a program printed: frames, by the kind of the first, or margins, or a greatest bound.
 pub fn answer(printed: &str) -> Option<Answer> {
-    of_frames(printed).or_else(|| Margins::read(printed).map(Answer::Margins))
+    of_frames(printed)
+        .or_else(|| Margins::read(printed).map(Answer::Margins))
+        .or_else(|| costs::read(printed).map(Answer::Greatest))
 }
 
 fn of_frames(printed: &str) -> Option<Answer> {

@@ -5,6 +5,7 @@
 mod ask;
 mod call;
 mod channel;
+mod costs;
 mod deaf;
 mod digits;
 mod document;

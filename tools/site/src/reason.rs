@@ -10,7 +10,9 @@ const LONGEST_FILE: usize = 24_576;
 const AT_THE_DESK: &str =
     "the quoting desk takes at most 12 terminals; './hulmayek verdict FILE' judges up to 20";
 
-const NO_BOUND: &str = "margins are for a plan with a bound, and this one lists groups";
+const NO_MARGINS: &str = "margins are for a plan with a bound, and this one lists groups";
+const NO_GREATEST: &str =
+    "the greatest bound is for a plan with a bound, and this one lists groups";
 
 /// What is wrong, and what would be right.
 pub struct Reason {
@@ -192,7 +194,7 @@ impl Scene<'_> {
         let (field, subject, rule) = match n {
             0 | 1 | 21.. => (0, format!("n {n}"), "2 to 20 terminals are allowed".into()),
             _ if source >= n => (1, format!("source {source}"), allowed),
-            _ if bound == LISTED && program == "margins" => (2, String::new(), NO_BOUND.into()),
+            _ if bound == LISTED => (2, String::new(), no_groups(program)?.into()),
             _ if bound >= n => (2, format!("bound {bound}"), allowed),
             _ => return None,
         };
@@ -361,6 +363,15 @@ impl Scene<'_> {
         };
         let line = self.earlier(self.frame.get(..same)?)?;
         plainly(format!("line {line} has a word {of} in this round already"))
+    }
+}
+
+/// Why a program takes no plan that lists groups.
+fn no_groups(program: &str) -> Option<&'static str> {
+    match program {
+        "margins" => Some(NO_MARGINS),
+        "greatest" => Some(NO_GREATEST),
+        _ => None,
     }
 }
 

@@ -146,7 +146,7 @@ impl<'a> Search<'a> {
 }
 
 /// A bar on a terminal, every so many calls.
-fn show_progress(calls: usize, limit: usize) {
+pub fn show_progress(calls: usize, limit: usize) {
     if !calls.is_multiple_of(20) || !io::stderr().is_terminal() {
         return;
     }

@@ -124,6 +124,8 @@ pub struct Pen {
     head_length: f64,
     head_half: f64,
     colour: &'static str,
+    /// The links that cost the most.
+    heavy: bool,
     /// Links that are not there yet.
     dashed: bool,
 }
@@ -142,6 +144,20 @@ impl Pen {
             head_length,
             head_half,
             colour: "#333333",
+            heavy: false,
+            dashed: false,
+        }
+    }
+
+    /// Told from the others by its width, however many there are.
+    pub fn for_dearest_links() -> Pen {
+        Pen {
+            width: 4.5,
+            opacity: 1.0,
+            head_length: 17.0,
+            head_half: 8.0,
+            colour: "#333333",
+            heavy: true,
             dashed: false,
         }
     }
@@ -153,15 +169,21 @@ impl Pen {
             head_length: 14.0,
             head_half: 6.0,
             colour: "#007a5a",
+            heavy: false,
             dashed: true,
         }
     }
 
+    pub fn is_heavy(&self) -> bool {
+        self.heavy
+    }
+
     fn class(&self, what: &str) -> String {
-        if self.dashed {
-            return format!("new-{what}");
+        match (self.dashed, self.heavy) {
+            (true, _) => format!("new-{what}"),
+            (_, true) => format!("{what} dearest"),
+            _ => what.to_string(),
         }
-        what.to_string()
     }
 
     /// A head with its tip here, pointing in a direction.
@@ -208,20 +230,22 @@ impl Pen {
         )
     }
 
-    /// The line between two tips, one element, with a head at each end that has one. The line
-    /// stops at a head's base, since a half-transparent head would show it.
+    /// The line between two tips, one element, with a head at each end that has one.
     pub fn arrow(&self, tips: [Point; 2], heads: [bool; 2]) -> String {
+        self.line_with(tips, heads.map(|has_head| has_head.then_some(self)))
+    }
+
+    /// The same with a pen for each head: of a pair of links one may cost more. The line stops at a
+    /// head's base, since a half-transparent head would show it.
+    pub fn line_with(&self, tips: [Point; 2], heads: [Option<&Pen>; 2]) -> String {
         let along = tips[0].towards(tips[1]);
         let back = tips[1].towards(tips[0]);
-        let cut = |has_head: bool| if has_head { self.head_length } else { 0.0 };
+        let cut = |head: Option<&Pen>| head.map_or(0.0, |pen| pen.head_length);
         let start = tips[0].moved(along, cut(heads[0]));
         let end = tips[1].moved(back, cut(heads[1]));
         let mut drawn = self.line(start, end);
-        if heads[0] {
-            drawn += &self.head(tips[0], back);
-        }
-        if heads[1] {
-            drawn += &self.head(tips[1], along);
+        for (head, (tip, direction)) in heads.into_iter().zip([(tips[0], back), (tips[1], along)]) {
+            drawn += &head.map_or(String::new(), |pen| pen.head(tip, direction));
         }
         drawn + "\n"
     }

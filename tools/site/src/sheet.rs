@@ -1,5 +1,6 @@
 //! The sheet of a picture: heading, links, terminals, labels and legend.
 
+use crate::costs::Costs;
 use crate::document::Document;
 use crate::frames::Plan;
 use crate::margins::Margins;
@@ -21,6 +22,9 @@ const NARROWEST: f64 = 800.0;
 const FRAME_ROOM: f64 = 16.0;
 const FRAME: f64 = 12.0;
 
+/// The tips of a link in the legend.
+const SAMPLE: [Point; 2] = [Point { x: -24.0, y: 0.0 }, Point { x: 24.0, y: 0.0 }];
+
 /// What the heading, the shapes and the legend say.
 pub struct Told {
     pub good: bool,
@@ -33,6 +37,7 @@ pub struct Told {
     /// The default layout, where all share one channel.
     pub default: Option<u16>,
     pub margins: Margins,
+    pub costs: Option<Costs>,
 }
 
 pub struct Sheet<'a> {
@@ -160,26 +165,39 @@ impl<'a> Sheet<'a> {
         self.told.roles[usize::from(terminal)]
     }
 
-    /// A pair of links is one line with two heads.
+    /// A pair of links is one line with two heads; heavy where one of them is, with heads of its own.
     fn links(&self) -> String {
-        let mut pairs: BTreeMap<(u8, u8), [bool; 2]> = BTreeMap::new();
-        for &(from, to) in &self.plan.links {
-            let heads = pairs.entry((from.min(to), from.max(to))).or_default();
-            heads[usize::from(from < to)] = true;
-        }
-        let pen = Pen::for_links(self.plan.links.len());
-        let arrow = |pen: &Pen, (one, other): (u8, u8), heads| {
-            pen.arrow([self.tip(one, other), self.tip(other, one)], heads)
+        let dearest = self.dearest();
+        let (pen, heavy) = (
+            Pen::for_links(self.plan.links.len()),
+            Pen::for_dearest_links(),
+        );
+        let pen_of = |link: &Link| match dearest.contains(link) {
+            true => &heavy,
+            false => &pen,
         };
-        let old = pairs
-            .into_iter()
-            .map(|(pair, heads)| arrow(&pen, pair, heads));
+        let mut pairs: BTreeMap<(u8, u8), [Option<&Pen>; 2]> = BTreeMap::new();
+        for link @ &(from, to) in &self.plan.links {
+            let heads = pairs.entry((from.min(to), from.max(to))).or_default();
+            heads[usize::from(from < to)] = Some(pen_of(link));
+        }
+        let old = pairs.into_iter().map(|((one, other), heads)| {
+            let is_heavy = heads.into_iter().flatten().any(Pen::is_heavy);
+            let line = if is_heavy { &heavy } else { &pen };
+            line.line_with(self.tips((one, other)), heads)
+        });
         let new_pen = Pen::for_new_links();
-        let new = self
-            .new
-            .iter()
-            .map(|link| arrow(&new_pen, *link, [false, true]));
+        let new = self.new.iter();
+        let new = new.map(|link| new_pen.arrow(self.tips(*link), [false, true]));
         old.chain(new).collect()
+    }
+
+    fn dearest(&self) -> Vec<Link> {
+        self.told.costs.as_ref().map_or(Vec::new(), Costs::dearest)
+    }
+
+    fn tips(&self, (one, other): Link) -> [Point; 2] {
+        [self.tip(one, other), self.tip(other, one)]
     }
 
     fn ring(&self, terminal: u8) -> f64 {
@@ -285,15 +303,38 @@ impl<'a> Sheet<'a> {
     }
 
     fn margin_rows(&self) -> Vec<(String, String)> {
-        let mended = !self.new.is_empty();
         let extras = &self.document.extras;
-        tags::margin_rows(&self.plan.limit, &self.told.margins, extras, mended)
+        tags::margin_rows(
+            &self.plan.limit,
+            &self.told.margins,
+            extras,
+            self.as_it_is(),
+        )
+    }
+
+    /// Margins and costs are of the links that are there.
+    fn as_it_is(&self) -> &'static str {
+        match self.new.is_empty() {
+            true => "",
+            false => " (without the dashed links)",
+        }
+    }
+
+    /// What the heavy links do; they are too many to be named.
+    fn dearest_row(&self) -> Option<(String, String)> {
+        let costs = self.told.costs.as_ref();
+        let fall = costs.filter(|costs| !costs.dearest().is_empty())?.fall();
+        let sample = Pen::for_dearest_links().arrow(SAMPLE, [false, true]);
+        let words = format!(
+            "dearest links: without one the greatest bound falls {fall}{}",
+            self.as_it_is()
+        );
+        Some((sample, words))
     }
 
     /// Samples, drawn around (0, 0), with their words.
     fn legend(&self) -> Vec<(String, String)> {
         let here = Point { x: 0.0, y: 0.0 };
-        let tips = [Point { x: -24.0, y: 0.0 }, Point { x: 24.0, y: 0.0 }];
         let pen = Pen::for_links(0);
         let roles = self.told.legend.iter();
         let mut rows: Vec<(String, String)> = roles
@@ -309,12 +350,16 @@ impl<'a> Sheet<'a> {
         let source = self.document.extras.called(self.plan.source);
         rows.push((source_ring(here, 8.0), format!("the source: {source}")));
         let right = "the right one hears the left one".to_string();
-        rows.push((pen.arrow(tips, [false, true]), right));
-        rows.push((pen.arrow(tips, [true, true]), "each hears the other".into()));
+        rows.push((pen.arrow(SAMPLE, [false, true]), right));
+        rows.push((
+            pen.arrow(SAMPLE, [true, true]),
+            "each hears the other".into(),
+        ));
+        rows.extend(self.dearest_row());
         if !self.new.is_empty() {
             let links: Vec<String> = self.new.iter().map(|(a, b)| format!("{a} > {b}")).collect();
             let words = format!("to be added: {}", links.join(", "));
-            rows.push((Pen::for_new_links().arrow(tips, [false, true]), words));
+            rows.push((Pen::for_new_links().arrow(SAMPLE, [false, true]), words));
         }
         rows
     }

@@ -114,7 +114,7 @@ pub fn margin_rows(
     limit: &Limit,
     margins: &Margins,
     extras: &Extras,
-    mended: bool,
+    as_it_is: &str,
 ) -> Vec<(String, String)> {
     let (Limit::Bound(bound), Some((least, those))) = (limit, margins.thinnest()) else {
         return Vec::new();
@@ -123,17 +123,12 @@ pub fn margin_rows(
         kind: Kind::Margin,
         words: "\u{b1}m".into(),
     };
-    let without = if mended {
-        " (without the dashed links)"
-    } else {
-        ""
-    };
     let is = format!(
         "margin: reached ones heard beyond the {} needed, at worst; none if it hears the source",
         bound + 1
     );
     let thinnest = format!(
-        "thinnest margin, {}{without}: {}",
+        "thinnest margin, {}{as_it_is}: {}",
         meaning(least),
         extras.listed(&those)
     );

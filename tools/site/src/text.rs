@@ -33,7 +33,7 @@ struct Part<T> {
 }
 
 /// The head's parts by their place in `HEAD`, and the others in the order given. There is a bound
-/// or a group, and not both.
+/// or a group, and not both; of a drawing there may be neither.
 #[derive(Default)]
 pub struct Draft {
     head: [Option<Part<u8>>; 3],
@@ -43,6 +43,8 @@ pub struct Draft {
     shared: Option<usize>,
     /// And the default layout that it has.
     default: Option<Part<u16>>,
+    /// A drawing alone: the bound may be left out, as it is not looked at.
+    is_drawing: bool,
     bad: Option<Part<u32>>,
     /// The first notice, in 'value'.
     start: Option<Part<Notice>>,
@@ -54,9 +56,10 @@ pub struct Draft {
     pub extras: Extras,
 }
 
-pub fn read(text: &str) -> Result<Draft, String> {
+pub fn read(text: &str, is_drawing: bool) -> Result<Draft, String> {
     let mut draft = Draft {
         shared: shared_line(text),
+        is_drawing,
         ..Draft::default()
     };
     for (line, text) in (1..).zip(text.lines()) {
@@ -100,7 +103,7 @@ fn without_comment(line: &str) -> &str {
 impl Draft {
     fn missing(&self) -> Option<&'static str> {
         let [terminals, source, bound] = &self.head;
-        let limit = bound.is_some() || !self.groups.is_empty();
+        let limit = self.is_drawing || bound.is_some() || !self.groups.is_empty();
         let there = [terminals.is_some(), source.is_some(), limit];
         let place = there.iter().position(|is| !is)?;
         Some(WANTED[place])
@@ -368,15 +371,16 @@ impl Draft {
         (lines, plan_lines)
     }
 
-    /// Where groups are listed, the first of them is the place of the third number.
+    /// Where groups are listed, the first of them is the place of the third number. A drawing without
+    /// a bound has 0 for it.
     fn head_frame(&self) -> (String, Vec<Place>) {
         let [Some(terminals), Some(source), bound] = &self.head else {
             unreachable!("nothing is missing");
         };
-        let limit = bound.as_ref().map_or(LISTED, |bound| bound.is);
-        let limit_at = match bound {
-            Some(bound) => Some(&bound.place),
-            None => self.groups.first().map(|group| &group.place),
+        let (limit, limit_at) = match (bound, self.groups.first()) {
+            (Some(bound), _) => (bound.is, Some(&bound.place)),
+            (None, Some(group)) => (LISTED, Some(&group.place)),
+            (None, None) => (0, None),
         };
         let given = [Some(&terminals.place), Some(&source.place), limit_at];
         let places = given.into_iter().flatten().cloned();
