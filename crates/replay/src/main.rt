@@ -2,6 +2,7 @@
 // A call is its kind, the length of the list that it lends, the length of the rest, both in two
 // bytes, high byte first, and the rest.
 mod calls;
+mod drawn;
 mod judged;
 mod lent;
 mod said;
@@ -18,6 +19,7 @@ fn answer(kind: u8, size: usize, body: &[u8], line: &mut [u8]) -> usize {
         b'a' => texts::archive(size, body, line),
         b'q' => texts::quote(size, body, line),
         b'm' => texts::margins(size, body, line),
+        b'g' => texts::greatest(size, body, line),
         b'd' => texts::open(body, line),
         b'r' => texts::run(size, body, line),
         b'f' => texts::read(size, body, line),
@@ -28,6 +30,7 @@ fn answer(kind: u8, size: usize, body: &[u8], line: &mut [u8]) -> usize {
         b'c' => calls::fault_set(body, line),
         b'j' => judged::both(body, line),
         b'M' => standings::margins(body, line),
+        b'G' => drawn::greatest(body, line),
         b'n' => calls::site(size, body, line),
         b'l' => lent::run(size, body, line),
         b'S' => shared::step(size, body, line),

@@ -6,6 +6,7 @@ use quorum::BoundKind;
 use terminal::Note;
 use terminal::Record;
 use terminal::State;
+use tolerance::Drawing;
 
 pub(crate) fn byte(body: &[u8], i: usize) -> u8 {
     if i < body.len() {
@@ -62,24 +63,42 @@ pub(crate) fn bound(body: &[u8], i: usize) -> PlacedBound
     }
 }
 
+// 20 rows of four bytes.
+fn rows(body: &[u8], i: usize) -> [u32; 20]
+    requires { ⌜ i ≤ 60000 ⌝ }
+{
+    let mut rows = [0u32; 20];
+    let mut b = 0;
+    while b < 20 {
+        rows[b] = quad(body, i + 4 * b);
+        b += 1;
+    }
+    rows
+}
+
+// n and source in a byte each, then the rows.
+pub(crate) fn drawing(body: &[u8]) -> Drawing {
+    let rows = rows(body, 2);
+    Drawing {
+        n: byte(body, 0) as usize,
+        source: byte(body, 1) as usize,
+        rows: rows,
+    }
+}
+
 // A plan, and the place after it.
 pub(crate) struct PlacedPlan {
     pub plan: Plan,
     pub next: usize,
 }
 
-// n and source in a byte each, the bound, then 20 rows of four bytes: at most 149 bytes.
+// n and source in a byte each, the bound, then the rows: at most 149 bytes.
 pub(crate) fn plan(body: &[u8]) -> PlacedPlan
     ensures { λ r. ⌜ r .next ≤ 149 ⌝ }
 {
     let placed = bound(body, 2);
     let bound = placed.bound;
-    let mut rows = [0u32; 20];
-    let mut b = 0;
-    while b < 20 {
-        rows[b] = quad(body, placed.next + 4 * b);
-        b += 1;
-    }
+    let rows = rows(body, placed.next);
     PlacedPlan {
         plan: Plan {
             n: byte(body, 0) as usize,

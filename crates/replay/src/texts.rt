@@ -70,6 +70,20 @@ pub(crate) fn margins(room: usize, file: &[u8], line: &mut [u8]) -> usize {
     0
 }
 
+fn greatest_into(file: &[u8], out: &mut [u8], line: &mut [u8]) -> usize {
+    let w = greatest_output::greatest_text(file, out);
+    written(line, w.number, w.len, out)
+}
+
+// The same by the program for the greatest bound.
+pub(crate) fn greatest(room: usize, file: &[u8], line: &mut [u8]) -> usize {
+    let mut out = [90u8; 400];
+    if room <= 400 {
+        return greatest_into(file, &mut out[..room], line);
+    }
+    0
+}
+
 fn run_into(file: &[u8], out: &mut [u8], line: &mut [u8]) -> usize {
     let w = run_output::run_text(file, out);
     written(line, w.number, w.len, out)

@@ -3,17 +3,14 @@ use Prim.Native.Nat.{_-_, _≤_}
 use mathlib.Core.Path.{_≡_}
 use lib.ListN.{length}
 use borrow.Author.Needs.{needs}
-use Rattle.replay.proofs.said.plan.Statement.{statement}
-use Rattle.replay.proofs.said.plan.Tie as tie
+use Rattle.replay.proofs.said.rows.Statement.{statement}
+use Rattle.replay.proofs.said.rows.Tie as tie
 
 abbrev Inv-loop : tie.InvT-loop
-Inv-loop body placed bound rows₀ b₀ rows b = (b ≤ 20) × (length rows ≡ 20)
+Inv-loop body i rows₀ b₀ rows b = (b ≤ 20) × (length rows ≡ 20)
 
 abbrev μ-loop : tie.MeasureT-loop
-μ-loop body placed bound rows₀ b₀ rows b = 20 - b
-
-bound-requires : tie.Need-bound-requires Inv-loop μ-loop
-bound-requires c κs = search needs
+μ-loop body i rows₀ b₀ rows b = 20 - b
 
 loop-holds : tie.Need-loop-holds Inv-loop μ-loop
 loop-holds c = search needs
@@ -42,31 +39,15 @@ loop-less c = search needs
 loop-again : tie.Need-loop-again Inv-loop μ-loop
 loop-again c = search needs
 
-byte-requires : tie.Need-byte-requires Inv-loop μ-loop
-byte-requires c κs = search needs
-
-cast-t14 : tie.Need-cast-t14 Inv-loop μ-loop
-cast-t14 c = search needs
-
-byte-requires-2 : tie.Need-byte-requires-2 Inv-loop μ-loop
-byte-requires-2 c κs = search needs
-
-cast-t16 : tie.Need-cast-t16 Inv-loop μ-loop
-cast-t16 c = search needs
-
-add-t19 : tie.Need-add-t19 Inv-loop μ-loop
-add-t19 c = search needs
-
 returns : tie.Need-returns Inv-loop μ-loop
 returns c = search needs
 
-pub plan-spec : {M : Type 1} → statement M
-plan-spec =
+pub rows-spec : {M : Type 1} → statement M
+rows-spec =
     tie.close
     (tie.spec
     Inv-loop
     μ-loop
-    bound-requires
     loop-holds
     mul-quad
     add-quad
@@ -76,9 +57,4 @@ plan-spec =
     add-b
     loop-less
     loop-again
-    byte-requires
-    cast-t14
-    byte-requires-2
-    cast-t16
-    add-t19
     returns)
