@@ -12,6 +12,7 @@ const USAGE: &str = "usage:
   second verdict < FILE
   second quote < FILE
   second margins < FILE
+  second greatest < FILE
   second run < FILE
   second archive < FILE
   second generate verdict|run SEED COUNT DIR
@@ -44,6 +45,7 @@ fn dispatch(words: &[&str]) -> Option<bool> {
         ["verdict"] => Some(filter(second::verdict_text)),
         ["quote"] => Some(filter(second::quote_text)),
         ["margins"] => Some(filter(second::margins_text)),
+        ["greatest"] => Some(filter(second::greatest_text)),
         ["run"] => Some(filter(second::run_text)),
         ["archive"] => Some(filter(second::archive_text)),
         ["generate", kind, seed, count, folder] => {
