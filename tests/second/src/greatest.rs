@@ -209,10 +209,15 @@ impl Search {
             _ => self.n,
         };
         let mut passing = vec![true; count as usize];
-        for bad in (0..=self.all).filter(|&set| self.lacks_source(set)) {
+        // Where nobody is left whatever f is, the set need not be looked at.
+        let asked = |set: &u32| self.lacks_source(*set) && self.start(*set) | set != self.all;
+        for bad in (0..=self.all).filter(asked) {
             for f in self.least_bound(bad)..count {
                 let passes = &mut passing[f as usize];
                 *passes = *passes && !self.keeps_waiting(bad, f);
+            }
+            if !passing.contains(&true) {
+                break;
             }
         }
         passing
@@ -251,20 +256,25 @@ impl Search {
         }
     }
 
-    /// L grows from the source alone; whoever hears the source joins whatever f is.
-    fn reached(&self, bad: u32, f: u32) -> u32 {
-        let start = match self.fault {
+    /// The source, and whoever hears it, who joins L whatever f is.
+    fn start(&self, bad: u32) -> u32 {
+        match self.fault {
             Fault::GreatestSourceCountsOne => bit(self.source),
-            Fault::GreatestSourceBad => self.grown_unless_bad(bad),
+            // A bad source says nothing to anyone.
+            Fault::GreatestSourceBad if has(bad, self.source) => 0,
             _ => bit(self.source) | (self.direct & !bad),
-        };
+        }
+    }
+
+    /// L grows from there until nobody joins.
+    fn reached(&self, bad: u32, f: u32) -> u32 {
         let enough = match self.fault {
             Fault::GreatestJoinsWithF => f.max(1),
             Fault::GreatestJoinsWithMore => f + 2,
             Fault::GreatestJoinsWithOne => 1,
             _ => f + 1,
         };
-        let mut reached = start;
+        let mut reached = self.start(bad);
         loop {
             let waiting = self.all & !bad & !reached;
             let told = |t: &u32| (self.heard(*t) & reached).count_ones() >= enough;
@@ -278,14 +288,6 @@ impl Search {
     }
 
     // ---- planted faults
-
-    /// A bad source says nothing to anyone.
-    fn grown_unless_bad(&self, bad: u32) -> u32 {
-        match has(bad, self.source) {
-            true => 0,
-            false => bit(self.source) | (self.direct & !bad),
-        }
-    }
 
     /// Half of what the one hears that hears fewest, as if it alone decided.
     fn by_fewest_heard(&self) -> Option<u32> {

@@ -16,7 +16,7 @@ const USAGE: &str = "usage:
   second run < FILE
   second archive < FILE
   second generate verdict|run SEED COUNT DIR
-  second compare PROGRAM_VERDICT PROGRAM_RUN PROGRAM_REWRITE PROGRAM_ARCHIVE PROGRAM_QUOTE PROGRAM_MARGINS SEED COUNT
+  second compare PROGRAM_VERDICT PROGRAM_RUN PROGRAM_REWRITE PROGRAM_ARCHIVE PROGRAM_QUOTE PROGRAM_MARGINS PROGRAM_GREATEST SEED COUNT
   second faults [SEED COUNT]
   second exhaust
   second record CALLS LINES
@@ -62,8 +62,8 @@ fn dispatch(words: &[&str]) -> Option<bool> {
                 Path::new(folder),
             )))
         }
-        ["compare", verdict, run, rewrite, archive, quote, margins, seed, count] => {
-            let programs = [verdict, run, rewrite, archive, quote, margins];
+        ["compare", verdict, run, rewrite, archive, quote, margins, greatest, seed, count] => {
+            let programs = [verdict, run, rewrite, archive, quote, margins, greatest];
             let (seed, count) = (number(seed)?, number(count)?);
             Some(compare::compare(&programs.map(|one| *one), seed, count))
         }
