@@ -40,6 +40,21 @@ pub fn small_plan_file(index: u64) -> Vec<u8> {
     plan_file(MOST_QUOTED, index)
 }
 
+/// The same where the greatest f is asked, which one link from the source may not change: all hear the
+/// source, and the link that the byte tells is given again, which shows its end by the line of cause 6.
+pub fn listed_file(index: u64) -> Vec<u8> {
+    let (byte, place) = byte_in(index);
+    let (before, after) = around(place);
+    let all: Vec<Vec<u8>> = (1..MOST_TERMINALS).map(|to| link_line(0, to)).collect();
+    let head = join(&[head_line(&Plan::new(MOST_TERMINALS, 0, 1))]);
+    let rest = if byte.is_ascii_hexdigit() {
+        join(&all)
+    } else {
+        Vec::new()
+    };
+    [&head, &b"02"[..], before, &[byte], after, &rest].concat()
+}
+
 /// Past the longest frame.
 const PAST: (&[u8], &[u8]) = (b"00070100000000", b"0\n");
 
@@ -54,13 +69,18 @@ fn run_file(index: u64) -> Vec<u8> {
     [start, before, &[byte], after].concat()
 }
 
-fn plan_file(terminals: u32, index: u64) -> Vec<u8> {
-    let (byte, place) = byte_in(index);
-    let (before, after): (&[u8], &[u8]) = match place {
+/// What stands around the byte in a link from the source.
+fn around(place: Place) -> (&'static [u8], &'static [u8]) {
+    match place {
         Place::High => (b"00", b"1\n"),
         Place::Low => (b"000", b"\n"),
         Place::Past => PAST,
-    };
+    }
+}
+
+fn plan_file(terminals: u32, index: u64) -> Vec<u8> {
+    let (byte, place) = byte_in(index);
+    let (before, after) = around(place);
     let head = join(&[head_line(&Plan::new(terminals, 0, 1))]);
     let rest = if byte.is_ascii_hexdigit() {
         others_hear(terminals)

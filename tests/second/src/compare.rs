@@ -3,9 +3,10 @@
 use crate::characters;
 use crate::faults::Fault;
 use crate::generate::{fresh_case, Kind};
+use crate::greatest_files::greatest_case;
 use crate::margin_files::margin_case;
 use crate::output::{
-    archive_text, margins_text, quote_text, rewritten_text, run_text, verdict_text,
+    archive_text, greatest_text, margins_text, quote_text, rewritten_text, run_text, verdict_text,
 };
 use crate::quotes::quote_case;
 use std::fs;
@@ -123,10 +124,17 @@ const MARGINS: Files = Files {
     seeded: margin_case,
     characters: characters::small_plan_file,
 };
+const DRAWINGS: Files = Files {
+    seeded: greatest_case,
+    characters: characters::listed_file,
+};
 
-/// The programs, in this order: verdict, run, rewrite, archive, quote, margins.
-fn tested<'a>(programs: &[&'a str; 6]) -> [Tested<'a>; 6] {
-    let [verdict, run, rewrite, archive, quote, margins] = *programs;
+/// How many programs are compared.
+pub const PROGRAMS: usize = 7;
+
+/// The programs, in this order: verdict, run, rewrite, archive, quote, margins, greatest.
+fn tested<'a>(programs: &[&'a str; PROGRAMS]) -> [Tested<'a>; PROGRAMS] {
+    let [verdict, run, rewrite, archive, quote, margins, greatest] = *programs;
     let of = |name, program, files, text| Tested {
         name,
         program,
@@ -140,12 +148,13 @@ fn tested<'a>(programs: &[&'a str; 6]) -> [Tested<'a>; 6] {
         of("archive", archive, &PLANS, archive_text),
         of("quote", quote, &QUOTES, quote_text),
         of("margins", margins, &MARGINS, margins_text),
+        of("greatest", greatest, &DRAWINGS, greatest_text),
     ]
 }
 
 /// Compares the programs, each beside the others; prints one line in all, and true if nothing
 /// differed.
-pub fn compare(programs: &[&str; 6], seed: u64, count: u64) -> bool {
+pub fn compare(programs: &[&str; PROGRAMS], seed: u64, count: u64) -> bool {
     let tested = tested(programs);
     let counts: Vec<(u64, u64)> = thread::scope(|scope| {
         let started = tested

@@ -2,6 +2,11 @@
 //! would find it.
 
 use crate::generate::{case, shared_case, Kind};
+use crate::greatest::greatest;
+use crate::greatest_files::{
+    greatest_answers, greatest_case, greatest_record, shaped as shaped_drawing, thin, Bounded,
+    GreatestAnswer, SHAPED as SHAPED_DRAWINGS, THIN,
+};
 use crate::issues::{issue_case, IssueCase};
 use crate::lent::{read_answer, read_case, shared_read_case, ReadAnswer, ReadCase};
 use crate::margin_files::{
@@ -13,7 +18,7 @@ use crate::plan::{Cause, Plan, Set};
 use crate::quotes::{
     is_short_search, judged, quote_answers, quote_case, quote_record, Judged, QuoteAnswer,
 };
-use crate::reader::{read_archive, read_margins, Filed, Refusal};
+use crate::reader::{read_archive, read_greatest, read_margins, Filed, Refusal};
 use crate::records::{record_answer, record_case, RecordAnswer, RecordCase};
 use crate::run::issue;
 use crate::shared::shared_fault_cause;
@@ -23,7 +28,9 @@ use crate::shared_calls::{
 use crate::sites::{site_case, Site};
 use crate::step::{shared_step, step, Record, Row, State};
 use crate::steps::{step_case, StepCase};
-use crate::{planted, planted_margins, planted_notices, planted_quote, planted_shared};
+use crate::{
+    planted, planted_greatest, planted_margins, planted_notices, planted_quote, planted_shared,
+};
 
 /// The place that is broken. Normal use is `None`.
 #[derive(Clone, Copy, Debug, PartialEq, Eq)]
@@ -397,6 +404,76 @@ pub enum Fault {
     MarginCountsBelowAndAbove,
     MarginCountsInHex,
     MarginCountsTwoDigits,
+    GreatestByFewestHeard,
+    GreatestByOrder,
+    GreatestZeroAsNone,
+    GreatestNoneAsZero,
+    GreatestFullAsNone,
+    GreatestUpToHead,
+    GreatestOfHead,
+    GreatestAboveHead,
+    GreatestNoneAsMinusOne,
+    GreatestNoneCapital,
+    GreatestNoneQuoted,
+    GreatestNoneEmpty,
+    GreatestTwoDigits,
+    GreatestInHex,
+    GreatestAsByte,
+    GreatestLastDigit,
+    GreatestPlusSign,
+    GreatestUnended,
+    GreatestEndedTwice,
+    GreatestWindowsEnd,
+    GreatestOfOne,
+    GreatestOf21,
+    GreatestOf19,
+    GreatestSourceNotChecked,
+    GreatestSourceNAllowed,
+    GreatestFNotChecked,
+    GreatestFOfNAllowed,
+    GreatestLastFRefused,
+    GreatestRowAboveAllowed,
+    GreatestOwnBitAllowed,
+    GreatestBitAboveAllowed,
+    GreatestBitNAllowed,
+    GreatestBitAbove19Allowed,
+    GreatestSourceRowNotChecked,
+    GreatestLinksFirst,
+    QuoteLimitInGreatest,
+    GreatestDeafRecordRefused,
+    GreatestSourceZero,
+    GreatestOfHearers,
+    GreatestLeast,
+    GreatestCounted,
+    GreatestFirstFail,
+    GreatestOneLess,
+    GreatestStopsAtOne,
+    GreatestOfN,
+    GreatestBelowLast,
+    GreatestOfOneDigit,
+    GreatestSourceBad,
+    GreatestSourceUnbounded,
+    GreatestBadOnesBounded,
+    GreatestOverAllSets,
+    GreatestBoundedInAll,
+    GreatestWithNobodyBad,
+    GreatestOfOneBad,
+    GreatestDeafLeftOut,
+    GreatestTwoLeft,
+    GreatestSourceCountsOne,
+    GreatestJoinsWithF,
+    GreatestJoinsWithMore,
+    GreatestJoinsWithOne,
+    GreatestAfterOneTurn,
+    GreatestHeadAs17,
+    GreatestHeadWithoutLine,
+    GreatestHeadBeforeText,
+    GreatestHeadBeforeKind,
+    GreatestHeadBeforeOrder,
+    GreatestHeadAfterAll,
+    GroupUnknownToGreatest,
+    GreatestGroupsAccepted,
+    GreatestDeafRefused,
 }
 
 /// All planted faults, and what is wrong in each.
@@ -406,11 +483,13 @@ pub fn planted() -> impl Iterator<Item = (Fault, &'static str)> {
     let shared = planted_shared::PLANTED.iter().copied();
     let quote = planted_quote::PLANTED.iter().copied();
     let margins = planted_margins::PLANTED.iter().copied();
+    let greatest = planted_greatest::PLANTED.iter().copied();
     older
         .chain(notices)
         .chain(shared)
         .chain(quote)
         .chain(margins)
+        .chain(greatest)
 }
 
 /// Larger sites cost time in the verdict and show no fault that smaller ones hide.
@@ -437,6 +516,9 @@ pub struct Found {
     /// Files and plan records for the margins.
     pub margins: u64,
     pub margin_records: u64,
+    /// Files and drawings for the greatest f.
+    pub greatest: u64,
+    pub greatest_records: u64,
 }
 
 impl Found {
@@ -445,7 +527,9 @@ impl Found {
         let shared = self.shared_steps + self.shared_sites + self.shared_sets;
         let quotes = self.quotes + self.quote_records;
         let margins = self.margins + self.margin_records;
-        files + self.steps + self.records + self.sites + self.issues + shared + quotes + margins
+        let greatest = self.greatest + self.greatest_records;
+        let others = self.steps + self.records + self.sites + self.issues;
+        files + others + shared + quotes + margins + greatest
     }
 }
 
@@ -495,6 +579,8 @@ pub struct Sound {
     quote_records: Answered<Plan, Judged>,
     margins: Answered<Vec<u8>, MarginAnswer>,
     margin_records: Answered<Plan, Fitted>,
+    greatest: Answered<Vec<u8>, GreatestAnswer>,
+    greatest_records: Answered<Plan, Bounded>,
 }
 
 /// What the archive prints of a file, the plan written anew, and what the archive's reader answers.
@@ -557,6 +643,8 @@ impl Sound {
             quote_records: Answered::new(quote_records, judged),
             margins: margin_texts(seed, count),
             margin_records: margin_plans(seed, count),
+            greatest: greatest_texts(seed, count),
+            greatest_records: greatest_drawings(seed, count),
         }
     }
 
@@ -578,6 +666,8 @@ impl Sound {
             quote_records: self.quote_records.count(),
             margins: self.margins.count(),
             margin_records: self.margin_records.count(),
+            greatest: self.greatest.count(),
+            greatest_records: self.greatest_records.count(),
         }
     }
 
@@ -599,6 +689,8 @@ impl Sound {
             quote_records: self.quote_records.found(fault),
             margins: self.margins.found(fault),
             margin_records: self.margin_records.found(fault),
+            greatest: self.greatest.found(fault),
+            greatest_records: self.greatest_records.found(fault),
         }
     }
 }
@@ -627,6 +719,33 @@ fn margin_plans(seed: u64, count: u64) -> Answered<Plan, Fitted> {
     let plans = (0..count / 4).map(|index| margin_record(seed, index));
     let small = plans.filter(|plan| plan.n <= LARGEST_FITTED || plan.check_head().is_err());
     Answered::new(small.chain(two_digit_plans()), margins)
+}
+
+/// Drawings of which the greatest f has two digits, one is refused, and one is soon judged.
+fn large_drawings() -> impl Iterator<Item = Plan> {
+    let shapes = (0..SHAPED_DRAWINGS).map(shaped_drawing);
+    let shapes = shapes.filter(|plan| ![12, 14, 16, 17, 18, 19].contains(&plan.n));
+    let near = |plan: &Plan| plan.n <= LARGEST_FITTED || plan.check_head().is_err();
+    let star = |plan: &Plan| plan.links.iter().all(|link| link.0 == plan.source);
+    shapes.filter(move |plan| near(plan) || star(plan))
+}
+
+fn greatest_texts(seed: u64, count: u64) -> Answered<Vec<u8>, GreatestAnswer> {
+    let texts = (0..count / 4).map(|index| greatest_case(seed, index));
+    let small = texts.filter(|text| {
+        read_greatest(text, Fault::None).map_or(true, |plan| plan.n <= LARGEST_FITTED)
+    });
+    let large = large_drawings().map(|plan| plan_text(&plan, Fault::None));
+    Answered::new(small.chain(large), |text, fault| {
+        greatest_answers(text, fault)
+    })
+}
+
+fn greatest_drawings(seed: u64, count: u64) -> Answered<Plan, Bounded> {
+    let plans = (0..count / 4).map(|index| greatest_record(seed, index));
+    let plans = plans.chain((0..THIN).map(thin));
+    let small = plans.filter(|plan| plan.n <= LARGEST_FITTED || plan.check_head().is_err());
+    Answered::new(small.chain(large_drawings()), greatest)
 }
 
 fn opened(text: &[u8], fault: Fault) -> Opened {
@@ -694,13 +813,16 @@ fn told(found: &Found) -> String {
         quote_records,
         margins,
         margin_records,
+        greatest,
+        greatest_records,
     } = found;
     format!(
         "{verdicts} verdicts, {archive} of the archive, {runs} runs, {steps} steps, \
          {records} plan records, {sites} calls of the run, {issues} of the issue, {reads} of the reader; \
          one radio for all: {shared_steps} steps, {shared_sites} runs, {shared_sets} bad sets; \
          the quoting page: {quotes} files, {quote_records} plan records; \
-         margins: {margins} files, {margin_records} plan records"
+         margins: {margins} files, {margin_records} plan records; \
+         the greatest f: {greatest} files, {greatest_records} drawings"
     )
 }
 

@@ -3,9 +3,10 @@
 //! It is written from the specification alone and takes other data structures than the one
 //! it is compared with: sets are ordered sets of terminal numbers, files are split into
 //! lines, bad sets are listed by size, the closure is a work list, a row of a record is a map
-//! of the places that hold something. The margins alone look at every set, as a number. The programs
-//! `verdict` and `run` read new plans, and so do `quote`, of fewer terminals, and `margins`, without
-//! groups; `archive` and `rewrite` open those on file too, in which a terminal may be deaf. A plan bounds
+//! of the places that hold something. The margins and the greatest f alone look at every set, as a
+//! number. The programs `verdict` and `run` read new plans, and so do `quote`, of fewer terminals, and
+//! `margins`, without groups; `archive` and `rewrite` open those on file too, in which a terminal may be
+//! deaf, and so does `greatest`, without groups. A plan bounds
 //! the bad by a number f, or by named groups that fail together. A notice is an edition and a layout;
 //! run files in the old frames have the layout alone and count as edition 1. On a site with one radio
 //! for all a bad terminal says one thing to all its hearers, and the source may be bad too.
@@ -22,6 +23,8 @@ pub mod faults;
 pub mod forms;
 pub mod frames;
 pub mod generate;
+pub mod greatest;
+pub mod greatest_files;
 pub mod grouping;
 pub mod groups;
 pub mod issues;
@@ -37,6 +40,7 @@ pub mod place;
 pub mod plan;
 pub mod plans;
 pub mod planted;
+pub mod planted_greatest;
 pub mod planted_margins;
 pub mod planted_notices;
 pub mod planted_quote;
@@ -45,6 +49,7 @@ pub mod quote;
 pub mod quotes;
 pub mod reader;
 pub mod record;
+pub mod record_greatest;
 pub mod record_margins;
 pub mod record_quote;
 pub mod record_shared;
@@ -74,6 +79,11 @@ pub fn quote_text(text: &[u8]) -> Vec<u8> {
 /// From the bytes of a plan file to the bytes that `margins` prints.
 pub fn margins_text(text: &[u8]) -> Vec<u8> {
     output::margins_text(text, Fault::None)
+}
+
+/// From the bytes of a plan file to the bytes that `greatest` prints.
+pub fn greatest_text(text: &[u8]) -> Vec<u8> {
+    output::greatest_text(text, Fault::None)
 }
 
 /// From the bytes of a plan file to the bytes that `archive` prints.

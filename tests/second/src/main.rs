@@ -12,10 +12,11 @@ const USAGE: &str = "usage:
   second verdict < FILE
   second quote < FILE
   second margins < FILE
+  second greatest < FILE
   second run < FILE
   second archive < FILE
   second generate verdict|run SEED COUNT DIR
-  second compare PROGRAM_VERDICT PROGRAM_RUN PROGRAM_REWRITE PROGRAM_ARCHIVE PROGRAM_QUOTE PROGRAM_MARGINS SEED COUNT
+  second compare PROGRAM_VERDICT PROGRAM_RUN PROGRAM_REWRITE PROGRAM_ARCHIVE PROGRAM_QUOTE PROGRAM_MARGINS PROGRAM_GREATEST SEED COUNT
   second faults [SEED COUNT]
   second exhaust
   second record CALLS LINES
@@ -44,6 +45,7 @@ fn dispatch(words: &[&str]) -> Option<bool> {
         ["verdict"] => Some(filter(second::verdict_text)),
         ["quote"] => Some(filter(second::quote_text)),
         ["margins"] => Some(filter(second::margins_text)),
+        ["greatest"] => Some(filter(second::greatest_text)),
         ["run"] => Some(filter(second::run_text)),
         ["archive"] => Some(filter(second::archive_text)),
         ["generate", kind, seed, count, folder] => {
@@ -60,8 +62,8 @@ fn dispatch(words: &[&str]) -> Option<bool> {
                 Path::new(folder),
             )))
         }
-        ["compare", verdict, run, rewrite, archive, quote, margins, seed, count] => {
-            let programs = [verdict, run, rewrite, archive, quote, margins];
+        ["compare", verdict, run, rewrite, archive, quote, margins, greatest, seed, count] => {
+            let programs = [verdict, run, rewrite, archive, quote, margins, greatest];
             let (seed, count) = (number(seed)?, number(count)?);
             Some(compare::compare(&programs.map(|one| *one), seed, count))
         }

@@ -72,7 +72,7 @@ fn mixed_plan(rng: &mut Rng, n: u32) -> Plan {
 
 /// One of the drawings E to I, under other numbers; the bad sets that matter in H have more than f
 /// members, and the source's own bound matters in I.
-fn drawn_plan(rng: &mut Rng) -> Plan {
+pub(crate) fn drawn_plan(rng: &mut Rng) -> Plan {
     let drawing = DRAWINGS[rng.pick(&[4, 5, 6, 7, 7, 7, 8, 8])].plan();
     let mut names: Vec<u32> = (0..drawing.n).collect();
     rng.shuffle(&mut names);
@@ -127,7 +127,7 @@ fn some_plan(rng: &mut Rng) -> Plan {
 }
 
 /// One with groups, as the verdict takes it.
-fn grouped_plan(rng: &mut Rng) -> Plan {
+pub(crate) fn grouped_plan(rng: &mut Rng) -> Plan {
     let mut plan = some_plan(rng);
     match rng.chance(50) {
         true => board_up(rng, &mut plan),
@@ -221,7 +221,7 @@ fn right(rng: &mut Rng) -> Lines {
 }
 
 /// ff for f, and something wrong on the head's line or after it.
-fn wrong_groups(rng: &mut Rng, turn: u64) -> Lines {
+pub(crate) fn wrong_groups(rng: &mut Rng, turn: u64) -> Lines {
     let mut plan = grouped_plan(rng);
     match turn % 4 {
         0 | 1 => {
@@ -263,7 +263,7 @@ const NO_LINKS: [&[u8]; 10] = [
 ];
 
 /// Deaf terminals, then the end or a line that is no link.
-fn unheard(rng: &mut Rng) -> Lines {
+pub(crate) fn unheard(rng: &mut Rng) -> Lines {
     let mut plan = some_plan(rng);
     deafen(rng, &mut plan);
     let mut lines = plan_draft(plan).lines;
@@ -274,7 +274,7 @@ fn unheard(rng: &mut Rng) -> Lines {
 }
 
 /// One of the causes that mostly stand after the head, or a wrong head.
-fn later_cause(rng: &mut Rng, turn: u64) -> Lines {
+pub(crate) fn later_cause(rng: &mut Rng, turn: u64) -> Lines {
     let draft = plan_draft(some_plan(rng));
     let mut lines = draft.lines.clone();
     if turn % 4 == 3 {
@@ -286,7 +286,7 @@ fn later_cause(rng: &mut Rng, turn: u64) -> Lines {
 }
 
 /// A line that is no link after the links of a right plan, or before the head; more may follow.
-fn later_line(rng: &mut Rng) -> Lines {
+pub(crate) fn later_line(rng: &mut Rng) -> Lines {
     let plan = some_plan(rng);
     let mut lines = plan_draft(plan.clone()).lines;
     let line = match rng.below(3) {

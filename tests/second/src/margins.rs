@@ -220,12 +220,17 @@ fn begins_as_groups(line: &[u8]) -> bool {
     line.starts_with(b"01") && line.get(6..8) == Some(b"ff")
 }
 
-/// What is said instead of a refusal that is about a head with ff for f.
-pub fn retold(text: &[u8], refusal: Refusal, fault: Fault) -> Refusal {
+/// Whether a refusal is about a line that begins as a head with ff for f.
+pub fn about_groups_head(text: &[u8], refusal: Refusal) -> bool {
     let mut lines = text.split(|&byte| byte == 10);
     let before = usize::from(refusal.line).checked_sub(1);
     let line = before.and_then(|before| lines.nth(before));
-    if !line.is_some_and(begins_as_groups) {
+    line.is_some_and(begins_as_groups)
+}
+
+/// What is said instead of a refusal that is about a head with ff for f.
+pub fn retold(text: &[u8], refusal: Refusal, fault: Fault) -> Refusal {
+    if !about_groups_head(text, refusal) {
         return refusal;
     }
     let with = |cause: Cause| Refusal { cause, ..refusal };

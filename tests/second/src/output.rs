@@ -1,12 +1,15 @@
 //! Frames as lines of hexadecimal digits, and the text that each program prints.
 
 use crate::faults::Fault;
+use crate::greatest::{greatest_line, greatest_of_file};
 use crate::margins::margins;
 use crate::margins_text::margins_lines;
 use crate::notice::{Form, Notice};
 use crate::plan::{number_of, Cause, Plan, Set};
 use crate::quote::quote;
-use crate::reader::{read_archive, read_margins, read_plan, read_quote, read_run, Refusal};
+use crate::reader::{
+    read_archive, read_greatest, read_margins, read_plan, read_quote, read_run, Refusal,
+};
 use crate::run::run_file;
 use crate::step::{Record, State};
 use crate::verdict::{verdict, Verdict};
@@ -119,6 +122,13 @@ pub fn margins_answer(text: &[u8], fault: Fault) -> Result<Vec<u8>, Refusal> {
     Ok(margins_lines(&standings, fault))
 }
 
+/// The greatest f's line on any drawing's file, deaf or not, or why the file is refused.
+pub fn greatest_answer(text: &[u8], fault: Fault) -> Result<Vec<u8>, Refusal> {
+    let plan = read_greatest(text, fault)?;
+    let found = greatest_of_file(&plan, fault).map_err(|cause| Refusal { cause, line: 0 })?;
+    Ok(greatest_line(found, fault))
+}
+
 /// The verdict's line on any plan's file, deaf or not, or why the file is refused.
 pub fn archive_answer(text: &[u8], fault: Fault) -> Result<Vec<u8>, Refusal> {
     judged(verdict(&read_archive(text, fault)?.plan, fault), fault)
@@ -137,6 +147,11 @@ pub fn quote_text(text: &[u8], fault: Fault) -> Vec<u8> {
 /// All of the program `margins`, from text to text.
 pub fn margins_text(text: &[u8], fault: Fault) -> Vec<u8> {
     margins_answer(text, fault).unwrap_or_else(refusal_line)
+}
+
+/// All of the program `greatest`, from text to text.
+pub fn greatest_text(text: &[u8], fault: Fault) -> Vec<u8> {
+    greatest_answer(text, fault).unwrap_or_else(refusal_line)
 }
 
 /// All of the program `archive`, from text to text.

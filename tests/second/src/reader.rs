@@ -2,6 +2,7 @@
 
 use crate::faults::Fault;
 use crate::frames::{frame_bytes, length_fits, Known};
+use crate::greatest;
 use crate::groups::{group_allowed, Bound, MOST_GROUPS};
 use crate::margins;
 use crate::notice::{notice, Form, Notice, OLD_EDITION};
@@ -63,6 +64,12 @@ pub fn read_margins(text: &[u8], fault: Fault) -> Result<Plan, Refusal> {
     read.map_err(|refusal| margins::retold(text, refusal, fault))
 }
 
+/// A drawing from the archive, of which the greatest f is asked.
+pub fn read_greatest(text: &[u8], fault: Fault) -> Result<Plan, Refusal> {
+    let read = read(text, Reader::Greatest, fault).map(|reading| reading.file.plan);
+    read.map_err(|refusal| greatest::retold(text, refusal, fault))
+}
+
 /// A plan from the archive.
 pub fn read_archive(text: &[u8], fault: Fault) -> Result<Filed, Refusal> {
     let plan = read(text, Reader::Archive, fault)?.file.plan;
@@ -75,14 +82,15 @@ pub fn read_run(text: &[u8], fault: Fault) -> Result<RunFile, Refusal> {
     read(text, Reader::Run, fault).map(|reading| reading.file)
 }
 
-/// Who reads. Only the archive opens plans with deaf terminals; nobody opens one that has ff for f
-/// and no group. Only the quoting page is bounded to few terminals. For the fitter there are no groups:
-/// ff is an f out of range.
+/// Who reads. Only the archive opens plans with deaf terminals, also to ask for the greatest f; nobody
+/// opens one that has ff for f and no group. Only the quoting page is bounded to few terminals. For the
+/// fitter and where the greatest f is asked there are no groups: ff is an f out of range.
 #[derive(Clone, Copy, PartialEq, Eq)]
 enum Reader {
     Plan,
     Quote,
     Margins,
+    Greatest,
     Archive,
     Run,
 }
@@ -93,6 +101,7 @@ impl Reader {
             1 | 2 => true,
             7 if fault == Fault::GroupNotQuoted => self != Reader::Quote,
             7 if fault == Fault::GroupUnknownToMargins => self != Reader::Margins,
+            7 if fault == Fault::GroupUnknownToGreatest => self != Reader::Greatest,
             7 => fault != Fault::GroupKindUnknown,
             8 if fault == Fault::NoticeUnknown => false,
             8 if fault == Fault::NoticeKnownInPlans => true,
@@ -108,6 +117,7 @@ impl Reader {
         match (self, fault) {
             (_, Fault::HeadOfGroupsRefused) => false,
             (Reader::Margins, fault) => fault == Fault::MarginGroupsAccepted,
+            (Reader::Greatest, fault) => fault == Fault::GreatestGroupsAccepted,
             _ => true,
         }
     }
@@ -125,6 +135,7 @@ impl Reader {
             Reader::Plan => true,
             Reader::Quote => fault != Fault::DeafQuoted,
             Reader::Margins => fault != Fault::DeafInMargins,
+            Reader::Greatest => fault == Fault::GreatestDeafRefused,
             Reader::Archive => fault == Fault::DeafInArchive,
             Reader::Run => fault != Fault::DeafNotInRuns,
         }
@@ -136,6 +147,7 @@ impl Reader {
             Reader::Plan => fault == Fault::QuoteLimitInVerdict,
             Reader::Quote => !quote::is_late(fault),
             Reader::Margins => fault == Fault::QuoteLimitInMargins,
+            Reader::Greatest => fault == Fault::QuoteLimitInGreatest,
             Reader::Archive => fault == Fault::QuoteLimitInArchive,
             Reader::Run => fault == Fault::QuoteLimitInRuns,
         }
@@ -412,10 +424,13 @@ impl Reading {
             Bound::f(number)
         };
         let many = self.reader.refuses_many(fault) && quote::too_many(n, listed, fault);
-        lowest(&[
-            (many, Cause::TooMany),
-            (!head_in_range(n, source, &bound), Cause::Head),
-        ])?;
+        let in_range = match self.reader {
+            Reader::Greatest => {
+                greatest::file_head_allowed(n, source, (!listed).then_some(number), fault)
+            }
+            _ => head_in_range(n, source, &bound),
+        };
+        lowest(&[(many, Cause::TooMany), (!in_range, Cause::Head)])?;
         self.file.plan = Plan::with(n, source, bound);
         self.stage = Stage::Links;
         Ok(())

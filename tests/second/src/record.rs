@@ -31,6 +31,9 @@
 //! Of the margins (src/record_margins.rs) `m` has a file, as `v` has. `M` has a plan; its answer is the
 //! number and, where that is 0, of each terminal from 0 what it is (0 the source, 1 direct, 2 with a
 //! margin) and the margin (4, signed; 0 beside the other two).
+//!
+//! Of the greatest f (src/record_greatest.rs) `g` has a file, as `v` has. `G` has n, source and 20 rows (4
+//! each); its answer is the number and, where that is 0, whether there is an f (1) and it (1; 0 for none).
 
 use crate::characters;
 use crate::damage::plant;
@@ -38,6 +41,7 @@ use crate::draft::{join, plan_draft, run_draft, Draft};
 use crate::faults::Fault;
 use crate::forms::{mixed, WAYS as MIXED};
 use crate::generate::{case, edge_run, overtaken_run, turning_run, Kind, SORTS, VALID_SORTS};
+use crate::greatest_files::{HEADED, SHAPED as SHAPED_DRAWINGS, THIN};
 use crate::grouping::{group_thinly, group_up, maybe_grouped};
 use crate::groups::{Bound, Sort};
 use crate::issues::{issue_case, IssueCase};
@@ -48,13 +52,18 @@ use crate::margin_files::SHAPED;
 use crate::notice::{notice, Form, Notice};
 use crate::office::Manner;
 use crate::output::{
-    archive_answer, digits, margins_answer, quote_answer, refusal_line, run_answer, verdict_answer,
+    archive_answer, digits, greatest_answer, margins_answer, quote_answer, refusal_line,
+    run_answer, verdict_answer,
 };
 use crate::place::{placed, THERE};
 use crate::plan::{number_of, set_of, write_plan, Cause, Plan, Set};
 use crate::plans::{deaf_plan, deep_plan, mend, strong_plan, thin_plan, weak_plan};
 use crate::quotes::CHAINS;
 use crate::reader::{read_archive, read_run, Refusal, RunFile};
+use crate::record_greatest::{
+    bounded_call, bounded_shape_call, greatest_call, headed_call, shaped_greatest_call,
+    sized_greatest_call, thin_call,
+};
 use crate::record_margins::{
     fitted_call, fitted_shape_call, margins_call, shaped_call, sized_margins_call,
 };
@@ -117,7 +126,7 @@ pub fn write(calls_file: &Path, lines_file: &Path) -> io::Result<()> {
 type Maker = fn(u64, u64) -> Call;
 
 /// Every kind of call, and how many of it.
-const KINDS: [(Maker, u64); 50] = [
+const KINDS: [(Maker, u64); 57] = [
     (verdict_call, 600),
     (run_call, 600),
     (edge_call, 150),
@@ -168,6 +177,13 @@ const KINDS: [(Maker, u64); 50] = [
     (sized_margins_call, 6),
     (fitted_call, 200),
     (fitted_shape_call, SHAPED),
+    (greatest_call, 170),
+    (shaped_greatest_call, SHAPED_DRAWINGS),
+    (headed_call, HEADED),
+    (sized_greatest_call, 2),
+    (bounded_call, 150),
+    (bounded_shape_call, SHAPED_DRAWINGS),
+    (thin_call, THIN),
 ];
 
 /// The calls of each kind. Of the long ones a few are enough.
@@ -271,6 +287,10 @@ pub(crate) const QUOTE: Text = Text {
 pub(crate) const MARGINS: Text = Text {
     letter: b'm',
     answer: margins_answer,
+};
+pub(crate) const GREATEST: Text = Text {
+    letter: b'g',
+    answer: greatest_answer,
 };
 const ARCHIVE: Text = Text {
     letter: b'a',
@@ -578,7 +598,7 @@ fn place_bytes(bound: &Bound) -> Vec<u8> {
     [bound.used() as u8].into_iter().chain(places).collect()
 }
 
-fn row_bytes(plan: &Plan) -> Vec<u8> {
+pub(crate) fn row_bytes(plan: &Plan) -> Vec<u8> {
     (0..20)
         .flat_map(|hearer| quad(&plan.heard_by(hearer)))
         .collect()

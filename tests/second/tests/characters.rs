@@ -2,8 +2,10 @@
 
 mod common;
 
-use common::{archive_bytes, margins_bytes, quote_bytes, refused, run_bytes, verdict_bytes};
-use second::characters::{byte_in, file, small_plan_file, Place, FILES};
+use common::{
+    archive_bytes, greatest_bytes, margins_bytes, quote_bytes, refused, run_bytes, verdict_bytes,
+};
+use second::characters::{byte_in, file, listed_file, small_plan_file, Place, FILES};
 use second::generate::Kind;
 use second::record;
 use std::collections::BTreeSet;
@@ -119,6 +121,24 @@ fn in_a_link_of_margins() {
         };
         let text = small_plan_file(index);
         assert_eq!(margins_bytes(&text), expected, "byte {byte}, {place:?}");
+    }
+}
+
+/// Where the greatest f is asked: the link from the source comes again so many lines later.
+#[test]
+fn in_a_link_that_comes_again() {
+    for (index, byte, place, value) in places() {
+        let told = |end: u32| match end {
+            1..=19 => refused(6, end as u16 + 2),
+            _ => refused(5, 2),
+        };
+        let expected = match (place, value) {
+            (Place::High, Some(value)) => told(16 * value + 1),
+            (Place::Low, Some(value)) => told(value),
+            _ => untold(byte, place, value.is_some(), 2),
+        };
+        let text = listed_file(index);
+        assert_eq!(greatest_bytes(&text), expected, "byte {byte}, {place:?}");
     }
 }
 

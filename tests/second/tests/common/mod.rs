@@ -60,6 +60,10 @@ pub fn margins(words: &str) -> String {
     margins_bytes(&file(words))
 }
 
+pub fn greatest(words: &str) -> String {
+    greatest_bytes(&file(words))
+}
+
 pub fn run(words: &str) -> String {
     run_bytes(&file(words))
 }
@@ -78,6 +82,10 @@ pub fn quote_bytes(text: &[u8]) -> String {
 
 pub fn margins_bytes(text: &[u8]) -> String {
     String::from_utf8_lossy(&second::margins_text(text)).into_owned()
+}
+
+pub fn greatest_bytes(text: &[u8]) -> String {
+    String::from_utf8_lossy(&second::greatest_text(text)).into_owned()
 }
 
 pub fn verdict_bytes(text: &[u8]) -> String {
