@@ -52,9 +52,11 @@ module _ (file : List ℕ) where
 
     decides : (f : ℕ) × (planOf file .bound ≡ atMost f) × (verdict (planOf file) .passed ≡ ltb f (height (greatest drawing)))
     unfolding passesWith
-    decides =
-        (bound-f .0, bound-f .1,
-        ap (λ (p : Plan). verdict p .passed) plan-is ∙ costs .decides (bound-f .0) (sound (planOf file) plan-sound .f-below (bound-f .0) (ap (λ (b : Bound). b .kind) (bound-f .1))))
+    decides = (
+      bound-f .0,
+      bound-f .1,
+      ap (λ (p : Plan). verdict p .passed) plan-is ∙ costs .decides (bound-f .0) (sound (planOf file) plan-sound .f-below (bound-f .0) (ap (λ (b : Bound). b .kind) (bound-f .1))),
+    )
 
     deaf : (deafSet (planOf file) ≡ 0 → ⊥) → greatestText file ≡ toleranceLine none
     unfolding deafSet isDeaf heardBy
