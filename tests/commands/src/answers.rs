@@ -228,18 +228,9 @@ const MANY: [(&[&str], i32, &[&str]); 14] = [
 ];
 
 fn many_files(checks: &mut Checks) {
-    for (name, text) in FILES.into_iter().filter(|(_, text)| !text.is_empty()) {
-        checks.file(name, text.as_bytes());
-    }
-    let beside = |words: &[&str]| {
-        let mut command = Command::new(checks.top.join("hulmayek"));
-        command.args(words).current_dir(&checks.room);
-        done(command, b"")
-    };
-    let answers = MANY.map(|(words, _, _)| beside(words));
-    for ((words, status, wanted), done) in MANY.into_iter().zip(answers) {
-        checks.ends(&format!("{words:?}"), &done, status, &lines(wanted), "");
-    }
+    let mut files = FILES.to_vec();
+    files.retain(|(_, text)| !text.is_empty());
+    checks.many_files(&files, &MANY);
     let run = lines(&[&EXAMPLE[..], &RUN[..]].concat());
     let played = checks.file("played.hex", run.as_bytes());
     let line = format!("{played}: {}\n", STATES.join(" "));

@@ -81,6 +81,19 @@ impl Checks {
         done(command, input)
     }
 
+    /// Calls in the folder of these files: words, status and lines of each.
+    pub fn many_files(&mut self, files: &[(&str, &str)], calls: &[(&[&str], i32, &[&str])]) {
+        for (name, text) in files {
+            self.file(name, text.as_bytes());
+        }
+        for (words, status, wanted) in calls {
+            let mut command = Command::new(self.top.join("hulmayek"));
+            command.args(*words).current_dir(&self.room);
+            let done = done(command, b"");
+            self.ends(&format!("{words:?}"), &done, *status, &lines(wanted), "");
+        }
+    }
+
     /// Whether all held, and how many there were.
     pub fn finish(&self) -> bool {
         if self.failed > 0 {

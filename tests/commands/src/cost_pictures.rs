@@ -1,8 +1,9 @@
 //! The dearest links in pictures: heavier than the others, and told in the legend.
 
 use crate::bad_sets::{Link, Site};
+use crate::bounded::silent;
 use crate::checks::{read, Checks};
-use crate::pictures::{drawn, link_of, Shown};
+use crate::pictures::{both_forms, drawn, link_of, Shown};
 use crate::svg::Element;
 use std::collections::BTreeSet;
 
@@ -12,9 +13,8 @@ pub fn check(checks: &mut Checks) {
     ] {
         let frames = read(&checks.top.join(format!("plans/{name}.hex")));
         let wanted = dearest(&frames);
-        for form in ["hex", "txt"] {
-            let shown = drawn(checks, &[&format!("plans/{name}.{form}")], "");
-            heavy(checks, &format!("{name}.{form}"), &wanted, &shown);
+        for (name, shown) in both_forms(checks, name) {
+            heavy(checks, &name, &wanted, &shown);
         }
     }
     one_of_a_pair(checks);
@@ -132,8 +132,6 @@ fn none(checks: &mut Checks) {
         "plans/runs/late.txt",
         "runs/silence.txt",
     ] {
-        let done = checks.call(&["draw", file]);
-        let none = done.status == 0 && !done.out.contains("dearest");
-        checks.holds(&format!("no dearest links in the picture of {file}"), none);
+        silent(checks, &["draw"], file, &["dearest"]);
     }
 }

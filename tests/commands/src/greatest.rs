@@ -2,30 +2,29 @@
 //! and `draw` have it. Answers are worked out by hand, or by trying every bad set (bad_sets.rs).
 
 use crate::bad_sets::{greatest_told, Greatest, Site};
-use crate::checks::{done, lines, read, Checks};
+use crate::bounded;
+use crate::checks::{lines, read, Checks};
 use crate::cost_pictures;
-use crate::margins::refusal;
 use crate::plans::files_in;
-use std::process::Command;
 
 pub fn check(checks: &mut Checks) {
     for (text, wanted) in TEXTS {
-        printed(checks, text, wanted);
+        bounded::printed(checks, "greatest", text, &[wanted]);
     }
     two_digits(checks);
-    drawings(checks);
+    bounded::drawings(checks, "greatest", &DRAWINGS);
     own_bound(checks);
     for (text, wanted) in LINKS {
         links(checks, text, wanted);
     }
     committed_plans(checks);
     other_plans(checks);
-    heads(checks);
+    bounded::heads(checks, "greatest", &HEADS);
     with_groups(checks);
     refused_texts(checks);
     without_bound(checks);
     with_a_run(checks);
-    many_files(checks);
+    checks.many_files(&FILES, &MANY);
     explained(checks);
     cost_pictures::check(checks);
 }
@@ -35,7 +34,7 @@ pub fn check(checks: &mut Checks) {
 pub fn like_archive(checks: &mut Checks, frames: &[&str]) {
     let input = lines(frames);
     let by_archive = checks.call_with(&["archive"], input.as_bytes()).out;
-    let (status, wanted) = match refusal(frames, by_archive.trim_end()) {
+    let (status, wanted) = match bounded::refusal(frames, by_archive.trim_end()) {
         Some(refused) => (1, refused),
         None => (0, named(Site::of(&input).greatest())),
     };
@@ -46,16 +45,6 @@ pub fn like_archive(checks: &mut Checks, frames: &[&str]) {
 
 fn named(greatest: Greatest) -> String {
     greatest.map_or("none".into(), |bound| bound.to_string())
-}
-
-fn printed(checks: &mut Checks, text: &str, wanted: &str) {
-    let label = format!("greatest of {text:?}");
-    let done = checks.call_with(&["greatest"], text.as_bytes());
-    checks.ends(&label, &done, 0, &format!("{wanted}\n"), "");
-    let frames = checks.call_with(&["plan"], text.as_bytes()).out;
-    let done = checks.call_with(&["greatest", "-"], frames.as_bytes());
-    let label = format!("{label} in frames");
-    checks.ends(&label, &done, 0, &format!("{wanted}\n"), "");
 }
 
 /// In the third nobody hears the source, and in the fourth 1 hears nobody. In the fifth one of those
@@ -81,7 +70,8 @@ fn two_digits(checks: &mut Checks) {
     for terminals in [10, 11, 12, 20] {
         let hearers: String = (1..terminals).map(|to| format!(" {to}")).collect();
         let text = format!("terminals {terminals}\nsource 0\nbound 3\n0 >{hearers}\n");
-        printed(checks, &text, &(terminals - 1).to_string());
+        let most = (terminals - 1).to_string();
+        bounded::printed(checks, "greatest", &text, &[&most]);
         let costs =
             (1..terminals).map(|to| format!("0 > {to}: none without it (costs {terminals})\n"));
         let wanted = greatest_told(Some(terminals - 1)) + &costs.collect::<String>();
@@ -91,7 +81,7 @@ fn two_digits(checks: &mut Checks) {
     let source: String = (1..19).map(|to| format!(" {to}")).collect();
     let voices: String = (1..19).map(|from| format!("{from} > 19\n")).collect();
     let text = format!("terminals 20\nsource 0\nbound 0\n0 >{source}\n{voices}");
-    printed(checks, &text, "8");
+    bounded::printed(checks, "greatest", &text, &["8"]);
 }
 
 /// Document 01's drawings; D is C, and G is F, with another bound.
@@ -107,14 +97,6 @@ const DRAWINGS: [(&str, &str, i32); 10] = [
     ("i", "1", 0),
     ("j", "ff040001", 1),
 ];
-
-fn drawings(checks: &mut Checks) {
-    for (name, wanted, status) in DRAWINGS {
-        let done = checks.call(&["greatest", &format!("plans/{name}.hex")]);
-        let label = format!("greatest of {name}");
-        checks.ends(&label, &done, status, &format!("{wanted}\n"), "");
-    }
-}
 
 /// It is in range or refused, and otherwise all the same.
 fn own_bound(checks: &mut Checks) {
@@ -263,11 +245,7 @@ fn committed_plans(checks: &mut Checks) {
 
 /// Plans of four to six terminals; in some there is one that hears nobody.
 fn other_plans(checks: &mut Checks) {
-    let mut state: u32 = 7;
-    let mut below = move |limit: u32| {
-        state = state.wrapping_mul(1_664_525).wrapping_add(1_013_904_223);
-        (state >> 16) % limit
-    };
+    let mut below = bounded::numbers(7);
     for _ in 0..60 {
         let (n, many) = (4 + below(3), 2 + below(4));
         let (source, bound) = (below(n), below(n));
@@ -305,35 +283,14 @@ const HEADS: [(&str, &str); 12] = [
     ("0102ff", "ff020001"),
 ];
 
-fn heads(checks: &mut Checks) {
-    for (head, wanted) in HEADS {
-        let done = checks.call_with(&["greatest"], lines(&[head]).as_bytes());
-        let status = i32::from(wanted != "none");
-        let label = format!("greatest of {head}");
-        checks.ends(&label, &done, status, &format!("{wanted}\n"), "");
-    }
-    let long = vec![b'0'; 24_577];
-    let table: [(&[u8], &str); 4] = [
-        (b"", "ff010000"),
-        (&long, "ff010000"),
-        (b"010200ff", "ff010001"),
-        (b"010200ff\r\n", "ff010001"),
-    ];
-    for (file, wanted) in table {
-        let done = checks.call_with(&["greatest"], file);
-        let label = format!("greatest of {} bytes", file.len());
-        checks.ends(&label, &done, 1, &format!("{wanted}\n"), "");
-    }
-}
-
 const NO_BOUND: &str =
     "the greatest bound is for a plan with a bound, and this one lists groups (cause 4)";
 
 /// Refused by its head, whatever stands under it; in a text, in the line of the first group. The other
 /// words say nothing of a greatest bound there.
 fn with_groups(checks: &mut Checks) {
-    for under in ["07000002", "0", "", "020101", "03000002", "01020000"] {
-        like_archive(checks, &["010200ff", "020001", under]);
+    for frames in bounded::under_groups() {
+        like_archive(checks, &frames);
     }
     let done = checks.call(&["greatest", "plans/supplies.hex"]);
     checks.ends("greatest of groups", &done, 1, "ff040001\n", "");
@@ -351,25 +308,14 @@ fn with_groups(checks: &mut Checks) {
         ),
     ];
     for (text, place) in table {
-        for word in ["greatest", "links"] {
-            let done = checks.call_with(&[word], text.as_bytes());
-            let told = format!("refused, {place}: {NO_BOUND}");
-            checks.tells(&format!("{word} of {text:?}"), &done, 1, &told);
-        }
+        let told = format!("refused, {place}: {NO_BOUND}");
+        bounded::refused(checks, &["greatest", "links"], text, &told);
     }
-    for word in ["explain", "draw"] {
-        let done = checks.call(&[word, "plans/supplies.txt"]);
-        silent(checks, &format!("{word} of groups"), &done.out, done.status);
-    }
+    bounded::silent(checks, &["explain", "draw"], "plans/supplies.txt", &NAMES);
 }
 
-fn silent(checks: &mut Checks, label: &str, out: &str, status: i32) {
-    let is = status == 0
-        && !["greatest", "drawing", "dearest"]
-            .iter()
-            .any(|word| out.contains(word));
-    checks.holds(&format!("{label} has no greatest bound"), is);
-}
+/// How the other words may speak of it.
+const NAMES: [&str; 3] = ["greatest", "drawing", "dearest"];
 
 const REFUSED: [(&str, &str); 8] = [
     (
@@ -408,10 +354,7 @@ const REFUSED: [(&str, &str); 8] = [
 
 fn refused_texts(checks: &mut Checks) {
     for (text, told) in REFUSED {
-        for word in ["greatest", "links"] {
-            let done = checks.call_with(&[word], text.as_bytes());
-            checks.tells(&format!("{word} of {text:?}"), &done, 1, told);
-        }
+        bounded::refused(checks, &["greatest", "links"], text, told);
     }
 }
 
@@ -444,20 +387,13 @@ fn without_bound(checks: &mut Checks) {
     }
 }
 
-/// Of a text the plan alone, as for `archive`; a run's frames are refused.
+/// As for `archive`.
 fn with_a_run(checks: &mut Checks) {
-    let done = checks.call(&["greatest", "runs/silence.txt"]);
-    checks.ends("greatest of a run in text", &done, 0, "0\n", "");
+    bounded::with_a_run(checks, "greatest", "0\n");
     let of_h = checks.call(&["links", "plans/h.txt"]).out;
     let done = checks.call(&["links", "runs/silence.txt"]);
     checks.ends("links of a run in text", &done, 0, &of_h, "");
-    let frames = checks.call(&["plan", "runs/silence.txt"]).out;
-    let done = checks.call_with(&["greatest"], frames.as_bytes());
-    checks.ends("greatest of a run in frames", &done, 1, "ff02000c\n", "");
-    for word in ["explain", "draw"] {
-        let done = checks.call(&[word, "runs/silence.txt"]);
-        silent(checks, &format!("{word} of a run"), &done.out, done.status);
-    }
+    bounded::silent(checks, &["explain", "draw"], "runs/silence.txt", &NAMES);
 }
 
 /// The names that a row's words and lines stand for.
@@ -496,18 +432,6 @@ const MANY: [(&[&str], i32, &[&str]); 3] = [
         ],
     ),
 ];
-
-fn many_files(checks: &mut Checks) {
-    for (name, text) in FILES {
-        checks.file(name, text.as_bytes());
-    }
-    for (words, status, wanted) in MANY {
-        let mut command = Command::new(checks.top.join("hulmayek"));
-        command.args(words).current_dir(&checks.room);
-        let done = done(command, b"");
-        checks.ends(&format!("{words:?}"), &done, status, &lines(wanted), "");
-    }
-}
 
 /// One line, over the margins, whether the plan passes or fails. plans.rs and deaf.rs have the rest.
 fn explained(checks: &mut Checks) {

@@ -2,6 +2,7 @@
 
 mod answers;
 mod bad_sets;
+mod bounded;
 mod builds;
 mod calls;
 mod checks;

@@ -1,16 +1,16 @@
 //! The margins in pictures: beside its terminal each, the thinnest bold, and told in the legend.
 
 use crate::bad_sets::Site;
+use crate::bounded::silent;
 use crate::checks::{read, Checks};
-use crate::pictures::{distance, drawn, height_of_key, Shown};
+use crate::pictures::{both_forms, distance, drawn, height_of_key, Shown};
 use crate::svg::Element;
 
 pub fn check(checks: &mut Checks) {
     for name in ["d", "e", "f", "h", "i", "grain", "pit", "port", "quarry"] {
         let frames = read(&checks.top.join(format!("plans/{name}.hex")));
-        for form in ["hex", "txt"] {
-            let shown = drawn(checks, &[&format!("plans/{name}.{form}")], "");
-            margins(checks, &format!("{name}.{form}"), &frames, &shown);
+        for (name, shown) in both_forms(checks, name) {
+            margins(checks, &name, &frames, &shown);
         }
     }
     twenty(checks);
@@ -137,9 +137,7 @@ fn none(checks: &mut Checks) {
         "plans/runs/late.txt",
         "runs/silence.txt",
     ] {
-        let done = checks.call(&["draw", file]);
-        let none = done.status == 0 && !done.out.contains("margin");
-        checks.holds(&format!("no margins in the picture of {file}"), none);
+        silent(checks, &["draw"], file, &["margin"]);
     }
 }
 

@@ -2,59 +2,38 @@
 //! it. Answers are worked out by hand, or by trying every bad set (bad_sets.rs).
 
 use crate::bad_sets::{heading, Site, ALL_DIRECT};
-use crate::checks::{done, lines, read, Checks};
+use crate::bounded;
+use crate::checks::{lines, read, Checks};
 use crate::margin_pictures;
 use crate::plans::files_in;
-use std::process::Command;
 
 pub fn check(checks: &mut Checks) {
     for (text, table) in TEXTS {
-        printed(checks, text, table);
+        bounded::printed(checks, "margins", text, table);
     }
     two_digits(checks);
-    drawings(checks);
+    bounded::drawings(checks, "margins", &DRAWINGS);
     committed_plans(checks);
     other_plans(checks);
-    heads(checks);
+    bounded::heads(checks, "margins", &HEADS);
     with_groups(checks);
     refused_texts(checks);
     with_a_run(checks);
-    many_files(checks);
+    checks.many_files(&FILES, &MANY);
     for (text, told) in EXPLAINED {
         explained(checks, text, told);
     }
     margin_pictures::check(checks);
 }
 
-/// What `margins` prints of frames that `verdict` answers so. It refuses what `verdict` refuses; and a
-/// right head with ff, before it comes to another line. None where both give an answer.
-pub fn refusal(frames: &[&str], by_verdict: &str) -> Option<String> {
-    let by_the_head = by_verdict.starts_with("ff") && by_verdict.ends_with("0001");
-    match frames.first() {
-        Some(head) if head.len() == 8 && head.ends_with("ff") && !by_the_head => {
-            Some("ff040001".into())
-        }
-        _ => by_verdict.starts_with("ff").then(|| by_verdict.into()),
-    }
-}
-
 /// `verdict` refuses these frames so: and `margins` too, or by the head.
 pub fn refuses(checks: &mut Checks, frames: &[&str], by_verdict: &str) {
-    let Some(wanted) = refusal(frames, by_verdict) else {
+    let Some(wanted) = bounded::refusal(frames, by_verdict) else {
         return;
     };
     let done = checks.call_with(&["margins"], lines(frames).as_bytes());
     let label = format!("margins of {frames:?}");
     checks.ends(&label, &done, 1, &format!("{wanted}\n"), "");
-}
-
-fn printed(checks: &mut Checks, text: &str, table: &[&str]) {
-    let label = format!("margins of {text:?}");
-    let done = checks.call_with(&["margins"], text.as_bytes());
-    checks.ends(&label, &done, 0, &lines(table), "");
-    let frames = checks.call_with(&["plan"], text.as_bytes()).out;
-    let done = checks.call_with(&["margins", "-"], frames.as_bytes());
-    checks.ends(&format!("{label} in frames"), &done, 0, &lines(table), "");
 }
 
 /// In the third nobody hears the source. In the fourth 2 hears 0 alone, which may be bad. In the fifth
@@ -98,7 +77,7 @@ fn two_digits(checks: &mut Checks) {
         let mut table: Vec<String> = (1..19).map(|one| format!("{one} direct")).collect();
         table.extend([format!("19 {margin}"), counts.to_string()]);
         let table: Vec<&str> = table.iter().map(String::as_str).collect();
-        printed(checks, &text, &table);
+        bounded::printed(checks, "margins", &text, &table);
     }
 }
 
@@ -123,14 +102,6 @@ const DRAWINGS: [(&str, &str, i32); 10] = [
     ),
     ("j", "ff040001", 1),
 ];
-
-fn drawings(checks: &mut Checks) {
-    for (name, table, status) in DRAWINGS {
-        let wanted = table.replace('|', "\n") + "\n";
-        let done = checks.call(&["margins", &format!("plans/{name}.hex")]);
-        checks.ends(&format!("margins of {name}"), &done, status, &wanted, "");
-    }
-}
 
 /// Those with a bound, and two of 20 terminals. A plan passes where none is below zero, and only there.
 fn committed_plans(checks: &mut Checks) {
@@ -166,11 +137,7 @@ fn committed_plans(checks: &mut Checks) {
 
 /// Plans of five to seven terminals, in which each other than the source hears one or more.
 fn other_plans(checks: &mut Checks) {
-    let mut state: u32 = 1;
-    let mut below = move |limit: u32| {
-        state = state.wrapping_mul(1_664_525).wrapping_add(1_013_904_223);
-        (state >> 16) % limit
-    };
+    let mut below = bounded::numbers(1);
     for _ in 0..40 {
         let (n, bound) = (5 + below(3), below(3));
         let source = below(n);
@@ -205,38 +172,13 @@ const HEADS: [(&str, &str); 11] = [
     ("0102ff", "ff020001"),
 ];
 
-fn heads(checks: &mut Checks) {
-    for (head, wanted) in HEADS {
-        let done = checks.call_with(&["margins"], lines(&[head]).as_bytes());
-        checks.ends(
-            &format!("margins of {head}"),
-            &done,
-            1,
-            &format!("{wanted}\n"),
-            "",
-        );
-    }
-    let long = vec![b'0'; 24_577];
-    let table: [(&[u8], &str); 4] = [
-        (b"", "ff010000"),
-        (&long, "ff010000"),
-        (b"010200ff", "ff010001"),
-        (b"010200ff\r\n", "ff010001"),
-    ];
-    for (file, wanted) in table {
-        let done = checks.call_with(&["margins"], file);
-        let label = format!("margins of {} bytes", file.len());
-        checks.ends(&label, &done, 1, &format!("{wanted}\n"), "");
-    }
-}
-
 const NO_BOUND: &str = "margins are for a plan with a bound, and this one lists groups (cause 4)";
 
 /// Refused by its head, whatever stands under it; in a text, in the line of the first group. The other
 /// words have nothing of margins there.
 fn with_groups(checks: &mut Checks) {
-    for under in ["07000002", "0", "", "020101", "03000002", "01020000"] {
-        refuses(checks, &["010200ff", "020001", under], "ff000000");
+    for frames in bounded::under_groups() {
+        refuses(checks, &frames, "ff000000");
     }
     let done = checks.call(&["margins", "plans/supplies.hex"]);
     checks.ends("margins of groups", &done, 1, "ff040001\n", "");
@@ -251,15 +193,15 @@ fn with_groups(checks: &mut Checks) {
         ),
     ];
     for (text, place) in table {
-        let done = checks.call_with(&["margins"], text.as_bytes());
         let told = format!("refused, {place}: {NO_BOUND}");
-        checks.tells(&format!("margins of {text:?}"), &done, 1, &told);
+        bounded::refused(checks, &["margins"], text, &told);
     }
-    for word in ["explain", "draw"] {
-        let done = checks.call(&[word, "plans/supplies.txt"]);
-        let silent = done.status == 0 && !done.out.contains("margin");
-        checks.holds(&format!("{word} of groups has no margins"), silent);
-    }
+    bounded::silent(
+        checks,
+        &["explain", "draw"],
+        "plans/supplies.txt",
+        &["margin"],
+    );
 }
 
 /// The causes of the head come before ff's.
@@ -287,25 +229,21 @@ fn refused_texts(checks: &mut Checks) {
         ),
     ];
     for (text, why) in table {
-        let done = checks.call_with(&["margins"], text.as_bytes());
         let told = format!("refused, {why}");
-        checks.tells(&format!("margins of {text:?}"), &done, 1, &told);
+        bounded::refused(checks, &["margins"], text, &told);
     }
 }
 
-/// Of a text the plan alone, as for `verdict`; a run's frames are refused.
+/// As for `verdict`.
 fn with_a_run(checks: &mut Checks) {
-    let done = checks.call(&["margins", "runs/silence.txt"]);
     let of_h = DRAWINGS[7].1.replace('|', "\n") + "\n";
-    checks.ends("margins of a run in text", &done, 0, &of_h, "");
-    let frames = checks.call(&["plan", "runs/silence.txt"]).out;
-    let done = checks.call_with(&["margins"], frames.as_bytes());
-    checks.ends("margins of a run in frames", &done, 1, "ff02000c\n", "");
-    for word in ["explain", "draw"] {
-        let done = checks.call(&[word, "runs/silence.txt"]);
-        let silent = done.status == 0 && !done.out.contains("margin");
-        checks.holds(&format!("{word} of a run has no margins"), silent);
-    }
+    bounded::with_a_run(checks, "margins", &of_h);
+    bounded::silent(
+        checks,
+        &["explain", "draw"],
+        "runs/silence.txt",
+        &["margin"],
+    );
 }
 
 /// The names that a row's words and lines stand for.
@@ -354,18 +292,6 @@ const MANY: [(&[&str], i32, &[&str]); 4] = [
         ],
     ),
 ];
-
-fn many_files(checks: &mut Checks) {
-    for (name, text) in FILES {
-        checks.file(name, text.as_bytes());
-    }
-    for (words, status, wanted) in MANY {
-        let mut command = Command::new(checks.top.join("hulmayek"));
-        command.args(words).current_dir(&checks.room);
-        let done = done(command, b"");
-        checks.ends(&format!("{words:?}"), &done, status, &lines(wanted), "");
-    }
-}
 
 /// In the first 5 hears four who hear the source, and 6 three of them: one may be bad. 7 hears 5 and
 /// 6, who always have the notice, and one of them may be bad. The heading is left out.

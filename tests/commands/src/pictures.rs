@@ -135,6 +135,15 @@ pub fn drawn(checks: &Checks, words: &[&str], input: &str) -> Shown {
     read_picture(&done.out)
 }
 
+/// Of the plan's frames and of its text, each with its name.
+pub fn both_forms(checks: &Checks, plan: &str) -> [(String, Shown); 2] {
+    ["hex", "txt"].map(|form| {
+        let name = format!("{plan}.{form}");
+        let shown = drawn(checks, &[&format!("plans/{name}")], "");
+        (name, shown)
+    })
+}
+
 pub fn with_role(shown: &Shown, role: &str) -> String {
     let those = shown.roles.iter().filter(|(_, one)| *one == role);
     let numbers: Vec<String> = those.map(|(terminal, _)| terminal.to_string()).collect();

@@ -91,7 +91,7 @@ impl Chain {
 }
 
 /// This line printed, and nothing said.
-fn prints(checks: &mut Checks, word: &str, input: &[u8], wanted: &str) {
+pub fn prints(checks: &mut Checks, word: &str, input: &[u8], wanted: &str) {
     let done = checks.call_with(&[word], input);
     let status = i32::from(wanted.starts_with("ff"));
     let start = input[..input.len().min(200)].escape_ascii();
