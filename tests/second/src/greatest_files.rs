@@ -4,10 +4,11 @@
 use crate::damage::sized;
 use crate::draft::{head_line, join, plan_draft};
 use crate::faults::Fault;
-use crate::generate::{case, Kind};
+use crate::generate::Kind;
 use crate::groups::Bound;
 use crate::margin_files::{
-    drawn_plan, grouped_plan, later_cause, later_line, unheard, wrong_groups,
+    crowd, drawn_plan, grouped_plan, later_cause, later_line, right, small_case, unheard,
+    wrong_groups, MOST_OF_SIZES,
 };
 use crate::output::greatest_text;
 use crate::plan::{Cause, Plan};
@@ -21,7 +22,6 @@ type Lines = Vec<Vec<u8>>;
 
 /// Of few terminals all sets are soon looked at, beside every f.
 const SIZES: [u32; 14] = [2, 3, 4, 4, 5, 5, 6, 6, 7, 7, 8, 8, 9, 10];
-const MOST_OF_SIZES: u32 = 12;
 /// Of more terminals there are some, in turn.
 const LARGE: [u32; 12] = [20, 13, 17, 20, 16, 11, 20, 19, 14, 18, 15, 12];
 const LARGE_EVERY: u64 = 50;
@@ -55,15 +55,7 @@ fn crowded_drawing(rng: &mut Rng, n: u32) -> Plan {
     let order = source_first(rng, &plan);
     let near = rng.between(1, n - 1) as usize;
     let share = rng.pick(&[80, 95, 100]);
-    for &hearer in &order[1..] {
-        let others = order[1..].iter().filter(|&&other| other != hearer);
-        let heard: Vec<u32> = others.copied().filter(|_| rng.chance(share)).collect();
-        let links = heard.iter().map(|&sender| (sender, hearer));
-        plan.links.extend(links);
-    }
-    let direct = order[1..=near].iter();
-    let source = plan.source;
-    plan.links.extend(direct.map(|&hearer| (source, hearer)));
+    crowd(rng, &mut plan, &order, near, share);
     plan
 }
 
@@ -271,7 +263,7 @@ pub fn greatest_case(seed: u64, index: u64) -> Vec<u8> {
             let draft = plan_draft(some_drawing(rng));
             return sized(rng, Kind::Verdict, &draft);
         }
-        0 => return small_case(rng, seed),
+        0 => return small_case(rng, seed, read_greatest),
         1 => plan_draft(grouped_plan(rng)).lines,
         2 => wrong_groups(rng, turn),
         3 => unheard(rng),
@@ -279,26 +271,12 @@ pub fn greatest_case(seed: u64, index: u64) -> Vec<u8> {
         5 => later_line(rng),
         6 => other_f(rng),
         7 => deaf(rng),
-        _ => right(rng),
+        _ => {
+            let plan = some_drawing(rng);
+            right(rng, plan)
+        }
     };
     join(&lines)
-}
-
-/// A file for the verdict, right or damaged, of which a search through all sets is short.
-fn small_case(rng: &mut Rng, seed: u64) -> Vec<u8> {
-    loop {
-        let text = case(Kind::Verdict, seed, rng.below(1 << 30) as u64);
-        if read_greatest(&text, Fault::None).map_or(true, |plan| plan.n <= MOST_OF_SIZES) {
-            return text;
-        }
-    }
-}
-
-/// A right file, its links in any order.
-fn right(rng: &mut Rng) -> Lines {
-    let mut lines = plan_draft(some_drawing(rng)).lines;
-    rng.shuffle(&mut lines[1..]);
-    lines
 }
 
 /// The least or the greatest f in the head, or one that is refused.

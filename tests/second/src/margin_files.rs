@@ -23,7 +23,7 @@ type Lines = Vec<Vec<u8>>;
 
 /// Up to 12 terminals all sets are soon looked at.
 const SIZES: [u32; 16] = [2, 3, 3, 4, 4, 5, 5, 6, 6, 7, 7, 8, 9, 10, 11, 12];
-const MOST_OF_SIZES: u32 = 12;
+pub(crate) const MOST_OF_SIZES: u32 = 12;
 /// Of more terminals there are a few, in turn.
 const LARGE: [u32; 8] = [20, 13, 20, 16, 18, 20, 14, 19];
 const LARGE_EVERY: u64 = 150;
@@ -38,16 +38,21 @@ fn rich_plan(rng: &mut Rng, n: u32) -> Plan {
     let order = source_first(rng, &plan);
     let near = rng.between(f + 1, 2 * f + 2).min(n - 1) as usize;
     let share = rng.pick(&[50, 75, 90, 100]);
+    crowd(rng, &mut plan, &order, near, share);
+    plan
+}
+
+/// All but the source, which is first in the order, hear this share of each other; so many hear it.
+pub(crate) fn crowd(rng: &mut Rng, plan: &mut Plan, order: &[u32], near: usize, share: u32) {
     for &hearer in &order[1..] {
         let others = order[1..].iter().filter(|&&other| other != hearer);
         let heard: Vec<u32> = others.copied().filter(|_| rng.chance(share)).collect();
-        plan.links
-            .extend(heard.iter().map(|&sender| (sender, hearer)));
+        let links = heard.iter().map(|&sender| (sender, hearer));
+        plan.links.extend(links);
     }
+    let direct = order[1..=near].iter();
     let source = plan.source;
-    plan.links
-        .extend(order[1..=near].iter().map(|&hearer| (source, hearer)));
-    plan
+    plan.links.extend(direct.map(|&hearer| (source, hearer)));
 }
 
 /// About half hear the source; each of the others hears some of these, and some that hear them.
@@ -192,30 +197,36 @@ pub fn margin_case(seed: u64, index: u64) -> Vec<u8> {
             let draft = plan_draft(some_plan(rng));
             return sized(rng, Kind::Verdict, &draft);
         }
-        0 => return small_case(rng, seed),
+        0 => return small_case(rng, seed, read_margins),
         2 => plan_draft(grouped_plan(rng)).lines,
         3 => wrong_groups(rng, turn),
         4 => unheard(rng),
         5 => later_cause(rng, turn),
         6 => later_line(rng),
-        _ => right(rng),
+        _ => {
+            let plan = some_plan(rng);
+            right(rng, plan)
+        }
     };
     join(&lines)
 }
 
+/// A reader of plan files.
+pub(crate) type Read = fn(&[u8], Fault) -> Result<Plan, Refusal>;
+
 /// A file for the verdict, right or damaged, of which a search through all sets is short.
-fn small_case(rng: &mut Rng, seed: u64) -> Vec<u8> {
+pub(crate) fn small_case(rng: &mut Rng, seed: u64, read: Read) -> Vec<u8> {
     loop {
         let text = case(Kind::Verdict, seed, rng.below(1 << 30) as u64);
-        if read_margins(&text, Fault::None).map_or(true, |plan| plan.n <= MOST_OF_SIZES) {
+        if read(&text, Fault::None).map_or(true, |plan| plan.n <= MOST_OF_SIZES) {
             return text;
         }
     }
 }
 
 /// A right file, its links in any order.
-fn right(rng: &mut Rng) -> Lines {
-    let mut lines = plan_draft(some_plan(rng)).lines;
+pub(crate) fn right(rng: &mut Rng, plan: Plan) -> Lines {
+    let mut lines = plan_draft(plan).lines;
     rng.shuffle(&mut lines[1..]);
     lines
 }

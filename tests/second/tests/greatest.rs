@@ -3,7 +3,8 @@
 
 mod common;
 
-use common::{greatest, greatest_bytes, refused};
+use common::refusals::{check_before_groups, check_groups, check_others};
+use common::{archive_bytes, greatest, greatest_bytes, refused};
 use second::drawings::DRAWINGS;
 use second::faults::Fault;
 use second::greatest::greatest as greatest_of;
@@ -210,70 +211,29 @@ fn seeded_drawings() {
 /// ff is refused on the head's line, whatever comes after it.
 #[test]
 fn groups_are_refused_by_their_head() {
-    for words in [
-        "010300ff",
-        "010300ff 020001",
-        "010300ff 020001 020002 07000002",
-        "010300ff 020001 020002 07000002 020001",
-        "010300ff 07000001",
-        "010300ff 020303",
-        "010300ff 06",
-        "010300ff 0g",
-        "010300ff 01030001",
-        "011400ff",
-        "01ffffff",
-    ] {
-        assert_eq!(greatest(words), refused(4, 1), "{words}");
-    }
+    check_groups(greatest_bytes, &[]);
 }
 
 /// On its line 1, 2 and 3 come first.
 #[test]
 fn other_causes_of_the_line_come_first() {
-    for (words, number, line) in [
-        ("010300ff0", 1, 1),
-        ("010300fg", 1, 1),
-        ("010300fF", 1, 1),
-        ("010300ff00", 2, 1),
-        ("0103ff", 2, 1),
-        ("020001 010300ff", 3, 1),
-        ("07000002 010300ff", 3, 1),
-        ("01030001 020001 020002 010300ff", 3, 4),
+    let more = [
         ("01030001 020001 010300ff", 3, 3),
         ("01030001 01ffffff", 3, 2),
-    ] {
-        assert_eq!(greatest(words), refused(number, line), "{words}");
-    }
-    assert_eq!(greatest_bytes(b"010300ff"), refused(1, 1));
+    ];
+    check_before_groups(greatest_bytes, &more);
 }
 
 /// The rest is refused as by the archive, which opens plans with deaf terminals.
 #[test]
 fn refused_as_by_the_archive() {
-    for (words, number, line) in [
-        ("01030001 020001 020002 07000002", 3, 4),
+    let more = [
         ("01030001 020001 07000001", 3, 3),
         ("01030001 07000002 020001", 3, 2),
         ("01030001 020001 0700", 2, 3),
-        ("01030001 020003", 5, 2),
-        ("01030001 020101", 5, 2),
-        ("01030001 020001 020001", 6, 3),
-        ("01030001 020001 03000002", 2, 3),
-        ("01030001 020001 0g", 1, 3),
         ("01030001 01030001", 3, 2),
-        ("01030300", 4, 1),
-        ("01030003", 4, 1),
-        ("010300fe", 4, 1),
-        ("01010000", 4, 1),
-        ("01150000", 4, 1),
-        ("020001", 3, 1),
-    ] {
-        assert_eq!(greatest(words), refused(number, line), "{words}");
-        assert_eq!(common::archive(words), refused(number, line), "{words}");
-    }
-    assert_eq!(greatest_bytes(b""), refused(1, 0));
-    assert_eq!(greatest_bytes(&[b'0'; 24_577]), refused(1, 0));
-    assert_eq!(greatest_bytes(&[b'0'; 24_576]), refused(1, 1));
+    ];
+    check_others(greatest_bytes, archive_bytes, &more);
 }
 
 // ---- refused records

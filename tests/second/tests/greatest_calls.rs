@@ -3,9 +3,9 @@
 mod common;
 
 use common::bytes::Bytes;
-use common::calls::{calls_of, read_back};
+use common::calls::{calls_of, check, check_sizes, numbers, read_back, tally, Faults};
 use common::greatest_bytes;
-use second::faults::{Fault, Sound};
+use second::faults::Fault;
 use second::greatest::greatest;
 use second::greatest_files::{every_f, greatest_case, Bounded, THIN};
 use second::groups::Bound;
@@ -14,8 +14,8 @@ use second::plan::{set_of, Plan};
 use second::plans::passes;
 use second::planted_greatest::PLANTED;
 use second::reader::{read_archive, read_greatest};
-use second::record::{self, Call};
-use std::collections::{BTreeMap, BTreeSet};
+use second::record::Call;
+use std::collections::BTreeSet;
 
 // ---- files
 
@@ -142,21 +142,6 @@ const NEEDED_IN_RECORDED: [(&str, u32); 13] = [
     ("too long", 1),
 ];
 
-fn tally(marks: impl Iterator<Item = BTreeSet<String>>) -> BTreeMap<String, u32> {
-    let mut tally = BTreeMap::new();
-    for mark in marks.flatten() {
-        *tally.entry(mark).or_insert(0) += 1;
-    }
-    tally
-}
-
-fn check(what: &str, seen: &BTreeMap<String, u32>, needed: &[(&str, u32)]) {
-    for (name, least) in needed {
-        let count = seen.get(*name).copied().unwrap_or(0);
-        assert!(count >= *least, "{what}, {name}: {count} of {seen:?}");
-    }
-}
-
 /// Among fresh files and among recorded ones.
 #[test]
 fn needed_files_are_there() {
@@ -275,26 +260,12 @@ fn needed_records_are_there() {
 /// Every number of terminals that a byte may name, up to 22, in a file and in a record.
 #[test]
 fn every_size_is_recorded() {
-    let calls = record::calls(record::SEED);
-    for n in (0..=22).chain([255]) {
-        let head = format!("01{n:02x}");
-        let files = calls
-            .iter()
-            .filter(|call| call.kind == b'g' && call.body.starts_with(head.as_bytes()));
-        let records = calls
-            .iter()
-            .filter(|call| call.kind == b'G' && call.body[0] == n);
-        assert!(files.count() >= 4 && records.count() >= 4, "{n}");
-    }
+    check_sizes(b'g', b'G');
 }
 
 /// These causes are answered and no others; 14, 15 and 17 least of all.
 #[test]
 fn causes_that_are_answered() {
-    let numbers = |kind: u8| -> BTreeSet<u8> {
-        let calls = calls_of(kind);
-        calls.iter().map(|call| call.line[0]).collect()
-    };
     assert_eq!(numbers(b'g'), BTreeSet::from([0, 1, 2, 3, 4, 5, 6, 12]));
     assert_eq!(numbers(b'G'), BTreeSet::from([0, 4, 5]));
 }
@@ -371,36 +342,19 @@ fn shown_in(fault: Fault) -> (bool, bool) {
     (!IN_RECORDS.contains(&fault), !IN_FILES.contains(&fault))
 }
 
+const FAULTS: Faults = Faults {
+    planted: &PLANTED,
+    shown_in,
+};
+
 /// Whoever answers the recorded calls rightly has none of these faults.
 #[test]
 fn recorded_calls_show_the_planted_faults() {
-    let answered = |kind: u8| -> Vec<(Call, Answer)> {
-        let calls = calls_of(kind).into_iter().filter(is_soon_answered);
-        let sound = calls.map(|call| {
-            let sound = answer(&call, Fault::None);
-            (call, sound)
-        });
-        sound.collect()
-    };
-    let (files, records) = (answered(b'g'), answered(b'G'));
-    for (fault, name) in PLANTED {
-        let shown = |calls: &[(Call, Answer)]| {
-            let mut calls = calls.iter();
-            calls.any(|(call, sound)| answer(call, fault) != *sound)
-        };
-        assert_eq!((shown(&files), shown(&records)), shown_in(fault), "{name}");
-    }
+    FAULTS.check_recorded((b'g', b'G'), is_soon_answered, answer);
 }
 
 /// The same of fresh cases; nothing else is touched by these faults.
 #[test]
 fn planted_faults_show_where_they_should() {
-    let sound = Sound::new(2, 1600);
-    for (fault, name) in PLANTED {
-        let found = sound.found(fault);
-        let (files, records) = (found.greatest > 0, found.greatest_records > 0);
-        assert_eq!((files, records), shown_in(fault), "{name}: {found:?}");
-        let both = found.greatest + found.greatest_records;
-        assert_eq!(found.all(), both, "{name}");
-    }
+    FAULTS.check_fresh(|found| (found.greatest, found.greatest_records));
 }

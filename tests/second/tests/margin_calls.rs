@@ -3,17 +3,17 @@
 mod common;
 
 use common::bytes::Bytes;
-use common::calls::{calls_of, read_back};
+use common::calls::{calls_of, check, check_sizes, numbers, read_back, tally, Faults};
 use common::margins_bytes;
-use second::faults::{Fault, Sound};
+use second::faults::Fault;
 use second::margin_files::{margin_case, Fitted};
 use second::margins::{margins, Standing};
 use second::output::margins_text;
 use second::plan::Plan;
 use second::planted_margins::PLANTED;
 use second::reader::{read_margins, read_plan};
-use second::record::{self, Call};
-use std::collections::{BTreeMap, BTreeSet};
+use second::record::Call;
+use std::collections::BTreeSet;
 
 // ---- files
 
@@ -172,21 +172,6 @@ const NEEDED_IN_RECORDED: [(&str, u32); 8] = [
     ("too long", 2),
 ];
 
-fn tally<'a>(marks: impl Iterator<Item = BTreeSet<&'a str>>) -> BTreeMap<&'a str, u32> {
-    let mut tally = BTreeMap::new();
-    for mark in marks.flatten() {
-        *tally.entry(mark).or_insert(0) += 1;
-    }
-    tally
-}
-
-fn check(what: &str, seen: &BTreeMap<&str, u32>, needed: &[(&str, u32)]) {
-    for (name, least) in needed {
-        let count = seen.get(name).copied().unwrap_or(0);
-        assert!(count >= *least, "{what}, {name}: {count} of {seen:?}");
-    }
-}
-
 /// Among fresh files and among recorded ones.
 #[test]
 fn needed_files_are_there() {
@@ -294,26 +279,12 @@ fn needed_records_are_there() {
 /// Every number of terminals that a byte may name, up to 22, in a file and in a record.
 #[test]
 fn every_size_is_recorded() {
-    let calls = record::calls(record::SEED);
-    for n in (0..=22).chain([255]) {
-        let head = format!("01{n:02x}");
-        let files = calls
-            .iter()
-            .filter(|call| call.kind == b'm' && call.body.starts_with(head.as_bytes()));
-        let records = calls
-            .iter()
-            .filter(|call| call.kind == b'M' && call.body[0] == n);
-        assert!(files.count() >= 4 && records.count() >= 4, "{n}");
-    }
+    check_sizes(b'm', b'M');
 }
 
 /// The margins answer these causes and no others, 14 and 17 least of all.
 #[test]
 fn causes_that_are_answered() {
-    let numbers = |kind: u8| -> BTreeSet<u8> {
-        let calls = calls_of(kind);
-        calls.iter().map(|call| call.line[0]).collect()
-    };
     assert_eq!(numbers(b'm'), BTreeSet::from([0, 1, 2, 3, 4, 5, 6, 12, 15]));
     assert_eq!(numbers(b'M'), BTreeSet::from([0, 4, 5]));
 }
@@ -385,35 +356,19 @@ fn shown_in(fault: Fault) -> (bool, bool) {
     (!records, records || IN_BOTH.contains(&fault))
 }
 
+const FAULTS: Faults = Faults {
+    planted: &PLANTED,
+    shown_in,
+};
+
 /// Whoever answers the recorded calls rightly has none of these faults.
 #[test]
 fn recorded_calls_show_the_planted_faults() {
-    let answered = |kind: u8| -> Vec<(Call, Answer)> {
-        let calls = calls_of(kind).into_iter().filter(is_soon_answered);
-        let sound = calls.map(|call| {
-            let sound = answer(&call, Fault::None);
-            (call, sound)
-        });
-        sound.collect()
-    };
-    let (files, records) = (answered(b'm'), answered(b'M'));
-    for (fault, name) in PLANTED {
-        let shown = |calls: &[(Call, Answer)]| {
-            let mut calls = calls.iter();
-            calls.any(|(call, sound)| answer(call, fault) != *sound)
-        };
-        assert_eq!((shown(&files), shown(&records)), shown_in(fault), "{name}");
-    }
+    FAULTS.check_recorded((b'm', b'M'), is_soon_answered, answer);
 }
 
 /// The same of fresh cases; nothing else is touched by these faults.
 #[test]
 fn planted_faults_show_where_they_should() {
-    let sound = Sound::new(2, 1600);
-    for (fault, name) in PLANTED {
-        let found = sound.found(fault);
-        let (files, records) = (found.margins > 0, found.margin_records > 0);
-        assert_eq!((files, records), shown_in(fault), "{name}: {found:?}");
-        assert_eq!(found.all(), found.margins + found.margin_records, "{name}");
-    }
+    FAULTS.check_fresh(|found| (found.margins, found.margin_records));
 }

@@ -2,6 +2,7 @@
 
 mod common;
 
+use common::refusals::{check_before_groups, check_groups, check_others};
 use common::{margins, margins_bytes, refused, set, verdict_bytes};
 use second::drawings::DRAWINGS;
 use second::faults::Fault;
@@ -269,76 +270,33 @@ fn seeded_plans_and_the_verdict() {
 /// ff is refused on the head's line, whatever comes after it.
 #[test]
 fn groups_are_refused_by_their_head() {
-    for words in [
-        "010300ff",
-        "010300ff 020001",
-        "010300ff 020001 020002 07000002",
-        "010300ff 020001 020002 07000002 020001",
-        "010300ff 07000001",
-        "010300ff 020303",
-        "010300ff 020001 020001",
-        "010300ff 06",
-        "010300ff 0g",
-        "010300ff 01030001",
-        "010d00ff",
-        "01030cff",
-        "011400ff",
-        "01ffffff",
-    ] {
-        assert_eq!(margins(words), refused(4, 1), "{words}");
-    }
+    let more = ["010300ff 020001 020001", "010d00ff", "01030cff"];
+    check_groups(margins_bytes, &more);
 }
 
 /// On its line 1, 2 and 3 come first, and so does 15 where a head comes again after a deaf plan.
 #[test]
 fn other_causes_of_the_line_come_first() {
-    for (words, number, line) in [
-        ("010300ff0", 1, 1),
-        ("010300fg", 1, 1),
-        ("010300fF", 1, 1),
-        ("010300ff00", 2, 1),
-        ("0103ff", 2, 1),
-        ("020001 010300ff", 3, 1),
-        ("07000002 010300ff", 3, 1),
-        ("01030001 020001 020002 010300ff", 3, 4),
+    let more = [
         ("01030001 020001 020002 01ffffff", 3, 4),
         ("01030001 020001 010300ff", 15, 0),
         ("01030001 020001 010300ff00", 2, 3),
-    ] {
-        assert_eq!(margins(words), refused(number, line), "{words}");
-    }
-    assert_eq!(margins_bytes(b"010300ff"), refused(1, 1));
+    ];
+    check_before_groups(margins_bytes, &more);
 }
 
 /// The rest is refused as by the verdict.
 #[test]
 fn refused_as_by_the_verdict() {
-    for (words, number, line) in [
-        ("01030001 020001 020002 07000002", 3, 4),
+    let more = [
         ("01030001 020001 020002 07000001", 3, 4),
         ("01030001 020001 020002 0700", 2, 4),
         ("01030001 020001 07000002", 15, 0),
         ("01030001 07000002 020001 020002", 15, 0),
         ("01030001 020001", 15, 0),
         ("01140000", 15, 0),
-        ("01030001 020003", 5, 2),
-        ("01030001 020101", 5, 2),
-        ("01030001 020001 020001", 6, 3),
-        ("01030001 020001 03000002", 2, 3),
-        ("01030001 020001 0g", 1, 3),
-        ("01030300", 4, 1),
-        ("01030003", 4, 1),
-        ("010300fe", 4, 1),
-        ("01010000", 4, 1),
-        ("01150000", 4, 1),
-        ("020001", 3, 1),
-    ] {
-        assert_eq!(margins(words), refused(number, line), "{words}");
-        assert_eq!(common::verdict(words), refused(number, line), "{words}");
-    }
-    assert_eq!(margins_bytes(b""), refused(1, 0));
-    assert_eq!(margins_bytes(&[b'0'; 24_577]), refused(1, 0));
-    assert_eq!(margins_bytes(&[b'0'; 24_576]), refused(1, 1));
+    ];
+    check_others(margins_bytes, verdict_bytes, &more);
 }
 
 /// A file whose first line is a head with ff and of the right form.

@@ -1,7 +1,12 @@
-//! Recorded calls of one kind, and those of files read back.
+//! Recorded calls of one kind, those of files read back, what is to be among them, and the planted faults
+//! that they show.
 
 use super::bytes::Bytes;
+use second::faults::{Fault, Found, Sound};
 use second::record::{self, Call};
+use std::borrow::Borrow;
+use std::collections::{BTreeMap, BTreeSet};
+use std::fmt::Debug;
 
 /// The recorded calls of this kind.
 pub fn calls_of(kind: u8) -> Vec<Call> {
@@ -32,4 +37,95 @@ pub fn read_back(kind: u8, text_of: fn(&[u8]) -> String) -> ([u32; 2], [u32; 2])
         short[usize::from(refusal)] += u32::from(call.lent + 1 == text.len());
     }
     (fits, short)
+}
+
+// ---- what is to be among them
+
+/// How many have each mark.
+pub fn tally<Mark: Ord>(marks: impl Iterator<Item = BTreeSet<Mark>>) -> BTreeMap<Mark, u32> {
+    let mut tally = BTreeMap::new();
+    for mark in marks.flatten() {
+        *tally.entry(mark).or_insert(0) += 1;
+    }
+    tally
+}
+
+/// As many as are needed of each.
+pub fn check<Mark>(what: &str, seen: &BTreeMap<Mark, u32>, needed: &[(&str, u32)])
+where
+    Mark: Ord + Borrow<str> + Debug,
+{
+    for (name, least) in needed {
+        let count = seen.get(*name).copied().unwrap_or(0);
+        assert!(count >= *least, "{what}, {name}: {count} of {seen:?}");
+    }
+}
+
+/// Every number of terminals that a byte may name, up to 22, in a file and in a record; these are their kinds.
+pub fn check_sizes(file: u8, record: u8) {
+    let calls = record::calls(record::SEED);
+    for n in (0..=22).chain([255]) {
+        let head = format!("01{n:02x}");
+        let files = calls
+            .iter()
+            .filter(|call| call.kind == file && call.body.starts_with(head.as_bytes()));
+        let records = calls
+            .iter()
+            .filter(|call| call.kind == record && call.body[0] == n);
+        assert!(files.count() >= 4 && records.count() >= 4, "{n}");
+    }
+}
+
+/// The numbers that calls of this kind are answered with.
+pub fn numbers(kind: u8) -> BTreeSet<u8> {
+    let calls = calls_of(kind);
+    calls.iter().map(|call| call.line[0]).collect()
+}
+
+// ---- planted faults
+
+/// The faults planted in an answer to files and to records, and whether each shows in files, and in records.
+pub struct Faults<'a> {
+    pub planted: &'a [(Fault, &'static str)],
+    pub shown_in: fn(Fault) -> (bool, bool),
+}
+
+impl Faults<'_> {
+    /// Recorded calls of the file's kind and of the record's, of those that are soon answered.
+    pub fn check_recorded<Answer: PartialEq>(
+        &self,
+        (file, record): (u8, u8),
+        is_soon_answered: fn(&Call) -> bool,
+        answer: fn(&Call, Fault) -> Answer,
+    ) {
+        let answered = |kind: u8| -> Vec<(Call, Answer)> {
+            let calls = calls_of(kind).into_iter().filter(is_soon_answered);
+            let sound = calls.map(|call| {
+                let sound = answer(&call, Fault::None);
+                (call, sound)
+            });
+            sound.collect()
+        };
+        let (files, records) = (answered(file), answered(record));
+        for &(fault, name) in self.planted {
+            let shown = |calls: &[(Call, Answer)]| {
+                let mut calls = calls.iter();
+                calls.any(|(call, sound)| answer(call, fault) != *sound)
+            };
+            let found = (shown(&files), shown(&records));
+            assert_eq!(found, (self.shown_in)(fault), "{name}");
+        }
+    }
+
+    /// The same of fresh cases; nothing but files and records of this answer is touched.
+    pub fn check_fresh(&self, counts: fn(&Found) -> (u64, u64)) {
+        let sound = Sound::new(2, 1600);
+        for &(fault, name) in self.planted {
+            let found = sound.found(fault);
+            let (files, records) = counts(&found);
+            let shown = (files > 0, records > 0);
+            assert_eq!(shown, (self.shown_in)(fault), "{name}: {found:?}");
+            assert_eq!(found.all(), files + records, "{name}");
+        }
+    }
 }

@@ -4,6 +4,7 @@
 
 pub mod bytes;
 pub mod calls;
+pub mod refusals;
 
 use second::groups::Bound;
 use second::notice::{notice, Notice, OLD_EDITION};
