@@ -1,15 +1,15 @@
 -- How many of a set a terminal of a drawing hears: with a bound f it hears enough where these are more than f; and what is lost with one link. Assumes nothing.
 use Prim.Native.Nat.{ℕ, _+_, _≤_, _<_}
-use mathlib.Core.Path.{_≡_, refl, sym, ap, _∙_, subst}
+use mathlib.Core.Path.{_≡_, refl, sym, ap, ap₂, _∙_, subst}
 use mathlib.Core.Logic.{⊎-elim}
-use mathlib.Core.Bool.{true}
-use lib.Dec.{ltb}
-use lib.ListN.{getD, set, length, List·getD-eq-default}
+use mathlib.Core.Bool.{Bool, true, not}
+use lib.Dec.{eqb, ltb}
+use lib.ListN.{getD, set, length, length-set, List·getD-eq-default}
 use lib.Seq.{getD-set-same, getD-set-other}
-use borrow.Author.Tests.{ne-eqb}
+use borrow.Author.Tests.{eq-eqb, ne-eqb}
 use Rattle.sets.specs.Tests.{_and_}
 use Rattle.sets.specs.Sets.{mem, count, without}
-use Rattle.sets.proofs.Bools.{clash, and-l, and-r, and-i, not-i}
+use Rattle.sets.proofs.Bools.{and-l, and-r, and-i, and-yes, and-no-l, and-no-r, and-swap, not-i}
 use Rattle.sets.proofs.Laws.{below-or-not, equal-or-not, mem-zero, mem-mask, count-apart}
 use Rattle.quorum.specs.Quorum.{atMost}
 use Rattle.quorum.proofs.Laws.{enough-most}
@@ -39,22 +39,32 @@ module _ (d : Drawing) (a b : ℕ) where
   abbrev row : ℕ
   row = getD (d .rows) b 0
 
-  -- every link but that from a to b is kept
-  kept-at : (x : ℕ) → x < d .n → (x ≡ a → ⊥) → mem x row ≡ true → mem x (getD (set (d .rows) b (without (d .n) row a)) b 0) ≡ true
+  -- b's row has lost a, and no other row is touched
+  row-without : (x : ℕ) → x < d .n → mem x (getD (set (d .rows) b (without (d .n) row a)) b 0) ≡ mem x row and not (eqb x a)
   unfolding without
-  kept-at x l e h =
-      ⊎-elim
+  row-without x l =
+      ⊎-elim (λ k. ap (mem x) (getD-set-same (d .rows) b (without (d .n) row a) 0 k) ∙ mem-mask (d .n) x _ l)
       (λ k.
-      ap (mem x) (getD-set-same (d .rows) b (without (d .n) row a) 0 k)
-      ∙ mem-mask (d .n) x _ l ∙ and-i _ _ h (not-i (ne-eqb x a e)))
-      (λ k. clash h (ap (mem x) (List·getD-eq-default (d .rows) 0 k) ∙ mem-zero x)) (below-or-not b (length (d .rows)))
+      ap (mem x)
+      (List·getD-eq-default (set (d .rows) b (without (d .n) row a)) 0 (subst (λ (m : ℕ). m ≤ b) (sym (length-set (d .rows) b _)) k)) ∙ mem-zero x
+      ∙ sym (and-no-l _ _ (ap (mem x) (List·getD-eq-default (d .rows) 0 k) ∙ mem-zero x)))
+      (below-or-not b (length (d .rows)))
 
-  pub link-kept : (x c : ℕ) → x < d .n → (x ≡ a → ⊥) → linked d x c ≡ true → linked (withoutLink d a b) x c ≡ true
+  pub taken-out : (x y : ℕ) → x < d .n → linked (withoutLink d a b) x y ≡ linked d x y and not (eqb x a and eqb y b)
   unfolding hears heardBy
-  link-kept x c l e h =
+  taken-out x y l =
       ⊎-elim
-      (λ same. subst (λ (i : ℕ). mem x (getD (set (d .rows) b (without (d .n) row a)) i 0) ≡ true) (sym same) (kept-at x l e (ap (λ (i : ℕ). mem x (getD (d .rows) i 0)) (sym same) ∙ h)))
-      (λ other. ap (mem x) (getD-set-other (d .rows) b c (without (d .n) row a) 0 other) ∙ h) (equal-or-not c b)
+      (λ same.
+      ap (λ (i : ℕ). mem x (getD (set (d .rows) b (without (d .n) row a)) i 0)) same ∙ row-without x l
+      ∙ ap₂ (λ (i : ℕ) (t : Bool). mem x (getD (d .rows) i 0) and not t) (sym same)
+      (sym (and-swap (eqb x a) (eqb y b) ∙ and-yes _ _ (eq-eqb y b same))))
+      (λ other.
+      ap (mem x) (getD-set-other (d .rows) b y (without (d .n) row a) 0 other)
+      ∙ sym (and-swap _ _ ∙ and-yes _ _ (not-i (and-no-r _ _ (ne-eqb y b other)))))
+      (equal-or-not y b)
+
+  pub link-kept : (x y : ℕ) → x < d .n → (x ≡ a → ⊥) → linked d x y ≡ true → linked (withoutLink d a b) x y ≡ true
+  link-kept x y l e h = taken-out x y l ∙ and-i _ _ h (not-i (and-no-l _ _ (ne-eqb x a e)))
 
   pub one-fewer : (c s : ℕ) → heardOf d c s ≤ heardOf (withoutLink d a b) c s + 1
   unfolding heardOf

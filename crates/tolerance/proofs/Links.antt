@@ -25,7 +25,7 @@ use Rattle.tolerance.specs.declared.Drawing.{Drawing}
 use Rattle.tolerance.specs.Greatest.{withBound, passesWith, none, upTo, greatest, height}
 use Rattle.tolerance.specs.Links.{linked, redrawn, withoutLink, LinksCost}
 use Rattle.tolerance.proofs.Carries.{carried}
-use Rattle.tolerance.proofs.Heard.{heardOf, enough-is, linked-is, link-kept, one-fewer}
+use Rattle.tolerance.proofs.Heard.{heardOf, enough-is, linked-is, taken-out, link-kept, one-fewer}
 use Rattle.tolerance.proofs.Heights.{same-height, highest, highest-only, greatest-is, height-le, height-one}
 
 -- the one lemma, over counts: whoever hears the source hears it still, and whoever heard more than f of a set hears more than g of it
@@ -133,6 +133,7 @@ links-cost d k = record {
   is-greatest = greatest-is d;
   decides = decides d k;
   smaller = smaller d k;
+  taken-out = taken-out d;
   one-less = one-less d k;
   at-most-one = λ a b e. height-one d (withoutLink d a b) refl (one-less d k a b e);
   more-pass = more-pass d k;

@@ -1,10 +1,11 @@
 -- How much can one link cost (document 02, P13): the claims about a drawing's greatest bound, and that of the same drawing with other links. Assumes nothing.
 use Prim.Native.Nat.{ℕ, _+_, _-_, _≤_, _<_}
 use mathlib.Core.Path.{_≡_}
-use mathlib.Core.Bool.{Bool, true}
+use mathlib.Core.Bool.{Bool, true, not}
 use mathlib.Core.List.{List}
-use lib.Dec.{ltb}
+use lib.Dec.{eqb, ltb}
 use lib.ListN.{getD, set}
+use Rattle.sets.specs.Tests.{_and_}
 use Rattle.sets.specs.Sets.{Terminal, Set, without}
 use Rattle.plan.specs.Plan.{hears}
 use Rattle.plan.specs.Deaf.{deafSet}
@@ -30,6 +31,8 @@ pub record LinksCost (d : Drawing) : Type 0 where
   pub decides : (f : ℕ) → f < d .n → passesWith d f ≡ ltb f (height (greatest d))
   -- one that passes for f passes for every smaller bound
   pub smaller : (f g : ℕ) → g ≤ f → passesWith d f ≡ true → passesWith d g ≡ true
+  -- a link that is taken out is gone, and every other stays
+  pub taken-out : (a b x y : Terminal) → x < d .n → linked (withoutLink d a b) x y ≡ linked d x y and not (eqb x a and eqb y b)
   -- without a link that doesn't start at the source it passes for one less; so the greatest f is lowered by at most one, from 0 to none included
   pub one-less : (a b : Terminal) → (a ≡ d .source → ⊥) → (f : ℕ) → passesWith d (f + 1) ≡ true → passesWith (withoutLink d a b) f ≡ true
   pub at-most-one : (a b : Terminal) → (a ≡ d .source → ⊥) → height (greatest d) ≤ height (greatest (withoutLink d a b)) + 1
