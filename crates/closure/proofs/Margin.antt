@@ -11,7 +11,7 @@ use borrow.Author.Tests.{eqb-false, eq-eqb, ne-eqb, ltb-true, ltb-false, lt-ltb,
 use Rattle.sets.specs.Tests.{_and_, pick}
 use Rattle.sets.specs.Sets.{mem, count, without}
 use Rattle.sets.proofs.Bools.{clash, decide, and-l, and-r, and-i, not-i, not-e, no-by}
-use Rattle.sets.proofs.Laws.{mem-zero, below-or-not, count-le, count-none, count-more, some-member}
+use Rattle.sets.proofs.Laws.{mem-zero, below-or-not, count-le, count-none, count-more}
 use Rattle.sets.proofs.Operations.{mem-without}
 use Rattle.quorum.specs.declared.BoundKind.{BoundKind}
 use Rattle.quorum.specs.declared.BoundKind.the-variants.{Most}
@@ -24,7 +24,7 @@ use Rattle.closure.specs.Verdict.{verdict}
 use Rattle.closure.specs.Margin.{heardOfL, leavesGood, fewestBelow, fewest, Fewest, boundOf, margin, hasMargin, belowZero, KeptWaiting, MarginsTell}
 use Rattle.closure.proofs.Faults.{fault-below, fault-none}
 use Rattle.closure.proofs.Growth.{joins-why, joins-source, joins-enough, joins-mono, reached-source, reached-closed, reached-below, reached-least}
-use Rattle.closure.proofs.Witness.{cut-below, cut-good, cut-unreached, cut-is, defeats-fault, defeats-cuts, verdict-pass, verdict-fail, pass-empty}
+use Rattle.closure.proofs.Witness.{cut-good, cut-unreached, cut-is, defeats-fault, verdict-pass, verdict-fail, pass-empty, pass-by}
 
 -- ---- a fault set that leaves b good
 
@@ -206,7 +206,7 @@ module _ (p : Plan) (l : p .source < p .n) (f : ℕ) (m : p .bound .kind ≡ Mos
         margin-below p b ∙ lt-ltb (fewest p b) (suc (boundOf (p .bound .kind))) (let z : fewest p b < suc (boundOf (p .bound .kind)) = omega arith in z)
 
   -- whoever a fault set cuts off has a margin
-  cut-has : (s b : ℕ) → b < p .n → mem b (cutOff p s) ≡ true → hasMargin p b ≡ true
+  pub cut-has : (s b : ℕ) → b < p .n → mem b (cutOff p s) ≡ true → hasMargin p b ≡ true
   unfolding hasMargin
   cut-has s b k c =
       let u = cut-unreached p s b k c in
@@ -216,18 +216,14 @@ module _ (p : Plan) (l : p .source < p .n) (f : ℕ) (m : p .bound .kind ≡ Mos
 
   none-below : belowZero p ≡ 0 → verdict p .passed ≡ true
   unfolding belowZero
-  none-below z = ⊎-elim (λ y. y) (λ y. absurd (counted y)) (decide (verdict p .passed))
-    where
-      counted : verdict p .passed ≡ false → ⊥
-      counted y =
-          let w = verdict-fail p y in
-          let i = defeats-fault p (verdict p .f) (w .beaten) in
-          let c = some-member (p .n) (cutOff p (verdict p .f)) (cut-below p (verdict p .f)) (defeats-cuts p (verdict p .f) (w .beaten)) in
-          let has = cut-has (verdict p .f) (c .0) (c .1) (c .2) in
-          let more : count (p .n) (λ b. false) < count (p .n) (λ b. hasMargin p b and ltZ (margin p b) (pos 0)) =
-          count-more (p .n) (λ b. false) (λ b. hasMargin p b and ltZ (margin p b) (pos 0)) (λ j d v. clash v refl) (c .0) (c .1) refl
-          (and-i _ _ has (kept-below (c .0) (c .1) has (verdict p .f, i, c .2))) in
-          omega arith
+  none-below z =
+      pass-by p
+      (λ s b i k c.
+      let has = cut-has s b k c in
+      let more : count (p .n) (λ b. false) < count (p .n) (λ b. hasMargin p b and ltZ (margin p b) (pos 0)) =
+      count-more (p .n) (λ b. false) (λ b. hasMargin p b and ltZ (margin p b) (pos 0)) (λ j d v. clash v refl) b k refl
+      (and-i _ _ has (kept-below b k has (s, i, c))) in
+      omega arith)
 
   pass-none : verdict p .passed ≡ true → belowZero p ≡ 0
   unfolding belowZero

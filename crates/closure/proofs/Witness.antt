@@ -1,7 +1,7 @@
 -- The verdict's witness is the least of all, the witness check accepts it, and whatever the check accepts fails the plan. Assumes nothing.
 use Prim.Native.Nat.{ℕ, zero, suc, _+_, _^_, _≤_, _<_}
 use mathlib.Core.Path.{_≡_, refl, sym, ap, _∙_, subst}
-use mathlib.Core.Logic.{_⊎_, inl, inr, ⊎-elim}
+use mathlib.Core.Logic.{inl, inr, ⊎-elim}
 use mathlib.Core.Bool.{Bool, true, false, not}
 use native.Mathlib.Nat.{eq-or-lt-of-le, le-of-suc-le-suc, not-suc-le-zero, le-refl}
 use native.Mathlib.Omega.{arith}
@@ -134,6 +134,16 @@ verdict-fail p h = go (bestBelow p (2 ^ p .n)) (best-below p (2 ^ p .n)) h
     go : (best : Found) → IsBest p (2 ^ p .n) best → verdictOf p best .passed ≡ false → Fails p (verdictOf p best)
     go none b e = clash refl e
     go (found t) b e = record { beaten = b .1; l-is = refl; r-is = refl; least = λ s d. b .2 s (defeats-below p s d) d }
+
+-- it passes where no fault set cuts anybody off
+pub pass-by : (p : Plan) → ((s b : ℕ) → isFaultSet p s ≡ true → b < p .n → mem b (cutOff p s) ≡ true → ⊥) → verdict p .passed ≡ true
+pass-by p nobody =
+    ⊎-elim (λ t. t)
+    (λ t.
+    let w = verdict-fail p t .beaten in
+    let m = some-member (p .n) (cutOff p (verdict p .f)) (cut-below p (verdict p .f)) (defeats-cuts p (verdict p .f) w) in
+    absurd (nobody (verdict p .f) (m .0) (defeats-fault p (verdict p .f) w) (m .1) (m .2)))
+    (decide (verdict p .passed))
 
 -- a passed plan returns three empty sets
 pub pass-empty : (p : Plan) → verdict p .passed ≡ true → (verdict p .f ≡ 0) × (verdict p .l ≡ 0) × (verdict p .r ≡ 0)

@@ -8,16 +8,15 @@ use mathlib.Core.List.{List}
 use borrow.Author.Tests.{lt-ltb}
 use Rattle.sets.specs.Tests.{_implies_}
 use Rattle.sets.specs.Sets.{mem, within}
-use Rattle.sets.proofs.Bools.{clash, decide, and-i, not-i, not-e, no-by, implies-i}
-use Rattle.sets.proofs.Laws.{all-i, some-member}
+use Rattle.sets.proofs.Bools.{clash, and-i, not-i, not-e, no-by, implies-i}
+use Rattle.sets.proofs.Laws.{all-i}
 use Rattle.plan.specs.declared.Plan.{Plan}
 use Rattle.plan.specs.Plan.{hears}
 use Rattle.closure.specs.FaultSet.{hearsEnough, isBounded, isFaultSet}
-use Rattle.closure.specs.Closure.{reached, cutOff}
-use Rattle.closure.specs.Verdict.{verdict}
+use Rattle.closure.specs.Closure.{reached}
 use Rattle.closure.proofs.Faults.{fault-below, fault-source, fault-bound}
 use Rattle.closure.proofs.Growth.{joins-good, joins-why, joins-source, joins-enough, reached-source, reached-closed, reached-least}
-use Rattle.closure.proofs.Witness.{cut-below, cut-good, cut-unreached, reached-of-none, defeats-fault, defeats-cuts, verdict-pass, verdict-fail}
+use Rattle.closure.proofs.Witness.{cut-good, cut-unreached, reached-of-none, verdict-pass, pass-by}
 use Rattle.tolerance.specs.declared.Drawing.{Drawing}
 use Rattle.tolerance.specs.Greatest.{withBound, passesWith}
 use Rattle.tolerance.specs.Links.{redrawn}
@@ -51,17 +50,10 @@ module _ (d : Drawing) (k : d .source < d .n) (f : ℕ) (rows : List ℕ) (g : �
       (⊎-elim (λ h. joins-source q s (reached q s) b good (direct b l h)) (λ h. joins-enough q s (reached q s) b good (votes b (reached q s) l h))
       (joins-why p s (reached q s) b j)))
 
-  uncut : (s : ℕ) → isFaultSet q s ≡ true → cutOff p s ≡ 0 → (cutOff q s ≡ 0 → ⊥) → ⊥
-  uncut s h z some =
-      let m = some-member (d .n) (cutOff q s) (cut-below q s) some in
-      clash (reached-carried s (m .0) (reached-of-none p s z (m .0) (m .1) (cut-good q s (m .0) (m .1) (m .2)))) (cut-unreached q s (m .0) (m .1) (m .2))
-
   pub carried : passesWith d f ≡ true → passesWith (redrawn d rows) g ≡ true
   unfolding passesWith
   carried h =
-      ⊎-elim (λ t. t)
-      (λ t.
-      let w = verdict-fail q t .beaten in
-      let fault = defeats-fault q (verdict q .f) w in
-      absurd (uncut (verdict q .f) fault (verdict-pass p h (verdict q .f) (fault-carried (verdict q .f) fault)) (defeats-cuts q (verdict q .f) w)))
-      (decide (verdict q .passed))
+      pass-by q
+      (λ s b i l c.
+      let z = verdict-pass p h s (fault-carried s i) in
+      clash (reached-carried s b (reached-of-none p s z b l (cut-good q s b l c))) (cut-unreached q s b l c))

@@ -5,12 +5,13 @@ use mathlib.Core.Logic.{⊎-elim}
 use mathlib.Core.Bool.{Bool, true, not}
 use lib.Dec.{eqb, ltb}
 use lib.ListN.{getD, set, length, length-set, List·getD-eq-default}
+use lib.Pow.{pow-pos}
 use lib.Seq.{getD-set-same, getD-set-other}
 use borrow.Author.Tests.{eq-eqb, ne-eqb}
 use Rattle.sets.specs.Tests.{_and_}
 use Rattle.sets.specs.Sets.{mem, count, without}
-use Rattle.sets.proofs.Bools.{and-l, and-r, and-i, and-yes, and-no-l, and-no-r, and-swap, not-i}
-use Rattle.sets.proofs.Laws.{below-or-not, equal-or-not, mem-zero, mem-mask, count-apart}
+use Rattle.sets.proofs.Bools.{clash, and-l, and-r, and-i, and-yes, and-no-l, and-no-r, and-swap, not-i, not-e, no-by}
+use Rattle.sets.proofs.Laws.{below-or-not, equal-or-not, mem-zero, mem-mask, mask-of, count-apart}
 use Rattle.quorum.specs.Quorum.{atMost}
 use Rattle.quorum.proofs.Laws.{enough-most}
 use Rattle.plan.specs.Plan.{heardBy, hears}
@@ -39,23 +40,33 @@ module _ (d : Drawing) (a b : ℕ) where
   abbrev row : ℕ
   row = getD (d .rows) b 0
 
-  -- b's row has lost a, and no other row is touched
-  row-without : (x : ℕ) → x < d .n → mem x (getD (set (d .rows) b (without (d .n) row a)) b 0) ≡ mem x row and not (eqb x a)
+  -- of a set that has nobody but a, nobody is left without it
+  nobody-left : (s : ℕ) → ((x : ℕ) → mem x s ≡ true → x ≡ a) → without (d .n) s a ≡ 0
   unfolding without
-  row-without x l =
-      ⊎-elim (λ k. ap (mem x) (getD-set-same (d .rows) b (without (d .n) row a) 0 k) ∙ mem-mask (d .n) x _ l)
+  nobody-left s only =
+      sym
+      (mask-of (d .n) 0 _ (pow-pos (d .n))
+      (λ x l. mem-zero x ∙ sym (no-by (λ h. clash (eq-eqb x a (only x (and-l _ _ h))) (not-e _ (and-r _ _ h))))))
+
+  -- b's row has lost a; past the end of the list there is none
+  row-is : getD (set (d .rows) b (without (d .n) row a)) b 0 ≡ without (d .n) row a
+  row-is =
+      ⊎-elim (getD-set-same (d .rows) b (without (d .n) row a) 0)
       (λ k.
-      ap (mem x)
-      (List·getD-eq-default (set (d .rows) b (without (d .n) row a)) 0 (subst (λ (m : ℕ). m ≤ b) (sym (length-set (d .rows) b _)) k)) ∙ mem-zero x
-      ∙ sym (and-no-l _ _ (ap (mem x) (List·getD-eq-default (d .rows) 0 k) ∙ mem-zero x)))
+      List·getD-eq-default (set (d .rows) b (without (d .n) row a)) 0 (subst (λ (m : ℕ). m ≤ b) (sym (length-set (d .rows) b _)) k)
+      ∙ sym (nobody-left row (λ x h. clash h (ap (mem x) (List·getD-eq-default (d .rows) 0 k) ∙ mem-zero x))))
       (below-or-not b (length (d .rows)))
 
-  pub taken-out : (x y : ℕ) → x < d .n → linked (withoutLink d a b) x y ≡ linked d x y and not (eqb x a and eqb y b)
+  pub row-emptied : ((x : ℕ) → linked d x b ≡ true → x ≡ a) → getD (withoutLink d a b .rows) b 0 ≡ 0
   unfolding hears heardBy
+  row-emptied only = row-is ∙ nobody-left row only
+
+  pub taken-out : (x y : ℕ) → x < d .n → linked (withoutLink d a b) x y ≡ linked d x y and not (eqb x a and eqb y b)
+  unfolding hears heardBy without
   taken-out x y l =
       ⊎-elim
       (λ same.
-      ap (λ (i : ℕ). mem x (getD (set (d .rows) b (without (d .n) row a)) i 0)) same ∙ row-without x l
+      ap (λ (i : ℕ). mem x (getD (set (d .rows) b (without (d .n) row a)) i 0)) same ∙ ap (mem x) row-is ∙ mem-mask (d .n) x _ l
       ∙ ap₂ (λ (i : ℕ) (t : Bool). mem x (getD (d .rows) i 0) and not t) (sym same)
       (sym (and-swap (eqb x a) (eqb y b) ∙ and-yes _ _ (eq-eqb y b same))))
       (λ other.

@@ -1,31 +1,28 @@
 -- What other links and other bounds do to what a drawing passes. Assumes nothing.
 use Prim.Native.Nat.{ℕ, zero, suc, _+_, _-_, _≤_, _<_}
-use mathlib.Core.Path.{_≡_, refl, sym, ap, _∙_, subst}
+use mathlib.Core.Path.{_≡_, refl, sym, ap, _∙_}
 use mathlib.Core.Logic.{⊎-elim}
 use mathlib.Core.Bool.{true, false, not}
 use mathlib.Core.List.{List}
 use native.Mathlib.Omega.{arith}
-use lib.Dec.{eqb, ltb}
-use lib.ListN.{getD, set, length, length-set, List·getD-eq-default}
-use lib.Pow.{pow-pos}
-use lib.Seq.{getD-set-same}
+use lib.Dec.{ltb}
+use lib.ListN.{getD}
 use borrow.Author.Tests.{ltb-true, lt-ltb, eq-eqb, ne-eqb}
 use Rattle.sets.specs.Tests.{_and_}
-use Rattle.sets.specs.Sets.{mem, without}
-use Rattle.sets.proofs.Bools.{clash, decide, and-l, and-r, and-i, not-i, not-e, no-by, same-test}
-use Rattle.sets.proofs.Laws.{below-or-not, equal-or-not, mem-zero, mem-mask, mask-of, count-mono, some-member}
+use Rattle.sets.specs.Sets.{mem}
+use Rattle.sets.proofs.Bools.{clash, and-l, and-r, and-i, not-i, not-e, same-test}
+use Rattle.sets.proofs.Laws.{below-or-not, mem-zero, mem-mask, count-mono}
 use Rattle.plan.specs.Plan.{heardBy, hears}
 use Rattle.plan.specs.Deaf.{isDeaf, deafSet}
-use Rattle.closure.specs.Closure.{reached, cutOff}
-use Rattle.closure.specs.Verdict.{verdict}
-use Rattle.closure.proofs.Growth.{joins-source, reached-source, reached-closed}
-use Rattle.closure.proofs.Witness.{cut-below, cut-good, cut-unreached, defeats-cuts, verdict-fail}
+use Rattle.closure.specs.Margin.{hasMargin}
+use Rattle.closure.proofs.Witness.{pass-by}
 use Rattle.closure.proofs.Deaf.{deaf-fails}
+use Rattle.closure.proofs.Margin.{cut-has}
 use Rattle.tolerance.specs.declared.Drawing.{Drawing}
 use Rattle.tolerance.specs.Greatest.{withBound, passesWith, none, upTo, greatest, height}
 use Rattle.tolerance.specs.Links.{linked, redrawn, withoutLink, LinksCost}
 use Rattle.tolerance.proofs.Carries.{carried}
-use Rattle.tolerance.proofs.Heard.{heardOf, enough-is, linked-is, taken-out, link-kept, one-fewer}
+use Rattle.tolerance.proofs.Heard.{heardOf, enough-is, linked-is, row-emptied, taken-out, link-kept, one-fewer}
 use Rattle.tolerance.proofs.Heights.{same-height, highest, highest-only, greatest-is, height-le, height-one}
 
 -- the one lemma, over counts: whoever hears the source hears it still, and whoever heard more than f of a set hears more than g of it
@@ -71,24 +68,14 @@ module _ (d : Drawing) (k : d .source < d .n) where
 
   -- ---- all hear the source
 
-  module _ (direct : (b : ℕ) → b < d .n → (b ≡ d .source → ⊥) → linked d (d .source) b ≡ true) (f : ℕ) where
-    all-reached : (s b : ℕ) → b < d .n → mem b s ≡ false → mem b (reached (withBound d f) s) ≡ true
-    all-reached s b l m =
-        ⊎-elim (λ e. ap (λ (x : ℕ). mem x (reached (withBound d f) s)) e ∙ reached-source (withBound d f) s k)
-        (λ e.
-        reached-closed (withBound d f) s k b l
-        (joins-source (withBound d f) s (reached (withBound d f) s) b m (linked-is d f (d .source) b ∙ direct b l e)))
-        (equal-or-not b (d .source))
-
-    direct-passes : passesWith d f ≡ true
-    unfolding passesWith
-    direct-passes = ⊎-elim (λ t. t) (λ t. absurd (cuts t)) (decide (verdict (withBound d f) .passed))
-      where
-        cuts : verdict (withBound d f) .passed ≡ false → ⊥
-        cuts t =
-            let s = verdict (withBound d f) .f in
-            let m = some-member (d .n) (cutOff (withBound d f) s) (cut-below (withBound d f) s) (defeats-cuts (withBound d f) s (verdict-fail (withBound d f) t .beaten)) in
-            clash (all-reached s (m .0) (m .1) (cut-good (withBound d f) s (m .0) (m .1) (m .2))) (cut-unreached (withBound d f) s (m .0) (m .1) (m .2))
+  -- nobody can be cut off: whoever is, is not the source and does not hear it
+  direct-passes : ((b : ℕ) → b < d .n → (b ≡ d .source → ⊥) → linked d (d .source) b ≡ true) → (f : ℕ) → passesWith d f ≡ true
+  unfolding passesWith hasMargin
+  direct-passes direct f =
+      pass-by (withBound d f)
+      (λ s b i l c.
+      let has = cut-has (withBound d f) k f refl s b l c in
+      clash (linked-is d f (d .source) b ∙ direct b l (λ e. clash (eq-eqb b (d .source) e) (not-e _ (and-l _ _ has)))) (not-e _ (and-r _ _ has)))
 
   all-direct : ((b : ℕ) → b < d .n → (b ≡ d .source → ⊥) → linked d (d .source) b ≡ true) → greatest d ≡ upTo (d .n - 1)
   all-direct direct =
@@ -115,19 +102,6 @@ module _ (d : Drawing) where
       clash (mem-mask (d .n) b (isDeaf (withBound d 0)) l ∙ and-i _ _ (not-i (ne-eqb b (d .source) e)) (eq-eqb (getD (d .rows) b 0) 0 z))
       (ap (mem b) none-deaf ∙ mem-zero b)
 
--- whoever hears a alone hears nobody without that link
-emptied : (d : Drawing) (a b : ℕ) → ((x : ℕ) → linked d x b ≡ true → x ≡ a) → getD (withoutLink d a b .rows) b 0 ≡ 0
-unfolding hears heardBy without
-emptied d a b only =
-    ⊎-elim
-    (λ k.
-    getD-set-same (d .rows) b (without (d .n) (getD (d .rows) b 0) a) 0 k
-    ∙ sym (mask-of (d .n) 0 _ (pow-pos (d .n)) (λ x l. mem-zero x ∙ sym (gone x))))
-    (λ k. List·getD-eq-default (set (d .rows) b (without (d .n) (getD (d .rows) b 0) a)) 0 (subst (λ (m : ℕ). m ≤ b) (sym (length-set (d .rows) b _)) k)) (below-or-not b (length (d .rows)))
-  where
-    gone : (x : ℕ) → mem x (getD (d .rows) b 0) and not (eqb x a) ≡ false
-    gone x = no-by (λ h. clash (eq-eqb x a (only x (and-l _ _ h))) (not-e _ (and-r _ _ h)))
-
 pub links-cost : (d : Drawing) → d .source < d .n → LinksCost d
 links-cost d k = record {
   is-greatest = greatest-is d;
@@ -140,5 +114,5 @@ links-cost d k = record {
   not-lowered = λ rows more. height-le d (redrawn d rows) refl (more-pass d k rows more);
   all-direct = all-direct d k;
   deaf-none = deaf-none d;
-  source-link = λ b l e only. deaf-none (withoutLink d (d .source) b) (deaf-one (withoutLink d (d .source) b) b l e (emptied d (d .source) b only));
+  source-link = λ b l e only. deaf-none (withoutLink d (d .source) b) (deaf-one (withoutLink d (d .source) b) b l e (row-emptied d (d .source) b only));
 }

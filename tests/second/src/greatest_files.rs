@@ -1,14 +1,12 @@
 //! Seeded files and drawings for the greatest f: from none to n-1, right ones, deaf ones, ones with
 //! groups, and ones with other causes.
 
-use crate::damage::sized;
 use crate::draft::{head_line, join, plan_draft};
 use crate::faults::Fault;
-use crate::generate::Kind;
 use crate::groups::Bound;
 use crate::margin_files::{
-    crowd, drawn_plan, grouped_plan, later_cause, later_line, right, small_case, unheard,
-    wrong_groups, MOST_OF_SIZES,
+    crowd, drawn_plan, grouped_plan, is_sized, large_case, later_cause, later_line, right,
+    sized_case, small_case, unheard, wrong_groups, MOST_OF_SIZES,
 };
 use crate::output::greatest_text;
 use crate::plan::{Cause, Plan};
@@ -248,21 +246,14 @@ pub fn headed(index: u64) -> Vec<u8> {
 /// Sorts of files; they take turns by index.
 const SORTS: u64 = 10;
 
-/// An empty file, one that is too long or one next to these comes every so many turns.
-const SIZED_EVERY: u64 = 40;
-
 pub fn greatest_case(seed: u64, index: u64) -> Vec<u8> {
     let rng = &mut Rng::for_case(seed, 17, index);
     let turn = index / SORTS;
     if index % LARGE_EVERY == LARGE_EVERY - 1 {
-        let n = LARGE[(index / LARGE_EVERY % LARGE.len() as u64) as usize];
-        return join(&plan_draft(drawing_of(rng, n)).lines);
+        return large_case(rng, &LARGE, index / LARGE_EVERY, drawing_of);
     }
     let lines = match index % SORTS {
-        0 if turn % SIZED_EVERY == SIZED_EVERY - 1 => {
-            let draft = plan_draft(some_drawing(rng));
-            return sized(rng, Kind::Verdict, &draft);
-        }
+        0 if is_sized(turn) => return sized_case(rng, some_drawing),
         0 => return small_case(rng, seed, read_greatest),
         1 => plan_draft(grouped_plan(rng)).lines,
         2 => wrong_groups(rng, turn),

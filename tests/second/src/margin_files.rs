@@ -182,6 +182,26 @@ const SORTS: u64 = 10;
 /// An empty file, one that is too long or one next to these comes every so many turns.
 const SIZED_EVERY: u64 = 40;
 
+pub(crate) fn is_sized(turn: u64) -> bool {
+    turn % SIZED_EVERY == SIZED_EVERY - 1
+}
+
+pub(crate) fn sized_case(rng: &mut Rng, some: fn(&mut Rng) -> Plan) -> Vec<u8> {
+    let draft = plan_draft(some(rng));
+    sized(rng, Kind::Verdict, &draft)
+}
+
+/// A right file of the next of these numbers of terminals.
+pub(crate) fn large_case(
+    rng: &mut Rng,
+    sizes: &[u32],
+    turn: u64,
+    plan_of: fn(&mut Rng, u32) -> Plan,
+) -> Vec<u8> {
+    let n = sizes[(turn % sizes.len() as u64) as usize];
+    join(&plan_draft(plan_of(rng, n)).lines)
+}
+
 /// The causes of a file's line that are planted after the head, in turn.
 const LATER_CAUSES: [u32; 7] = [5, 6, 1, 5, 6, 2, 3];
 
@@ -189,14 +209,10 @@ pub fn margin_case(seed: u64, index: u64) -> Vec<u8> {
     let rng = &mut Rng::for_case(seed, 15, index);
     let turn = index / SORTS;
     if index % LARGE_EVERY == LARGE_EVERY - 1 {
-        let n = LARGE[(index / LARGE_EVERY % LARGE.len() as u64) as usize];
-        return join(&plan_draft(fitted_plan(rng, n)).lines);
+        return large_case(rng, &LARGE, index / LARGE_EVERY, fitted_plan);
     }
     let lines = match index % SORTS {
-        0 if turn % SIZED_EVERY == SIZED_EVERY - 1 => {
-            let draft = plan_draft(some_plan(rng));
-            return sized(rng, Kind::Verdict, &draft);
-        }
+        0 if is_sized(turn) => return sized_case(rng, some_plan),
         0 => return small_case(rng, seed, read_margins),
         2 => plan_draft(grouped_plan(rng)).lines,
         3 => wrong_groups(rng, turn),
