@@ -8,14 +8,15 @@ use native.Mathlib.Omega.{arith}
 use lib.Dec.{eqb, ltb}
 use borrow.Author.Tests.{eqb-true, eqb-false, ne-eqb, ltb-true, ltb-false, lt-ltb}
 use Rattle.sets.specs.Tests.{_and_, _implies_}
-use Rattle.sets.specs.Sets.{bit, mem, size, within, outside}
+use Rattle.sets.specs.Sets.{bit, mem, size, within, outside, isPartition}
 use Rattle.sets.proofs.Bools.{clash, decide, and-l, and-r, and-i, not-i, not-e, no-by, implies-i, implies-e, pick-case}
 use Rattle.sets.proofs.Laws.{mask-lt, mem-mask, mem-zero, all-at, all-i, some-member}
+use Rattle.sets.proofs.Partition.{rest-one}
 use Rattle.plan.specs.declared.Plan.{Plan}
 use Rattle.plan.specs.Plan.{hears}
 use Rattle.closure.specs.FaultSet.{hearsEnough, isFaultSet}
 use Rattle.closure.specs.Closure.{joins, reached, cutOff}
-use Rattle.closure.specs.Verdict.{defeats, Found, none, found, better, bestBelow, Ahead, verdictOf, verdict, Fails, isPartition, accepts}
+use Rattle.closure.specs.Verdict.{defeats, Found, none, found, better, bestBelow, Ahead, verdictOf, verdict, Fails, accepts}
 use Rattle.closure.proofs.Faults.{fault-below, fault-source}
 use Rattle.closure.proofs.Growth.{joins-good, joins-why, joins-source, joins-enough, reached-closed, reached-source, reached-below, reached-good, reached-least}
 
@@ -166,13 +167,6 @@ one-of false true true e = clash e refl
 one-of false true false e = (λ x y. clash refl y, λ x. clash x refl, λ x. clash x refl)
 one-of false false true e = (λ x y. refl, λ x. refl, λ x. refl)
 one-of false false false e = clash e refl
-
-pub rest-one : (a b c : Bool) → (b ≡ true → a ≡ false) → c ≡ not a and not b → eqb (bit a + bit b + bit c) 1 ≡ true
-unfolding _and_
-rest-one true true c d e = clash refl (d refl)
-rest-one true false c d e = ap (λ (x : Bool). eqb (bit true + bit false + bit x) 1) e
-rest-one false true c d e = ap (λ (x : Bool). eqb (bit false + bit true + bit x) 1) e
-rest-one false false c d e = ap (λ (x : Bool). eqb (bit false + bit false + bit x) 1) e
 
 -- the parts of what the check accepts
 pub record Accepted (p : Plan) (f l r : ℕ) : Type 0 where

@@ -1,11 +1,11 @@
 -- The verdict with its witness, and the witness check (document 01, "Verdict and witness"). Assumes nothing.
-use Prim.Native.Nat.{ℕ, zero, suc, _+_, _^_, _≤_, _<_}
+use Prim.Native.Nat.{ℕ, zero, suc, _^_, _≤_, _<_}
 use mathlib.Core.Path.{_≡_}
 use mathlib.Core.Logic.{_⊎_}
 use mathlib.Core.Bool.{Bool, true, false, not}
 use lib.Dec.{eqb, ltb}
 use Rattle.sets.specs.Tests.{_and_, _implies_, pick}
-use Rattle.sets.specs.Sets.{Set, bit, mem, all, size, within}
+use Rattle.sets.specs.Sets.{Set, mem, all, size, isPartition}
 use Rattle.plan.specs.declared.Plan.{Plan}
 use Rattle.plan.specs.Plan.{hears}
 use Rattle.closure.specs.FaultSet.{hearsEnough, isFaultSet}
@@ -57,10 +57,6 @@ pub record Fails (p : Plan) (v : Verdict) : Type 0 where
 
 -- the witness check: F, L, R are a partition of the terminals, the source is in L, R is non-empty, F is a fault set, no member of R hears the source,
 -- and none hears enough members of L
-unfoldable pub isPartition : (n : ℕ) (f l r : Set) → Bool
-isPartition n f l r =
-    within n f and within n l and within n r and all n (λ b. eqb (bit (mem b f) + bit (mem b l) + bit (mem b r)) 1)
-
 unfoldable pub accepts : Plan → (f l r : Set) → Bool
 accepts p f l r =
     isPartition (p .n) f l r and mem (p .source) l and not (eqb r 0) and isFaultSet p f

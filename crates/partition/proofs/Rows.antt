@@ -1,20 +1,19 @@
 -- The words that the search computes from a sound plan's rows are the theory's sets. Assumes nothing.
-use Prim.Native.Nat.{ℕ, _-_, _*_, _%_, _^_, _≤_, _<_}
-use mathlib.Core.Path.{_≡_, refl, sym, ap, ap₂, _∙_, subst}
-use mathlib.Core.Logic.{_⊎_, ⊎-elim}
+use Prim.Native.Nat.{ℕ, _-_, _^_, _<_}
+use mathlib.Core.Path.{_≡_, refl, sym, ap, _∙_, subst}
+use mathlib.Core.Logic.{⊎-elim}
 use mathlib.Core.Bool.{Bool, true, false, not}
 use mathlib.Core.List.{List}
-use native.Mathlib.Nat.{lt-of-le-of-lt, one-mul, mod-eq-of-lt, sub-zero}
+use native.Mathlib.Nat.{lt-of-le-of-lt}
 use native.Mathlib.Omega.{arith}
 use lib.Bits.{bitAnd, bitOr, and-le-l, or-lt}
 use lib.Dec.{eqb}
-use lib.Pow.{pow-lt, pow-pos, ones-lt}
 use borrow.Author.Tests.{eqb-true, eq-eqb, lt-ltb}
-use Rattle.sets.specs.Tests.{_and_, _or_}
+use Rattle.sets.specs.Tests.{_and_}
 use Rattle.sets.specs.Sets.{mem, count, mask, singleton}
 use Rattle.quorum.specs.Quorum.{atMost, enough}
 use Rattle.sets.proofs.Bools.{clash, decide, and-l, and-r, and-i, or-l, or-r, or-e, not-i, not-e, no-by, same-test}
-use Rattle.sets.proofs.Laws.{mem-zero, set-ext, mask-lt, mem-mask, mask-of, mask-cong, count-more, mem-below}
+use Rattle.sets.proofs.Laws.{set-ext, mask-lt, mem-mask, mask-cong, count-more, mem-below}
 use Rattle.quorum.proofs.Laws.{enough-none}
 use Rattle.sets.proofs.Masks.{mem-and, mem-or, mem-not}
 use Rattle.sets.proofs.Operations.{singleton-narrow}
@@ -85,26 +84,6 @@ direct-below p s d e = subst (λ (x : ℕ). x < 2 ^ p .n) (sym (e ∙ direct-is 
 pub direct-by : (rows : List ℕ) (source one d : ℕ) → one ≡ singleton 32 source → d ≡ over rows 0 one → d ≡ direct rows source
 unfolding direct
 direct-by rows source one d e q = q ∙ ap (over rows 0) e
-
-pub one-shift : (n : ℕ) → n ≤ 20 → (1 * 2 ^ n) % 4294967296 ≡ 2 ^ n
-one-shift n t = ap (λ (x : ℕ). x % 4294967296) (one-mul (2 ^ n)) ∙ mod-eq-of-lt (pow-lt {j = 32} (omega arith))
-
--- everyone outside two sets
-pub left-is : (n a b : ℕ) → n ≤ 20 → a < 2 ^ 32 → b < 2 ^ 32
-    → bitAnd ((1 * 2 ^ n) % 4294967296 - 1) (4294967295 - bitOr a b) ≡ mask n (λ i. not (mem i a) and not (mem i b))
-unfolding _and_ _or_
-left-is n a b t ha hb =
-    ap (λ (x : ℕ). bitAnd (x - 1) (4294967295 - bitOr a b)) (one-shift n t)
-    ∙ mask-of n (bitAnd (2 ^ n - 1) (4294967295 - bitOr a b)) (λ i. not (mem i a) and not (mem i b))
-    (lt-of-le-of-lt (and-le-l (2 ^ n - 1) (4294967295 - bitOr a b)) (ones-lt n))
-    (λ i k.
-    mem-and i (2 ^ n - 1) (4294967295 - bitOr a b)
-    ∙ ap₂ _and_ (ap (mem i) (sym (sub-zero (2 ^ n - 1))) ∙ mem-not n i 0 (pow-pos n) k ∙ ap not (mem-zero i))
-    (mem-not 32 i (bitOr a b) (or-lt 32 a b ha hb) (omega arith) ∙ ap not (mem-or i a b) ∙ none-of (mem i a) (mem i b)))
-  where
-    none-of : (x y : Bool) → not (x or y) ≡ not x and not y
-    none-of true y = refl
-    none-of false y = refl
 
 -- ---- what a notice reaches: the source and its hearers outside the fault set, with whoever joins them
 

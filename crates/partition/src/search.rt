@@ -90,7 +90,7 @@ pub(crate) fn outside(n: usize, faulty: u32, l: u32) -> u32
     requires { ⌜ n ≤ 20 ⌝ }
     ensures { λ r. ⌜ r ≡ outside n faulty l ⌝ }
 {
-    ((1u32 << n) - 1) & !(faulty | l)
+    sets::outside(n, faulty, l)
 }
 
 // The least key of all sets that defeat the plan, or 21 members (21 · 2^20 = 22020096), above every key,

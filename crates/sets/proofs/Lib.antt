@@ -6,3 +6,4 @@ pub mod Digits
 pub mod Laws
 pub mod Masks
 pub mod Operations
+pub mod Partition

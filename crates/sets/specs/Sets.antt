@@ -58,3 +58,8 @@ without w s i = mask w (λ j. mem j s and not (eqb j i))
 -- the terminals below n that are in neither of two sets
 abbrev pub outside : (n : ℕ) (a b : Set) → Set
 outside n a b = mask n (λ i. not (mem i a) and not (mem i b))
+
+-- three sets are a partition of the terminals below n: each is in one of them, and nobody else is
+unfoldable pub isPartition : (n : ℕ) (f l r : Set) → Bool
+isPartition n f l r =
+    within n f and within n l and within n r and all n (λ b. eqb (bit (mem b f) + bit (mem b l) + bit (mem b r)) 1)

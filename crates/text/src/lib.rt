@@ -8,6 +8,7 @@ ghost use lib.Seq.{paste};
 ghost use Rattle.digits.specs.Digits.{characterOf};
 ghost use Rattle.text.specs.Digits.{hexByte, hexPair, hexTriple, decimal};
 ghost use Rattle.text.specs.Texts.{held, joined, writtenOf, putInto};
+ghost use Rattle.text.specs.Phrases.{same, begins};
 
 // The bytes that a text has room for.
 const ROOM: usize = 344;
@@ -126,6 +127,48 @@ impl Text {
         self.raw(48 + v / 100)
             .raw(48 + v / 10 % 10)
             .raw(48 + v % 10)
+    }
+
+    // The bytes of a phrase, as they are.
+    pub fn phrase(self, bytes: &[u8]) -> Text
+        ensures { λ r. ⌜ held r ≡ joined (held self) (now (bytes .entry)) ⌝ }
+    {
+        let mut t = self;
+        let mut i = 0;
+        while i < bytes.len() {
+            t = t.raw(bytes[i]);
+            i += 1;
+        }
+        t
+    }
+
+    // The bytes begin with those that it holds.
+    pub fn begins(self, bytes: &[u8]) -> bool
+        ensures { λ r. ⌜ r ≡ begins (held self) (now (bytes .entry)) ⌝ }
+    {
+        let own = self.bytes;
+        let n = self.count();
+        if bytes.len() < n {
+            return false;
+        }
+        let mut i = 0;
+        while i < n {
+            if own[i] != bytes[i] {
+                return false;
+            }
+            i += 1;
+        }
+        true
+    }
+
+    // It holds just these bytes.
+    pub fn is(self, bytes: &[u8]) -> bool
+        ensures { λ r. ⌜ r ≡ same (held self) (now (bytes .entry)) ⌝ }
+    {
+        if self.count() == bytes.len() {
+            return self.begins(bytes);
+        }
+        false
     }
 
     // How many bytes it holds.

@@ -2,15 +2,13 @@
 use mathlib.Core.Path.{sym, _∙_}
 use borrow.Author.Tests.{eq-eqb, ne-eqb}
 use Rattle.sets.proofs.Bools.{and-no-l, and-no-r, not-i, not-yes, and-yes}
-use Rattle.plan.proofs.Laws.{sound}
 use Rattle.closure.specs.Verdict.{accepts}
-use native.Mathlib.Omega.{arith}
 use borrow.Author.Needs.{needs}
 use Rattle.partition.proofs.check.accepts.Statement.{statement}
 use Rattle.partition.proofs.check.accepts.Tie as tie
 
 is-partition-requires : tie.Need-is-partition-requires
-is-partition-requires c κs = let s = sound (c .args .p) (c .pre) in omega arith
+is-partition-requires c κs = search needs
 
 member-requires : tie.Need-member-requires
 member-requires c κs = search needs

@@ -1,23 +1,16 @@
--- Everyone, less both sets. Assumes nothing.
-use Prim.Native.Nat.{ℕ, _≤_}
-use mathlib.Core.Path.{sym, subst}
-use lib.Pow.{pow-pos}
-use Rattle.partition.proofs.Rows.{left-is, one-shift}
+-- A plan has fewer terminals than a word has bits. Assumes nothing.
+use mathlib.Core.Path.{_∙_}
+use native.Mathlib.Omega.{arith}
+use Rattle.sets.proofs.Partition.{few-outside}
 use borrow.Author.Needs.{needs}
 use Rattle.partition.proofs.search.outside.Statement.{statement}
 use Rattle.partition.proofs.search.outside.Tie as tie
 
-cast-result : tie.Need-cast-result
-cast-result c = search needs
-
-shl-result : tie.Need-shl-result
-shl-result c = search needs
-
-sub-result : tie.Need-sub-result
-sub-result c = subst (λ (x : ℕ). 1 ≤ x) (sym (one-shift (c .args .n) (c .pre))) (pow-pos (c .args .n))
+outside-requires : tie.Need-outside-requires
+outside-requires c κs = search needs
 
 returns : tie.Need-returns
-returns c = left-is (c .args .n) (c .args .faulty) (c .args .l) (c .pre) (c .fits .faulty .fits) (c .fits .l .fits)
+returns c = let a = c .before .args in c .outside .ensures ∙ few-outside (a .n) (a .faulty) (a .l) (omega arith)
 
 pub outside-spec : {M : Type 1} → statement M
-outside-spec = tie.close (tie.spec cast-result shl-result sub-result returns)
+outside-spec = tie.close (tie.spec outside-requires returns)
