@@ -20,7 +20,6 @@ use Rattle.closure.specs.Answer.{Answer, answerWithin}
 use Rattle.partition.proofs.Laws.{Failed, answer-fails}
 use Rattle.frames.specs.declared.FileRead.{FileRead}
 use Rattle.text.specs.Digits.{hexByte, hexPair, hexTriple}
-use Rattle.text.specs.Texts.{joined}
 use Rattle.output.specs.OnFile.{refusalLine, textOn}
 use Rattle.verdict_output.specs.Verdict.{verdictLine, answerText, verdictOn}
 
@@ -48,10 +47,13 @@ answer-small most p WrongLink e = omega arith
 answer-small most p WrongGroups e = omega arith
 
 -- such a set is its low three bytes
-pub low : (bytes : List ℕ) (s : ℕ) {last : List ℕ} → s < 16777216 → last ≡ joined bytes (hexTriple (s % 16777216)) → last ≡ joined bytes (hexTriple s)
-low bytes s h e =
-    let same : s % 16777216 ≡ s = omega arith in
-    e ∙ ap (λ (v : ℕ). joined bytes (hexTriple v)) same
+pub low-sets : (failed f l r : ℕ) → (f < 16777216) × (l < 16777216) × (r < 16777216)
+    → verdictLine failed (f % 16777216) (l % 16777216) (r % 16777216) ≡ verdictLine failed f l r
+low-sets failed f l r h =
+    let a : f % 16777216 ≡ f = omega arith in
+    let b : l % 16777216 ≡ l = omega arith in
+    let c : r % 16777216 ≡ r = omega arith in
+    cc
 
 -- ---- a judgement's line, where the judgement was found to be this one
 

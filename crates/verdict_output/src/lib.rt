@@ -1,6 +1,6 @@
 // What `verdict`, `archive` and `quote` print: from a plan file's bytes to the verdict's line.
 ghost use mathlib.Core.Path.{_≡_};
-ghost use Prim.Native.Nat.{_<_};
+ghost use Prim.Native.Nat.{_%_, _<_};
 ghost use lib.ListN.{length};
 ghost use Rattle.partition.specs.Answer.{answered};
 ghost use Rattle.text.specs.Texts.{held, putInto};
@@ -12,10 +12,9 @@ use output::Written;
 use partition::Judgement;
 use text::Text;
 
-// 81: pass or fail, and the witness.
-fn line(failed: u8, f: u32, l: u32, r: u32) -> Text
-    requires { ⌜ (f < 16777216) × (l < 16777216) × (r < 16777216) ⌝ }
-    ensures { λ x. ⌜ held x ≡ verdictLine failed f l r ⌝ }
+// 81: pass or fail, and the witness, of which three bytes a set are written.
+pub fn line(failed: u8, f: u32, l: u32, r: u32) -> Text
+    ensures { λ x. ⌜ held x ≡ verdictLine failed (f % 16777216) (l % 16777216) (r % 16777216) ⌝ }
 {
     text::empty()
         .byte(129)

@@ -1,9 +1,9 @@
 -- Each judgement's line, by what the judgement tells. Assumes nothing.
-use mathlib.Core.Path.{refl}
+use mathlib.Core.Path.{refl, _∙_}
 use native.Mathlib.Omega.{arith}
 use borrow.Author.Needs.{needs}
 use Rattle.partition.specs.declared.Judgement.the-variants.{Pass, Fail, WrongRange, TooMany, WrongLink, WrongGroups}
-use Rattle.verdict_output.proofs.LineLaws.{says-verdict, says-refusal}
+use Rattle.verdict_output.proofs.LineLaws.{says-verdict, says-refusal, low-sets}
 use Rattle.verdict_output.proofs.answer.Statement.{statement}
 use Rattle.verdict_output.proofs.answer.Tie as tie
 
@@ -17,7 +17,7 @@ enum-known-j : tie.Need-enum-known-j
 enum-known-j c = search needs
 
 line-requires-2 : tie.Need-line-requires-2
-line-requires-2 c κs = rw (c .before .j .given .1) at (c .before .before .before .pre)
+line-requires-2 c κs = search needs
 
 enum-told-2 : tie.Need-enum-told-2
 enum-told-2 c = search needs
@@ -47,7 +47,8 @@ returns : tie.Need-returns
 returns c = says-verdict _ Pass _ (c .before .enum-told .given .1) refl (c .line .ensures)
 
 returns-2 : tie.Need-returns-2
-returns-2 c = says-verdict _ (Fail _) _ (c .before .before .j .given .1) refl (c .line2 .ensures)
+returns-2 c = let small = rw (c .before .before .j .given .1) at (c .before .before .before .before .pre) in
+    says-verdict _ (Fail _) _ (c .before .before .j .given .1) refl (c .line2 .ensures ∙ low-sets _ _ _ _ small)
 
 returns-3 : tie.Need-returns-3
 returns-3 c = says-refusal _ WrongRange _ (c .before .enum-told2 .given .1) (λ z. omega arith) (c .refusal .ensures)

@@ -1,9 +1,9 @@
-use Prim.Native.Nat.{_≤_}
+use Prim.Native.Nat.{_%_, _≤_}
 use lib.ListN.{length}
 use native.Mathlib.Omega.{arith}
 use Rattle.text.proofs.Laws.{then, whole}
 use Rattle.verdict_output.specs.Verdict.{verdictLine}
-use Rattle.verdict_output.proofs.LineLaws.{low, verdict-length}
+use Rattle.verdict_output.proofs.LineLaws.{verdict-length}
 -- The line's parts, one after the other. Assumes nothing.
 use borrow.Author.Needs.{needs}
 use Rattle.verdict_output.proofs.line.Statement.{statement}
@@ -33,10 +33,9 @@ raw-requires c κs = search needs
 returns : tie.Need-returns
 unfolding verdictLine
 returns c = let a = c .before .before .before .before .before .before .before .args in
-    let p = c .before .before .before .before .before .before .before .pre in
-    let short : length (verdictLine (a .failed) (a .f) (a .l) (a .r)) ≤ 344 = omega (arith, verdict-length (a .failed) (a .f) (a .l) (a .r)) in
+    let short : length (verdictLine (a .failed) (a .f % 16777216) (a .l % 16777216) (a .r % 16777216)) ≤ 344 = omega (arith, verdict-length (a .failed) (a .f % 16777216) (a .l % 16777216) (a .r % 16777216)) in
     let head = then _ _ _ (c .before .before .before .before .before .byte .ensures) (c .before .before .before .before .byte2 .ensures) in
-    let sets = then _ _ _ (then _ _ _ (then _ _ _ head (low _ (a .f) (p .0) (c .before .before .before .triple .ensures))) (low _ (a .l) (p .1) (c .before .before .triple2 .ensures))) (low _ (a .r) (p .2) (c .before .triple3 .ensures)) in
+    let sets = then _ _ _ (then _ _ _ (then _ _ _ head (c .before .before .before .triple .ensures)) (c .before .before .triple2 .ensures)) (c .before .triple3 .ensures) in
     whole (c .before .before .before .before .before .before .empty .ensures) (then _ _ _ sets (c .raw .ensures)) short
 
 pub line-spec : {M : Type 1} → statement M
