@@ -8,8 +8,8 @@ use crate::greatest_files::{
     GreatestAnswer, SHAPED as SHAPED_DRAWINGS, THIN,
 };
 use crate::heard_files::{
-    by_hand, every_sentence, heard_case, hearing_answer, hearing_case, listed_file, sized_file,
-    spoilt, HeardCase, BY_HAND, LISTED, SIZED, SPOILT,
+    by_hand, by_hand_file, every_sentence, heard_case, hearing_answer, hearing_case, listed_file,
+    sized_file, spoilt, HeardCase, BY_HAND, LISTED, SIZED, SPOILT,
 };
 use crate::issues::{issue_case, IssueCase};
 use crate::lent::{read_answer, read_case, shared_read_case, ReadAnswer, ReadCase};
@@ -991,7 +991,8 @@ fn heard_files(seed: u64, count: u64) -> Answered<Vec<u8>, Vec<u8>> {
     let seeded = (0..count / 8).map(|index| heard_case(seed, index));
     let listed = (0..LISTED).map(listed_file);
     let sized = (0..SIZED).map(sized_file);
-    let all = seeded.chain(listed).chain(sized);
+    let by_hand = (0..BY_HAND).map(by_hand_file);
+    let all = seeded.chain(listed).chain(sized).chain(by_hand);
     Answered::new(all, |text, fault| heard_text(text, fault))
 }
 

@@ -41,10 +41,11 @@ const WHOLE: [(u32, &str); 3] = [
 ];
 
 /// Of n 7, what to put in the place of what in the first sentence.
-const REPLACED: [(&str, &str); 78] = [
+const REPLACED: [(&str, &str); 81] = [
     ("If", "if"),
     ("If", "IF"),
     ("If", "When"),
+    ("If", "Of"),
     ("If ", ""),
     ("If ", "If  "),
     ("If ", " If "),
@@ -57,6 +58,7 @@ const REPLACED: [(&str, &str); 78] = [
     ("If 1 and 3 stay silent", "Even if all work"),
     ("If 1 and 3 stay silent", "even if all work"),
     ("If 1 and 3 stay silent", "Even if all works"),
+    ("If 1 and 3 stay silent", "Even if all walk"),
     ("If 1 and 3 stay silent,", "Even if all work"),
     ("1 and 3", "1 and"),
     ("1 and 3", "and 3"),
@@ -98,6 +100,7 @@ const REPLACED: [(&str, &str); 78] = [
     ("silent, ", "silent "),
     ("silent, ", "silent,"),
     ("silent, ", "quiet, "),
+    ("silent, ", "asleep, "),
     ("silent, ", "silent; "),
     ("5 and 6", ""),
     ("5 and 6 never", "never"),
@@ -263,7 +266,7 @@ pub fn hearing_case(seed: u64, index: u64) -> HeardCase {
             if rng.chance(30) {
                 text.pop();
             }
-            rng.pick(&WRONG_N)
+            WRONG_N[(turn / 2 % WRONG_N.len() as u64) as usize]
         }
     };
     HeardCase { n, text }
@@ -358,7 +361,7 @@ const FIRST_LINES: [&[u8]; 40] = [
 ];
 
 /// What may stand after the first line instead of the sentence and one line end.
-const AFTER: [&[u8]; 13] = [
+const AFTER: [&[u8]; 14] = [
     b"",
     b"\n",
     b"\n\n",
@@ -371,6 +374,7 @@ const AFTER: [&[u8]; 13] = [
     b"\nEven if all work, 2 never gets the notice.\n",
     b"Even if all work,\n2 never gets the notice.\n",
     b"Even if all work, 2 never gets the notice\n",
+    b"Even if all work, 2 never gets the notice\xae\n",
     b"Even if all work, 2 never gets the notice.\n",
 ];
 
@@ -412,6 +416,11 @@ pub fn listed_file(index: u64) -> Vec<u8> {
     file_of(&HeardCase { n, text })
 }
 
+/// Each text that is damaged by hand.
+pub fn by_hand_file(index: u64) -> Vec<u8> {
+    file_of(&by_hand(index))
+}
+
 /// No byte, as many as a file may have, and one more under a wrong n.
 pub const SIZED: u64 = 3;
 
@@ -441,7 +450,7 @@ pub fn heard_case(seed: u64, index: u64) -> Vec<u8> {
         0 if turn % 100 == 99 => sized_file(any % SIZED),
         0 | 1 => file_of(&right),
         2 => file_of(&hearing_case(seed, any)),
-        3 => file_of(&by_hand(any % BY_HAND)),
+        3 => by_hand_file(any % BY_HAND),
         4 => listed_file(any % LISTED),
         5 => {
             let first = rng.pick(&FIRST_LINES);

@@ -75,9 +75,9 @@ use crate::record_margins::{
 };
 use crate::record_quote::{chain_call, judged_call, judged_chain_call, quote_call, sized_call};
 use crate::record_sentence::{
-    composed_call, composed_every_call, heard_call, hearing_by_hand_call, hearing_call,
-    hearing_every_call, listed_heard_call, sentence_call, sized_heard_call, sized_sentence_call,
-    spoilt_call, wrong_sets_call,
+    by_hand_call, composed_call, composed_every_call, heard_call, hearing_by_hand_call,
+    hearing_call, hearing_every_call, listed_heard_call, sentence_call, sized_heard_call,
+    sized_sentence_call, spoilt_call, wrong_sets_call,
 };
 use crate::record_shared::{
     channel_call, channel_read_call, flooded_call, shared_file_call, shared_file_read_call,
@@ -114,6 +114,7 @@ const MAY_BE_LONG: u64 = 120;
 const LONG: usize = 1_900;
 
 /// One call, and the line that answers it.
+#[derive(Clone)]
 pub struct Call {
     pub kind: u8,
     pub lent: usize,
@@ -139,7 +140,7 @@ pub fn write(calls_file: &Path, lines_file: &Path) -> io::Result<()> {
 type Maker = fn(u64, u64) -> Call;
 
 /// Every kind of call, and how many of it.
-const KINDS: [(Maker, u64); 69] = [
+const KINDS: [(Maker, u64); 70] = [
     (verdict_call, 600),
     (run_call, 600),
     (edge_call, 150),
@@ -199,10 +200,11 @@ const KINDS: [(Maker, u64); 69] = [
     (thin_call, THIN),
     (sentence_call, 240),
     (sized_sentence_call, 2),
-    (heard_call, 240),
+    (heard_call, 216),
     (listed_heard_call, LISTED),
+    (by_hand_call, BY_HAND),
     (sized_heard_call, SIZED),
-    (composed_call, 240),
+    (composed_call, 216),
     (composed_every_call, EVERY),
     (wrong_sets_call, WRONG_SETS),
     (hearing_call, 240),

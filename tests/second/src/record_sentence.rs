@@ -2,8 +2,8 @@
 
 use crate::faults::Fault;
 use crate::heard_files::{
-    by_hand, every_sentence, heard_case, hearing_answer, hearing_case, listed_file, sized_file,
-    spoilt, HeardCase,
+    by_hand, by_hand_file, every_sentence, heard_case, hearing_answer, hearing_case, listed_file,
+    sized_file, spoilt, HeardCase,
 };
 use crate::plan::Cause;
 use crate::reader::LONGEST_FILE;
@@ -33,6 +33,10 @@ pub(crate) fn heard_call(seed: u64, index: u64) -> Call {
 /// First lines and ends of every sort, with room for the whole answer.
 pub(crate) fn listed_heard_call(_: u64, index: u64) -> Call {
     whole_call(HEARD, listed_file(index))
+}
+
+pub(crate) fn by_hand_call(_: u64, index: u64) -> Call {
+    whole_call(HEARD, by_hand_file(index))
 }
 
 pub(crate) fn sized_heard_call(_: u64, index: u64) -> Call {

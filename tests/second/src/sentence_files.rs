@@ -27,7 +27,9 @@ pub fn sentence_case(seed: u64, index: u64) -> Vec<u8> {
         0 if is_sized(turn) => return sized_case(rng, small_plan),
         0 | 1 => return fresh_case(Kind::Verdict, seed, rng.below(1 << 30) as u64),
         2 | 3 => {
-            let n = rng.between(3, if turn % 4 == 3 { 20 } else { 9 });
+            let n = rng.between(3, 20);
+            let n = rng.pick(&[n, 20]);
+            let n = if turn % 4 == 3 { n } else { 3 + n % 7 };
             plan_draft(told_plan(rng, n)).lines
         }
         4 => {
@@ -186,20 +188,28 @@ pub fn spoil(rng: &mut Rng, n: u32, sets: &mut Sets, way: u64) {
         8..11 => sets[at(8)].extend([n]),
         11..14 => sets[at(11)].extend([rng.between(20, 31)]),
         14..17 => sets[at(14)].extend([rng.between(n, 31)]),
+        _ => spoil_all(rng, sets, way - 17),
+    }
+}
+
+/// The ways that are about the sets together.
+fn spoil_all(rng: &mut Rng, sets: &mut Sets, way: u64) {
+    match way {
         // L or R empty, or all three.
-        17 | 18 => {
-            let moved = std::mem::take(&mut sets[at(16)]);
-            sets[rng.pick(&[0, 3 - at(16)])].extend(moved);
+        0 | 1 => {
+            let which = 1 + way as usize;
+            let moved = std::mem::take(&mut sets[which]);
+            sets[rng.pick(&[0, 3 - which])].extend(moved);
         }
-        19 => *sets = Default::default(),
+        2 => *sets = Default::default(),
         // As many members as terminals, but one twice and another missing.
-        20 => {
+        3 => {
             let twice = sets[1].first().copied();
             sets[2].pop_first();
             sets[2].extend(twice);
         }
         // The same sum: two more of the one below in the place of one.
-        21 => {
+        4 => {
             sets.iter_mut().for_each(|set| set.retain(|&one| one != 1));
             sets.iter_mut().for_each(|set| set.extend([0]));
         }
@@ -241,7 +251,7 @@ pub fn compose_case(seed: u64, index: u64) -> ComposeCase {
             (n, sets)
         }
         4 => wrong_count(rng, turn),
-        _ if turn % 2 == 0 => (20, longest()),
+        _ if turn.is_multiple_of(2) => (20, longest()),
         _ => {
             let n = rng.pick(&[n.max(3) - 1, n + 1]);
             (n, some_fail(rng, 2 + (turn % 19) as u32))
