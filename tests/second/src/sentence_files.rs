@@ -27,20 +27,17 @@ pub fn sentence_case(seed: u64, index: u64) -> Vec<u8> {
         0 if is_sized(turn) => return sized_case(rng, small_plan),
         0 | 1 => return fresh_case(Kind::Verdict, seed, rng.below(1 << 30) as u64),
         2 | 3 => {
-            let n = rng.between(3, 20);
-            let n = rng.pick(&[n, 20]);
-            let n = if turn % 4 == 3 { n } else { 3 + n % 7 };
+            // One in four may be large.
+            let any = rng.between(3, 20);
+            let any = rng.pick(&[any, 20]);
+            let n = if turn % 4 == 3 { any } else { 3 + any % 7 };
             plan_draft(told_plan(rng, n)).lines
         }
         4 => {
-            let plan = small_plan(rng);
-            right(
-                rng,
-                Plan {
-                    bound: Bound::f(plan.bound.number % plan.n),
-                    ..plan
-                },
-            )
+            // With f, since the order of the lines is left to chance and groups have a place.
+            let mut plan = small_plan(rng);
+            plan.bound = Bound::f(plan.bound.number % plan.n);
+            right(rng, plan)
         }
         _ => match turn % 4 {
             0 => wrong_groups(rng, turn / 4),
@@ -142,7 +139,7 @@ pub fn some_fail(rng: &mut Rng, n: u32) -> Sets {
             };
             sets[which].insert(terminal);
         }
-        // Whoever is moved leaves the largest set, which is not alone in it.
+        // Where L or R is empty, somebody of the largest set is moved there.
         for which in [1, 2] {
             if sets[which].is_empty() {
                 let largest = (0..3).max_by_key(|&of| sets[of].len()).expect("three");
