@@ -55,6 +55,20 @@ pub fn listed_file(index: u64) -> Vec<u8> {
     [&head, &b"02"[..], before, &[byte], after, &rest].concat()
 }
 
+/// The same where a sentence was heard: as a digit of n, as one of its numbers, and after its full stop.
+pub fn heard_file(index: u64) -> Vec<u8> {
+    let (byte, place) = byte_in(index);
+    let (before, after): (&[u8], &[u8]) = match place {
+        Place::High => (
+            b"",
+            b"2\nIf 0 stays silent, 1 and 11 never get the notice.\n",
+        ),
+        Place::Low => (b"8\nIf 0 and ", b" stay silent, 7 never gets the notice.\n"),
+        Place::Past => (b"8\nEven if all work, 7 never gets the notice.", b"\n"),
+    };
+    [before, &[byte], after].concat()
+}
+
 /// Past the longest frame.
 const PAST: (&[u8], &[u8]) = (b"00070100000000", b"0\n");
 

@@ -4,11 +4,14 @@ use crate::characters;
 use crate::faults::Fault;
 use crate::generate::{fresh_case, Kind};
 use crate::greatest_files::greatest_case;
+use crate::heard_files::heard_case;
 use crate::margin_files::margin_case;
 use crate::output::{
-    archive_text, greatest_text, margins_text, quote_text, rewritten_text, run_text, verdict_text,
+    archive_text, greatest_text, heard_text, margins_text, quote_text, rewritten_text, run_text,
+    sentence_text, verdict_text,
 };
 use crate::quotes::quote_case;
+use crate::sentence_files::sentence_case;
 use std::fs;
 use std::io::{Read, Write};
 use std::process::{Child, Command, Stdio};
@@ -128,13 +131,21 @@ const DRAWINGS: Files = Files {
     seeded: greatest_case,
     characters: characters::listed_file,
 };
+const FAILS: Files = Files {
+    seeded: sentence_case,
+    characters: |index| characters::file(Kind::Verdict, index),
+};
+const PHONED: Files = Files {
+    seeded: heard_case,
+    characters: characters::heard_file,
+};
 
 /// How many programs are compared.
-pub const PROGRAMS: usize = 7;
+pub const PROGRAMS: usize = 9;
 
-/// The programs, in this order: verdict, run, rewrite, archive, quote, margins, greatest.
+/// The programs, in this order: verdict, run, rewrite, archive, quote, margins, greatest, sentence, heard.
 fn tested<'a>(programs: &[&'a str; PROGRAMS]) -> [Tested<'a>; PROGRAMS] {
-    let [verdict, run, rewrite, archive, quote, margins, greatest] = *programs;
+    let [verdict, run, rewrite, archive, quote, margins, greatest, sentence, heard] = *programs;
     let of = |name, program, files, text| Tested {
         name,
         program,
@@ -149,6 +160,8 @@ fn tested<'a>(programs: &[&'a str; PROGRAMS]) -> [Tested<'a>; PROGRAMS] {
         of("quote", quote, &QUOTES, quote_text),
         of("margins", margins, &MARGINS, margins_text),
         of("greatest", greatest, &DRAWINGS, greatest_text),
+        of("sentence", sentence, &FAILS, sentence_text),
+        of("heard", heard, &PHONED, heard_text),
     ]
 }
 

@@ -7,13 +7,19 @@ use crate::greatest_files::{
     greatest_answers, greatest_case, greatest_record, shaped as shaped_drawing, thin, Bounded,
     GreatestAnswer, SHAPED as SHAPED_DRAWINGS, THIN,
 };
+use crate::heard_files::{
+    by_hand, by_hand_file, every_sentence, heard_case, hearing_answer, hearing_case, listed_file,
+    sized_file, spoilt, HeardCase, BY_HAND, LISTED, SIZED, SPOILT,
+};
 use crate::issues::{issue_case, IssueCase};
 use crate::lent::{read_answer, read_case, shared_read_case, ReadAnswer, ReadCase};
 use crate::margin_files::{
     margin_answers, margin_case, margin_record, shaped, Fitted, MarginAnswer, SHAPED,
 };
 use crate::margins::margins;
-use crate::output::{archive_text, plan_text, rewritten_text, run_text, verdict_text};
+use crate::output::{
+    archive_text, heard_text, plan_text, rewritten_text, run_text, sentence_text, verdict_text,
+};
 use crate::plan::{Cause, Plan, Set};
 use crate::quotes::{
     is_short_search, judged, quote_answers, quote_case, quote_record, Judged, QuoteAnswer,
@@ -21,6 +27,11 @@ use crate::quotes::{
 use crate::reader::{read_archive, read_greatest, read_margins, Filed, Refusal};
 use crate::records::{record_answer, record_case, RecordAnswer, RecordCase};
 use crate::run::issue;
+use crate::sentence::Sets;
+use crate::sentence_files::{
+    compose_answer, compose_case, every, sentence_case, wrong_sets, ComposeAnswer, ComposeCase,
+    EVERY, WRONG_SETS,
+};
 use crate::shared::shared_fault_cause;
 use crate::shared_calls::{
     shared_set_case, shared_site_case, shared_step_case, SharedSite, SharedStep,
@@ -29,7 +40,8 @@ use crate::sites::{site_case, Site};
 use crate::step::{shared_step, step, Record, Row, State};
 use crate::steps::{step_case, StepCase};
 use crate::{
-    planted, planted_greatest, planted_margins, planted_notices, planted_quote, planted_shared,
+    planted, planted_greatest, planted_heard, planted_margins, planted_notices, planted_quote,
+    planted_sentence, planted_shared,
 };
 
 /// The place that is broken. Normal use is `None`.
@@ -474,6 +486,183 @@ pub enum Fault {
     GroupUnknownToGreatest,
     GreatestGroupsAccepted,
     GreatestDeafRefused,
+    SentenceStayOfOne,
+    SentenceStaysOfSeveral,
+    SentenceGetOfOne,
+    SentenceGetsOfSeveral,
+    SentenceVerbsExchanged,
+    SentenceVerbsByLast,
+    SentenceCommaBeforeAnd,
+    SentenceCommaBeforeEveryAnd,
+    SentenceCommaForAnd,
+    SentenceAndThroughout,
+    SentenceNoBlankAfterComma,
+    SentenceDescending,
+    SentenceInTextOrder,
+    SentenceLastForgotten,
+    SentenceFromOne,
+    SentenceTwoDigits,
+    SentenceInHex,
+    SentenceLastDigit,
+    SentenceEmptyAsIf,
+    SentenceEmptyAsNobody,
+    SentenceEmptySmall,
+    SentenceEmptyNoComma,
+    SentenceSmallIf,
+    SentenceNoComma,
+    SentenceNoticeCapital,
+    SentenceUnstopped,
+    SentenceStoppedTwice,
+    SentenceEndedInText,
+    SentenceSetsExchanged,
+    SentenceReachedNamed,
+    SentenceReachedSilent,
+    SentenceOfOne,
+    SentenceOf19,
+    SentenceOf21,
+    SentenceOfAnyN,
+    SentenceSetsBeforeN,
+    SentenceLengthBeforeSets,
+    SentenceLengthBeforeN,
+    SentenceWrongSetsAs5,
+    SentenceWrongSetsAs7,
+    SentenceReachedEmptyAccepted,
+    SentenceWaitingEmptyAccepted,
+    SentenceEmptySilentRefused,
+    SentenceZeroIsSource,
+    SentenceReachedNotCompared,
+    SentenceMissingAccepted,
+    SentenceOverlapAccepted,
+    SentenceSilentAndReached,
+    SentenceSilentAndWaiting,
+    SentenceReachedAndWaiting,
+    SentenceSetsCounted,
+    SentenceSetsSummed,
+    SentenceSetsXored,
+    SentenceMemberNAccepted,
+    SentenceAboveInSilent,
+    SentenceAboveInReached,
+    SentenceAboveInWaiting,
+    SentenceAbove19Accepted,
+    SentenceExactRefused,
+    SentenceCutOff,
+    SentenceWrongSetsWritten,
+    SentenceRefusedListCleared,
+    SentenceLengthBesideRefusal,
+    SentenceRestCleared,
+    SentenceRestBlank,
+    SentenceEndedInList,
+    SentenceLengthOfList,
+    SentenceLengthOneMore,
+    SentenceLengthWithoutStop,
+    SentenceAfterVerdict,
+    SentenceUnended,
+    SentenceEndedTwice,
+    SentenceWindowsEnd,
+    SentenceRefusedWithoutLine,
+    SentenceOfArchive,
+    SentenceOfQuotes,
+    SentenceWithoutGroups,
+    PassCapital,
+    PassUnended,
+    PassStopped,
+    PassEmpty,
+    PassNotPrinted,
+    PassAsVerdict,
+    HeardOfOne,
+    HeardOf19,
+    HeardOf21,
+    HeardOfAnyN,
+    HeardTextBeforeN,
+    HeardTextAs1,
+    HeardNumberAs5,
+    HeardEvenRefused,
+    HeardEvenNotCompared,
+    HeardEmptyIf,
+    HeardFirstByteNotCompared,
+    HeardIfNotCompared,
+    HeardSilentNotCompared,
+    HeardEndNotCompared,
+    HeardStopNotCompared,
+    HeardBeginOfEnd,
+    HeardStayOfOne,
+    HeardStaysOfSeveral,
+    HeardOneAlwaysStay,
+    HeardGetOfOne,
+    HeardGetsOfSeveral,
+    HeardCommaBeforeAnd,
+    HeardCommaForAnd,
+    HeardAndThroughout,
+    HeardNoBlankAfterComma,
+    HeardUnordered,
+    HeardLastUnordered,
+    HeardTwice,
+    HeardDescending,
+    HeardLeadingZeros,
+    HeardPlusSign,
+    HeardOneDigit,
+    HeardNumberAsByte,
+    HeardNumberAsWord,
+    HeardFromOne,
+    HeardTerminalN,
+    HeardTerminalsTo19,
+    HeardTerminalsAbove,
+    HeardInBoth,
+    HeardReachedEmpty,
+    HeardZeroIsSource,
+    HeardTwoReached,
+    HeardDoubledBlank,
+    HeardTrimmed,
+    HeardBlankBefore,
+    HeardLineEnd,
+    HeardCarriageReturn,
+    HeardStoppedTwice,
+    HeardUnstopped,
+    HeardAnyCase,
+    HeardSmallFirst,
+    HeardTabAsBlank,
+    HeardHighBitIgnored,
+    HeardToFirstZero,
+    HeardSetsExchanged,
+    HeardReachedAndWaiting,
+    HeardReachedNotTold,
+    HeardReachedAll,
+    HeardReachedNotSilent,
+    HeardReachedTo19,
+    HeardSetsBesideRefusal,
+    HeardSizeLast,
+    HeardSizeWithLine,
+    HeardShorterFiles,
+    HeardLongerFiles,
+    HeardEmptyAs4,
+    HeardNTrimmed,
+    HeardNWindowsEnd,
+    HeardNByFirstWord,
+    HeardNInHex,
+    HeardNAsByte,
+    HeardNLeadingZeros,
+    HeardNPlusSign,
+    HeardNTwoDigits,
+    HeardN21,
+    HeardN1,
+    HeardNNotChecked,
+    HeardUnended,
+    HeardThirdLine,
+    HeardEmptyThirdLine,
+    HeardWindowsEnd,
+    HeardNWithoutLine,
+    HeardNOnLine2,
+    HeardNForeignAs1,
+    HeardNoLineEndAs1,
+    HeardNoLineEndAs2,
+    HeardUnendedAs1,
+    HeardTextWithoutLine,
+    HeardTextOnLine1,
+    HeardLineUnended,
+    HeardLineCapital,
+    HeardAsPass,
+    HeardSetsInFour,
+    HeardReachedUntold,
 }
 
 /// All planted faults, and what is wrong in each.
@@ -484,12 +673,16 @@ pub fn planted() -> impl Iterator<Item = (Fault, &'static str)> {
     let quote = planted_quote::PLANTED.iter().copied();
     let margins = planted_margins::PLANTED.iter().copied();
     let greatest = planted_greatest::PLANTED.iter().copied();
+    let sentence = planted_sentence::PLANTED.iter().copied();
+    let heard = planted_heard::PLANTED.iter().copied();
     older
         .chain(notices)
         .chain(shared)
         .chain(quote)
         .chain(margins)
         .chain(greatest)
+        .chain(sentence)
+        .chain(heard)
 }
 
 /// Larger sites cost time in the verdict and show no fault that smaller ones hide.
@@ -519,6 +712,12 @@ pub struct Found {
     /// Files and drawings for the greatest f.
     pub greatest: u64,
     pub greatest_records: u64,
+    /// Plan files told in sentences, and calls of the composer.
+    pub sentences: u64,
+    pub sentence_calls: u64,
+    /// Files with a sentence that was heard, and calls of its reader.
+    pub heard: u64,
+    pub heard_calls: u64,
 }
 
 impl Found {
@@ -528,8 +727,10 @@ impl Found {
         let quotes = self.quotes + self.quote_records;
         let margins = self.margins + self.margin_records;
         let greatest = self.greatest + self.greatest_records;
+        let sentences = self.sentences + self.sentence_calls;
+        let heard = self.heard + self.heard_calls;
         let others = self.steps + self.records + self.sites + self.issues;
-        files + others + shared + quotes + margins + greatest
+        files + others + shared + quotes + margins + greatest + sentences + heard
     }
 }
 
@@ -581,6 +782,10 @@ pub struct Sound {
     margin_records: Answered<Plan, Fitted>,
     greatest: Answered<Vec<u8>, GreatestAnswer>,
     greatest_records: Answered<Plan, Bounded>,
+    sentences: Answered<Vec<u8>, Vec<u8>>,
+    sentence_calls: Answered<ComposeCase, ComposeAnswer>,
+    heard: Answered<Vec<u8>, Vec<u8>>,
+    heard_calls: Answered<HeardCase, Result<Sets, (Cause, Sets)>>,
 }
 
 /// What the archive prints of a file, the plan written anew, and what the archive's reader answers.
@@ -645,6 +850,10 @@ impl Sound {
             margin_records: margin_plans(seed, count),
             greatest: greatest_texts(seed, count),
             greatest_records: greatest_drawings(seed, count),
+            sentences: failing_plans(seed, count),
+            sentence_calls: composer_calls(seed, count),
+            heard: heard_files(seed, count),
+            heard_calls: hearing_calls(seed, count),
         }
     }
 
@@ -668,6 +877,10 @@ impl Sound {
             margin_records: self.margin_records.count(),
             greatest: self.greatest.count(),
             greatest_records: self.greatest_records.count(),
+            sentences: self.sentences.count(),
+            sentence_calls: self.sentence_calls.count(),
+            heard: self.heard.count(),
+            heard_calls: self.heard_calls.count(),
         }
     }
 
@@ -691,6 +904,10 @@ impl Sound {
             margin_records: self.margin_records.found(fault),
             greatest: self.greatest.found(fault),
             greatest_records: self.greatest_records.found(fault),
+            sentences: self.sentences.found(fault),
+            sentence_calls: self.sentence_calls.found(fault),
+            heard: self.heard.found(fault),
+            heard_calls: self.heard_calls.found(fault),
         }
     }
 }
@@ -746,6 +963,46 @@ fn greatest_drawings(seed: u64, count: u64) -> Answered<Plan, Bounded> {
     let plans = plans.chain((0..THIN).map(thin));
     let small = plans.filter(|plan| plan.n <= LARGEST_FITTED || plan.check_head().is_err());
     Answered::new(small.chain(large_drawings()), greatest)
+}
+
+/// Plans of which a search through all bad sets is short.
+fn failing_plans(seed: u64, count: u64) -> Answered<Vec<u8>, Vec<u8>> {
+    let texts = (0..count / 8).map(|index| sentence_case(seed, index));
+    let short = texts.filter(|text| {
+        let filed = read_archive(text, Fault::None);
+        filed.map_or(true, |filed| {
+            is_short_search(&filed.plan) || filed.plan.bound.has_groups()
+        })
+    });
+    Answered::new(short, |text, fault| sentence_text(text, fault))
+}
+
+fn composer_calls(seed: u64, count: u64) -> Answered<ComposeCase, ComposeAnswer> {
+    let seeded = (0..count / 8).map(|index| compose_case(seed, index));
+    let parted = (0..EVERY).map(|index| {
+        let ((n, sets), room) = (every(index), 60);
+        ComposeCase { n, sets, room }
+    });
+    let wrong = (0..WRONG_SETS).map(wrong_sets);
+    Answered::new(seeded.chain(parted).chain(wrong), compose_answer)
+}
+
+fn heard_files(seed: u64, count: u64) -> Answered<Vec<u8>, Vec<u8>> {
+    let seeded = (0..count / 8).map(|index| heard_case(seed, index));
+    let listed = (0..LISTED).map(listed_file);
+    let sized = (0..SIZED).map(sized_file);
+    let by_hand = (0..BY_HAND).map(by_hand_file);
+    let all = seeded.chain(listed).chain(sized).chain(by_hand);
+    Answered::new(all, |text, fault| heard_text(text, fault))
+}
+
+fn hearing_calls(seed: u64, count: u64) -> Answered<HeardCase, Result<Sets, (Cause, Sets)>> {
+    let seeded = (0..count / 8).map(|index| hearing_case(seed, index));
+    let parted = (0..EVERY).map(every_sentence);
+    let listed = (0..BY_HAND).map(by_hand);
+    let damaged = (0..SPOILT).map(spoilt);
+    let all = seeded.chain(parted).chain(listed).chain(damaged);
+    Answered::new(all, hearing_answer)
 }
 
 fn opened(text: &[u8], fault: Fault) -> Opened {
@@ -815,6 +1072,10 @@ fn told(found: &Found) -> String {
         margin_records,
         greatest,
         greatest_records,
+        sentences,
+        sentence_calls,
+        heard,
+        heard_calls,
     } = found;
     format!(
         "{verdicts} verdicts, {archive} of the archive, {runs} runs, {steps} steps, \
@@ -822,7 +1083,8 @@ fn told(found: &Found) -> String {
          one radio for all: {shared_steps} steps, {shared_sites} runs, {shared_sets} bad sets; \
          the quoting page: {quotes} files, {quote_records} plan records; \
          margins: {margins} files, {margin_records} plan records; \
-         the greatest f: {greatest} files, {greatest_records} drawings"
+         the greatest f: {greatest} files, {greatest_records} drawings; \
+         sentences: {sentences} files, {sentence_calls} calls; heard: {heard} files, {heard_calls} calls"
     )
 }
 

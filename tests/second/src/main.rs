@@ -13,10 +13,12 @@ const USAGE: &str = "usage:
   second quote < FILE
   second margins < FILE
   second greatest < FILE
+  second sentence < FILE
+  second heard < FILE
   second run < FILE
   second archive < FILE
   second generate verdict|run SEED COUNT DIR
-  second compare PROGRAM_VERDICT PROGRAM_RUN PROGRAM_REWRITE PROGRAM_ARCHIVE PROGRAM_QUOTE PROGRAM_MARGINS PROGRAM_GREATEST SEED COUNT
+  second compare PROGRAM_VERDICT PROGRAM_RUN PROGRAM_REWRITE PROGRAM_ARCHIVE PROGRAM_QUOTE PROGRAM_MARGINS PROGRAM_GREATEST PROGRAM_SENTENCE PROGRAM_HEARD SEED COUNT
   second faults [SEED COUNT]
   second exhaust
   second record CALLS LINES
@@ -46,6 +48,8 @@ fn dispatch(words: &[&str]) -> Option<bool> {
         ["quote"] => Some(filter(second::quote_text)),
         ["margins"] => Some(filter(second::margins_text)),
         ["greatest"] => Some(filter(second::greatest_text)),
+        ["sentence"] => Some(filter(second::sentence_text)),
+        ["heard"] => Some(filter(second::heard_text)),
         ["run"] => Some(filter(second::run_text)),
         ["archive"] => Some(filter(second::archive_text)),
         ["generate", kind, seed, count, folder] => {
@@ -62,10 +66,9 @@ fn dispatch(words: &[&str]) -> Option<bool> {
                 Path::new(folder),
             )))
         }
-        ["compare", verdict, run, rewrite, archive, quote, margins, greatest, seed, count] => {
-            let programs = [verdict, run, rewrite, archive, quote, margins, greatest];
-            let (seed, count) = (number(seed)?, number(count)?);
-            Some(compare::compare(&programs.map(|one| *one), seed, count))
+        ["compare", programs @ .., seed, count] => {
+            let programs: &[&str; compare::PROGRAMS] = programs.try_into().ok()?;
+            Some(compare::compare(programs, number(seed)?, number(count)?))
         }
         ["faults"] => Some(faults::faults(1, 2400)),
         ["faults", seed, count] => Some(faults::faults(number(seed)?, number(count)?)),

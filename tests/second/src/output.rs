@@ -11,6 +11,7 @@ use crate::reader::{
     read_archive, read_greatest, read_margins, read_plan, read_quote, read_run, Refusal,
 };
 use crate::run::run_file;
+use crate::sentence_text::{heard_answer, sentence_answer};
 use crate::step::{Record, State};
 use crate::verdict::{verdict, Verdict};
 
@@ -152,6 +153,16 @@ pub fn margins_text(text: &[u8], fault: Fault) -> Vec<u8> {
 /// All of the program `greatest`, from text to text.
 pub fn greatest_text(text: &[u8], fault: Fault) -> Vec<u8> {
     greatest_answer(text, fault).unwrap_or_else(refusal_line)
+}
+
+/// All of the program `sentence`, from text to text.
+pub fn sentence_text(text: &[u8], fault: Fault) -> Vec<u8> {
+    sentence_answer(text, fault).unwrap_or_else(refusal_line)
+}
+
+/// All of the program `heard`, from text to text.
+pub fn heard_text(text: &[u8], fault: Fault) -> Vec<u8> {
+    heard_answer(text, fault).unwrap_or_else(refusal_line)
 }
 
 /// All of the program `archive`, from text to text.

@@ -34,6 +34,11 @@
 //!
 //! Of the greatest f (src/record_greatest.rs) `g` has a file, as `v` has. `G` has n, source and 20 rows (4
 //! each); its answer is the number and, where that is 0, whether there is an f (1) and it (1; 0 for none).
+//!
+//! Of the fail in sentences (src/record_sentence.rs) `e` has a plan file and `h` a file with n and a
+//! sentence, as `v` has. `E` lends a list of so many bytes and has n, F, L and R (4 each); its answer is the
+//! number, the text's length (2) and the whole list. `H` has n and a text; its answer is the number, F, L and
+//! R (4 each), zeros beside a refusal.
 
 use crate::characters;
 use crate::damage::plant;
@@ -44,6 +49,7 @@ use crate::generate::{case, edge_run, overtaken_run, turning_run, Kind, SORTS, V
 use crate::greatest_files::{HEADED, SHAPED as SHAPED_DRAWINGS, THIN};
 use crate::grouping::{group_thinly, group_up, maybe_grouped};
 use crate::groups::{Bound, Sort};
+use crate::heard_files::{BY_HAND, LISTED, SIZED, SPOILT};
 use crate::issues::{issue_case, IssueCase};
 use crate::lent::{
     read_answer, read_case, ReadCase, LATER_PLACES, MARK as MARK_NOTICE, WORD_PLACES,
@@ -68,6 +74,11 @@ use crate::record_margins::{
     fitted_call, fitted_shape_call, margins_call, shaped_call, sized_margins_call,
 };
 use crate::record_quote::{chain_call, judged_call, judged_chain_call, quote_call, sized_call};
+use crate::record_sentence::{
+    by_hand_call, composed_call, composed_every_call, heard_call, hearing_by_hand_call,
+    hearing_call, hearing_every_call, listed_heard_call, sentence_call, sized_heard_call,
+    sized_sentence_call, spoilt_call, wrong_sets_call,
+};
 use crate::record_shared::{
     channel_call, channel_read_call, flooded_call, shared_file_call, shared_file_read_call,
     shared_lent_call, shared_set_call, shared_site_call, shared_step_call, small_shared_call,
@@ -75,6 +86,8 @@ use crate::record_shared::{
 use crate::records::{break_groups, some_bad_set, some_plan, some_sets, WAYS};
 use crate::rng::Rng;
 use crate::run::{issue, run};
+use crate::sentence_files::{EVERY, WRONG_SETS};
+use crate::sentence_text::{heard_answer, sentence_answer};
 use crate::shared_files::WAYS as SHARED_WAYS;
 use crate::sites::{noisy_site, wrong_lists, Site};
 use crate::step::{step, Place, Record, Row, State, PLACES, ROWS};
@@ -87,7 +100,7 @@ use std::path::Path;
 pub const SEED: u64 = 20;
 
 /// What a lent list of bytes holds at each place before a call.
-const MARK: u8 = 0x5a;
+pub(crate) const MARK: u8 = 0x5a;
 /// The longest list that `replay` lends for a plan's text.
 const LONGEST_TEXT: usize = 3_000;
 
@@ -101,6 +114,7 @@ const MAY_BE_LONG: u64 = 120;
 const LONG: usize = 1_900;
 
 /// One call, and the line that answers it.
+#[derive(Clone)]
 pub struct Call {
     pub kind: u8,
     pub lent: usize,
@@ -126,7 +140,7 @@ pub fn write(calls_file: &Path, lines_file: &Path) -> io::Result<()> {
 type Maker = fn(u64, u64) -> Call;
 
 /// Every kind of call, and how many of it.
-const KINDS: [(Maker, u64); 57] = [
+const KINDS: [(Maker, u64); 70] = [
     (verdict_call, 600),
     (run_call, 600),
     (edge_call, 150),
@@ -184,6 +198,19 @@ const KINDS: [(Maker, u64); 57] = [
     (bounded_call, 150),
     (bounded_shape_call, SHAPED_DRAWINGS),
     (thin_call, THIN),
+    (sentence_call, 240),
+    (sized_sentence_call, 2),
+    (heard_call, 216),
+    (listed_heard_call, LISTED),
+    (by_hand_call, BY_HAND),
+    (sized_heard_call, SIZED),
+    (composed_call, 216),
+    (composed_every_call, EVERY),
+    (wrong_sets_call, WRONG_SETS),
+    (hearing_call, 240),
+    (hearing_every_call, EVERY),
+    (hearing_by_hand_call, BY_HAND),
+    (spoilt_call, SPOILT),
 ];
 
 /// The calls of each kind. Of the long ones a few are enough.
@@ -239,7 +266,7 @@ fn put(text: &[u8], room: usize) -> (Result<usize, Cause>, Vec<u8>) {
 }
 
 /// The number, the text's length, and the whole list after the call.
-fn written(number: u8, length: usize, list: &[u8]) -> Vec<u8> {
+pub(crate) fn written(number: u8, length: usize, list: &[u8]) -> Vec<u8> {
     [&[number], &pair(length as u16)[..], list].concat()
 }
 
@@ -259,7 +286,7 @@ fn answered(answer: Result<Vec<u8>, Refusal>, room: usize) -> Vec<u8> {
 }
 
 /// A list that just has room, is one short, is empty, or is longer than the text.
-fn room_for(rng: &mut Rng, text: usize, most: usize) -> usize {
+pub(crate) fn room_for(rng: &mut Rng, text: usize, most: usize) -> usize {
     let longer = text + rng.below(9);
     let room = rng.pick(&[text, text, text.saturating_sub(1), 0, longer, longer]);
     room.min(most)
@@ -291,6 +318,14 @@ pub(crate) const MARGINS: Text = Text {
 pub(crate) const GREATEST: Text = Text {
     letter: b'g',
     answer: greatest_answer,
+};
+pub(crate) const SENTENCE: Text = Text {
+    letter: b'e',
+    answer: sentence_answer,
+};
+pub(crate) const HEARD: Text = Text {
+    letter: b'h',
+    answer: heard_answer,
 };
 const ARCHIVE: Text = Text {
     letter: b'a',

@@ -3,9 +3,10 @@
 mod common;
 
 use common::{
-    archive_bytes, greatest_bytes, margins_bytes, quote_bytes, refused, run_bytes, verdict_bytes,
+    archive_bytes, greatest_bytes, heard_bytes, margins_bytes, quote_bytes, refused, run_bytes,
+    verdict_bytes,
 };
-use second::characters::{byte_in, file, listed_file, small_plan_file, Place, FILES};
+use second::characters::{byte_in, file, heard_file, listed_file, small_plan_file, Place, FILES};
 use second::generate::Kind;
 use second::record;
 use std::collections::BTreeSet;
@@ -139,6 +140,25 @@ fn in_a_link_that_comes_again() {
         };
         let text = listed_file(index);
         assert_eq!(greatest_bytes(&text), expected, "byte {byte}, {place:?}");
+    }
+}
+
+/// Where a sentence was heard: the tens of n, which is 12 then; who is silent beside 0, of 8 terminals; and
+/// nothing after the full stop.
+#[test]
+fn in_what_was_heard() {
+    for (index, byte, place, value) in places() {
+        let expected = match (place, value) {
+            (Place::High, Some(1)) => "81010000010007fc000802\n".into(),
+            (Place::High, _) => refused(4, 1),
+            (Place::Low, Some(silent @ 1..=6)) => {
+                let bit = 2u32.pow(silent);
+                format!("8101{:06x}{:06x}000080\n", 1 + bit, 126 - bit)
+            }
+            _ => refused(2, 2),
+        };
+        let printed = heard_bytes(&heard_file(index));
+        assert_eq!(printed, expected, "byte {byte}, {place:?}");
     }
 }
 

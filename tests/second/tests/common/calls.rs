@@ -7,11 +7,18 @@ use second::record::{self, Call};
 use std::borrow::Borrow;
 use std::collections::{BTreeMap, BTreeSet};
 use std::fmt::Debug;
+use std::sync::OnceLock;
 
 /// The recorded calls of this kind.
 pub fn calls_of(kind: u8) -> Vec<Call> {
-    let calls = record::calls(record::SEED).into_iter();
-    calls.filter(|call| call.kind == kind).collect()
+    let calls = all_calls().iter().filter(|call| call.kind == kind);
+    calls.cloned().collect()
+}
+
+/// All recorded calls, made once for the tests of a file.
+fn all_calls() -> &'static [Call] {
+    static ALL: OnceLock<Vec<Call>> = OnceLock::new();
+    ALL.get_or_init(|| record::calls(record::SEED))
 }
 
 /// Number, length and list: the text in front and marks after it, or marks alone. How many lent lists have as many places as the
@@ -63,7 +70,7 @@ where
 
 /// Every number of terminals that a byte may name, up to 22, in a file and in a record; these are their kinds.
 pub fn check_sizes(file: u8, record: u8) {
-    let calls = record::calls(record::SEED);
+    let calls = all_calls();
     for n in (0..=22).chain([255]) {
         let head = format!("01{n:02x}");
         let files = calls

@@ -65,6 +65,10 @@ pub fn greatest(words: &str) -> String {
     greatest_bytes(&file(words))
 }
 
+pub fn sentence(words: &str) -> String {
+    sentence_bytes(&file(words))
+}
+
 pub fn run(words: &str) -> String {
     run_bytes(&file(words))
 }
@@ -87,6 +91,14 @@ pub fn margins_bytes(text: &[u8]) -> String {
 
 pub fn greatest_bytes(text: &[u8]) -> String {
     String::from_utf8_lossy(&second::greatest_text(text)).into_owned()
+}
+
+pub fn sentence_bytes(text: &[u8]) -> String {
+    String::from_utf8_lossy(&second::sentence_text(text)).into_owned()
+}
+
+pub fn heard_bytes(text: &[u8]) -> String {
+    String::from_utf8_lossy(&second::heard_text(text)).into_owned()
 }
 
 pub fn verdict_bytes(text: &[u8]) -> String {
