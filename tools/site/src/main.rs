@@ -17,6 +17,7 @@ mod kinds;
 mod later;
 mod margins;
 mod mend;
+mod misheard;
 mod notice;
 mod numbers;
 mod places;
