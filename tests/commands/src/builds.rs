@@ -85,12 +85,13 @@ fn first_use(checks: &mut Checks, copy: &Copy) {
     copy.calls();
 }
 
-/// What `explain` and `draw` may ask.
-const ALL_OF_A_PLAN: &str = "verdict archive run rewrite margins greatest";
+/// What `draw` may ask, and `explain`, which has the sentence too.
+const DRAWN: &str = "verdict archive run rewrite margins greatest";
+const EXPLAINED: &str = "verdict archive run rewrite margins greatest sentence";
 
 /// A word has the programs proved that it asks, and no other; `verdict` has its own by now. What is
 /// proved for one word serves the others that ask it.
-const EACH_WORD: [(&str, &str); 21] = [
+const EACH_WORD: [(&str, &str); 26] = [
     ("verdict", ""),
     ("check", "archive"),
     ("archive", ""),
@@ -100,8 +101,11 @@ const EACH_WORD: [(&str, &str); 21] = [
     ("mend", "verdict archive run rewrite"),
     ("links", "greatest"),
     ("greatest", ""),
-    ("explain", ALL_OF_A_PLAN),
+    ("draw", DRAWN),
+    ("explain", EXPLAINED),
     ("draw", ""),
+    ("sentence", ""),
+    ("heard", "heard"),
     ("margins", ""),
     ("with-bad", ""),
     ("plan", ""),
@@ -112,6 +116,8 @@ const EACH_WORD: [(&str, &str); 21] = [
     ("margins", ""),
     ("greatest", ""),
     ("links", ""),
+    ("explain", ""),
+    ("heard", ""),
 ];
 
 fn each_word(checks: &mut Checks, copy: &Copy) {
@@ -153,10 +159,18 @@ fn several_words(checks: &mut Checks, copy: &Copy) {
         ("greatest", "archive", String::new()),
         ("links", "greatest", call("greatest")),
         ("links", "verdict", String::new()),
-        ("draw", "greatest", call(ALL_OF_A_PLAN)),
-        ("explain", "greatest", call(ALL_OF_A_PLAN)),
-        ("draw", "margins", call(ALL_OF_A_PLAN)),
-        ("explain", "margins", call(ALL_OF_A_PLAN)),
+        ("draw", "greatest", call(DRAWN)),
+        ("explain", "greatest", call(EXPLAINED)),
+        ("draw", "margins", call(DRAWN)),
+        ("explain", "margins", call(EXPLAINED)),
+        ("draw", "sentence", String::new()),
+        ("mend", "sentence", String::new()),
+        ("explain", "sentence", call(EXPLAINED)),
+        ("sentence", "sentence", call("sentence")),
+        ("sentence", "verdict", String::new()),
+        ("explain", "heard", String::new()),
+        ("heard", "heard", call("heard")),
+        ("heard", "sentence", String::new()),
     ];
     for (word, gone, wanted) in table {
         copy.remove(&format!("target/bin/{gone}"));
@@ -183,6 +197,8 @@ fn newer_sources(checks: &mut Checks, copy: &Copy) {
         ("crates/quote/src/main.rt", String::new()),
         ("crates/margins/src/main.rt", String::new()),
         ("crates/greatest/src/main.rt", String::new()),
+        ("crates/sentence/src/main.rt", String::new()),
+        ("crates/heard/src/main.rt", String::new()),
         ("crates/other/src/lib.rt", String::new()),
         ("README.md", String::new()),
     ];

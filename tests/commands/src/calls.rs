@@ -3,13 +3,15 @@
 use crate::checks::{done, read, Checks};
 use std::process::Command;
 
-const WORDS: [&str; 17] = [
-    "check", "explain", "draw", "mend", "with-bad", "greatest", "links", "trace", "verdict",
-    "archive", "quote", "margins", "run", "show", "plan", "rewrite", "test",
+const WORDS: [&str; 19] = [
+    "check", "explain", "sentence", "heard", "draw", "mend", "with-bad", "greatest", "links",
+    "trace", "verdict", "archive", "quote", "margins", "run", "show", "plan", "rewrite", "test",
 ];
 const ONE_FILE: [&str; 8] = [
     "explain", "draw", "mend", "links", "trace", "show", "plan", "rewrite",
 ];
+/// heard.rs has the wrong calls of the first.
+const NO_FILE: [&str; 2] = ["heard", "test"];
 
 pub fn check(checks: &mut Checks) {
     help(checks);
@@ -91,7 +93,7 @@ fn frames_page(checks: &mut Checks) {
 }
 
 /// Calls that no file can mend.
-const WRONG: [(&[&str], &str); 18] = [
+const WRONG: [(&[&str], &str); 20] = [
     (
         &["mend", "--calls=x", "plans/a.txt"],
         "'--calls=x' has no number after the '='",
@@ -121,6 +123,11 @@ const WRONG: [(&[&str], &str); 18] = [
     (&["verdict", "--mend"], "'verdict' has no option '--mend'"),
     (&["archive", "--csv"], "'archive' has no option '--csv'"),
     (&["quote", "--mend"], "'quote' has no option '--mend'"),
+    (&["sentence", "--mend"], "'sentence' has no option '--mend'"),
+    (
+        &["sentences", "plans/a.txt"],
+        "unknown word 'sentences'; './hulmayek help' lists the words",
+    ),
     (&["margins", "--csv"], "'margins' has no option '--csv'"),
     (&["greatest", "--mend"], "'greatest' has no option '--mend'"),
     (&["links", "--calls=9"], "'links' has no option '--calls=9'"),
@@ -158,7 +165,8 @@ fn wrong_calls(checks: &mut Checks) {
         let why = format!("'{word}' takes one file, and 2 were given");
         checks.tells(&format!("{word} of two files"), &done, 2, &why);
     }
-    for word in WORDS.into_iter().filter(|word| *word != "test") {
+    let of_files = WORDS.into_iter().filter(|word| !NO_FILE.contains(word));
+    for word in of_files {
         wrong_files(checks, word);
     }
 }
@@ -189,6 +197,11 @@ fn unwritable_output(checks: &mut Checks) {
         ("verdict plans/h.hex >/dev/full", full),
         ("archive plans/b.hex >/dev/full", full),
         ("quote plans/h.hex >/dev/full", full),
+        ("sentence plans/h.hex >/dev/full", full),
+        (
+            "heard 2 'Even if all work, 1 never gets the notice.' >/dev/full",
+            full,
+        ),
         ("margins plans/h.hex >/dev/full", full),
         ("greatest plans/h.hex >/dev/full", full),
         ("links plans/h.hex >/dev/full", full),
@@ -199,6 +212,8 @@ fn unwritable_output(checks: &mut Checks) {
         ("--version >/dev/full", "the version could not be printed"),
         ("verdict plans/h.hex >&-", closed),
         ("quote plans/h.hex >&-", closed),
+        ("sentence plans/h.hex >&-", closed),
+        ("heard 2 x >&-", closed),
         ("margins plans/h.hex >&-", closed),
         ("greatest plans/h.hex >&-", closed),
         ("links plans/h.hex >&-", closed),

@@ -7,6 +7,7 @@ use crate::greatest;
 use crate::margins;
 use crate::plans::files_in;
 use crate::quote::alike;
+use crate::sentences;
 
 pub fn check(checks: &mut Checks) {
     for site in SITES {
@@ -100,7 +101,7 @@ fn refusal(hear: &str) -> String {
 
 fn refused_as_new(checks: &mut Checks, site: &Site) {
     let frames = lines(site.frames);
-    for word in ["verdict", "quote", "margins", "run"] {
+    for word in ["verdict", "quote", "sentence", "margins", "run"] {
         let done = checks.call_with(&[word], frames.as_bytes());
         let label = format!("{word} of {:?}", site.frames);
         checks.ends(&label, &done, 1, "ff0f0000\n", "");
@@ -202,6 +203,7 @@ fn where_the_links_end(checks: &mut Checks) {
         if word == "verdict" {
             margins::refuses(checks, frames, wanted);
             greatest::like_archive(checks, frames);
+            sentences::like_verdict(checks, frames);
         }
     }
 }
@@ -230,7 +232,7 @@ const DEAF_RUN_FRAMES: [&str; 4] = ["01030001", "020001", "03000002", "04000702"
 fn runs_on_them(checks: &mut Checks) {
     let told = refusal("terminal 2 hears nobody");
     for word in [
-        "run", "trace", "explain", "draw", "show", "plan", "verdict", "margins",
+        "run", "trace", "explain", "draw", "show", "plan", "verdict", "sentence", "margins",
     ] {
         let done = checks.call_with(&[word], DEAF_RUN.as_bytes());
         checks.tells(&format!("{word} of a run in text"), &done, 1, &told);

@@ -379,7 +379,7 @@ fn without_bound(checks: &mut Checks) {
     let done = checks.call_with(&["greatest"], b"terminals 2\nsource 0\n");
     checks.ends("greatest of no link and no bound", &done, 0, "none\n", "");
     for word in [
-        "check", "verdict", "archive", "margins", "explain", "draw", "mend", "plan",
+        "check", "verdict", "archive", "sentence", "margins", "explain", "draw", "mend", "plan",
     ] {
         let done = checks.call_with(&[word], text.as_bytes());
         let told = "line 3: expected 'bound NUMBER' or 'group TERMINAL..' before the first link";

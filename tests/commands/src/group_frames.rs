@@ -6,6 +6,7 @@ use crate::checks::{lines, Checks};
 use crate::greatest;
 use crate::margins;
 use crate::quote::alike;
+use crate::sentences;
 
 pub fn check(checks: &mut Checks) {
     for row in &AFTER_GROUPS {
@@ -190,6 +191,7 @@ pub fn refused(checks: &mut Checks, Row(program, answer, why, _): &Row, frames: 
     if *program == "verdict" {
         margins::refuses(checks, frames, answer);
         greatest::like_archive(checks, frames);
+        sentences::like_verdict(checks, frames);
     }
     let done = checks.call(&["explain", &file]);
     let wanted = format!("{answer}\n{told}\n");
@@ -252,6 +254,7 @@ pub fn answered(checks: &mut Checks, table: &[(&str, Vec<&str>, &str)]) {
         if *word == "verdict" {
             margins::refuses(checks, frames, wanted);
             greatest::like_archive(checks, frames);
+            sentences::like_verdict(checks, frames);
         }
     }
 }
@@ -315,7 +318,7 @@ fn kind_that_is_lacking(checks: &mut Checks) {
     let done = checks.call_with(&["check"], frames.as_bytes());
     let why = "refused, line 8 (03000002): kind 03, a run's bad set: 'archive' has 01, 02 and 07 only (cause 2)";
     checks.tells("check of a run's frames with groups", &done, 1, why);
-    for word in ["verdict", "archive", "quote", "rewrite"] {
+    for word in ["verdict", "archive", "quote", "sentence", "rewrite"] {
         let done = checks.call_with(&[word], frames.as_bytes());
         checks.ends(&format!("{word} of them"), &done, 1, "ff020008\n", "");
     }

@@ -3,6 +3,7 @@
 //! group, and neighbours are enough where they fit together in none.
 
 use crate::checks::{lines, read, Checks};
+use crate::composer::opening;
 use crate::plans::both_ways;
 use crate::{group_frames, group_mends, group_pictures, group_texts};
 
@@ -118,7 +119,7 @@ fn committed(checks: &mut Checks, site: &Site) {
         let done = checks.call(&["check", &file]);
         checks.ends(&format!("check of {file}"), &done, status, word, "");
         let done = checks.call(&["explain", &file]);
-        let wanted = format!("{frame}{told}");
+        let wanted = opening(&frame) + &frame + &told;
         checks.ends(&format!("explain of {file}"), &done, 0, &wanted, "");
     }
     both_ways(checks, site.name);
@@ -220,7 +221,7 @@ const EXPLAINED: [(&str, &[&str]); 6] = [
 
 fn explained(checks: &mut Checks, text: &str, told: &[&str]) {
     let label = |word: &str| format!("{word} of {text:?}");
-    let wanted = whole(told);
+    let wanted = opening(told[0]) + &whole(told);
     let done = checks.call_with(&["explain"], text.as_bytes());
     checks.ends(&label("explain"), &done, 0, &wanted, "");
     let frame = format!("{}\n", told[0]);

@@ -6,6 +6,7 @@ mod bounded;
 mod builds;
 mod calls;
 mod checks;
+mod composer;
 mod cost_pictures;
 mod deaf;
 mod edition_frames;
@@ -18,6 +19,7 @@ mod group_mends;
 mod group_pictures;
 mod group_texts;
 mod groups;
+mod heard;
 mod margin_pictures;
 mod margins;
 mod mends;
@@ -27,6 +29,7 @@ mod quote;
 mod readme;
 mod reasons;
 mod runs;
+mod sentences;
 mod shared;
 mod shared_frames;
 mod shared_pictures;
@@ -40,7 +43,7 @@ use std::process::ExitCode;
 
 type Topic = (&'static str, fn(&mut Checks));
 
-const TOPICS: [Topic; 17] = [
+const TOPICS: [Topic; 19] = [
     ("answers", answers::check),
     ("calls", calls::check),
     ("plans", plans::check),
@@ -51,6 +54,8 @@ const TOPICS: [Topic; 17] = [
     ("quote", quote::check),
     ("margins", margins::check),
     ("greatest", greatest::check),
+    ("sentences", sentences::check),
+    ("heard", heard::check),
     ("groups", groups::check),
     ("editions", editions::check),
     ("shared", shared::check),
@@ -70,8 +75,12 @@ fn main() -> ExitCode {
     std::fs::create_dir_all(&room).expect("a folder for the test's files");
     let mut checks = Checks::new(top, room.clone());
     // All programs are built first, so that no check sees the waiting.
-    for word in ["explain", "quote"] {
-        checks.call(&[word, "plans/a.txt"]);
+    for words in [
+        ["explain", "plans/a.txt"],
+        ["quote", "plans/a.txt"],
+        ["heard", "2"],
+    ] {
+        checks.call(&words);
     }
     for (name, check) in TOPICS {
         if wanted.is_empty() || wanted.iter().any(|one| one == name) {

@@ -3,6 +3,7 @@
 
 use crate::bad_sets::Site;
 use crate::checks::{lines, read, Checks};
+use crate::composer::opening;
 use crate::groups;
 
 /// A verdict as the paper has it; the sets of a pass are the rounds until the last one takes if
@@ -196,7 +197,7 @@ fn judged_as_new(checks: &mut Checks, row: &Row, frame: &str) {
     };
     let frames = read(&checks.top.join(format!("plans/{name}.hex")));
     let done = checks.call(&["explain", &format!("plans/{name}.hex")]);
-    let wanted = frame.to_string() + &wanted + &Site::of(&frames).told();
+    let wanted = opening(frame) + frame + &wanted + &Site::of(&frames).told();
     checks.ends(&format!("explain {name}"), &done, 0, &wanted, "");
 }
 
@@ -269,8 +270,8 @@ fn refused_drawing(checks: &mut Checks) {
     checks.ends("verdict of j", &done, 1, "ff040001\n", "");
     let why = "refused, line 2 (terminals 1): 2 to 20 terminals are allowed (cause 4)";
     for word in [
-        "plan", "verdict", "archive", "quote", "margins", "greatest", "links", "check", "explain",
-        "draw", "show", "mend",
+        "plan", "verdict", "archive", "quote", "sentence", "margins", "greatest", "links", "check",
+        "explain", "draw", "show", "mend",
     ] {
         let done = checks.call(&[word, "plans/j.txt"]);
         checks.tells(&format!("{word} of j.txt"), &done, 1, why);

@@ -360,7 +360,7 @@ fn committed_plans(checks: &mut Checks) {
 }
 
 /// By the line of a text, or the head of a file in frames.
-fn terminals_of(file: &str) -> u8 {
+pub fn terminals_of(file: &str) -> u8 {
     let mut lines = file.lines();
     let number = match lines.find_map(|line| line.strip_prefix("terminals ")) {
         Some(number) => number.trim().parse(),

@@ -6,6 +6,7 @@ use crate::checks::{lines, Checks};
 use crate::greatest;
 use crate::margins;
 use crate::quote::alike;
+use crate::sentences;
 
 /// The program that refuses, cause, line, why, and the frames after the named start.
 struct Row(
@@ -316,6 +317,7 @@ fn refused(checks: &mut Checks, Row(program, cause, line, why, _): &Row, frames:
     if *program == "verdict" {
         margins::refuses(checks, frames, frame.trim_end());
         greatest::like_archive(checks, frames);
+        sentences::like_verdict(checks, frames);
     }
     let done = checks.call(&["explain", &file]);
     checks.ends(
@@ -366,6 +368,7 @@ fn kind_that_is_lacking(checks: &mut Checks) {
         ("verdict", "verdict"),
         ("archive", "archive"),
         ("quote", "quote"),
+        ("sentence", "sentence"),
         ("margins", "margins"),
         ("greatest", "greatest"),
         ("links", "greatest"),

@@ -22,7 +22,7 @@ mkdir running || { echo "rt: verdict NOT PROVED"; exit 1; }
 if [ -f endless ]; then sleep 300 & echo $! >child; wait; fi
 [ ! -f slow ] || sleep 1
 mkdir -p target/bin target/stamp
-for name in verdict archive quote margins greatest run rewrite; do
+for name in verdict archive quote margins greatest sentence heard run rewrite; do
     [ -f "target/stamp/$name" ] && continue
     : >"target/stamp/$name"
     : >"target/bin/$name"
@@ -30,7 +30,7 @@ for name in verdict archive quote margins greatest run rewrite; do
 done
 rmdir running
 if [ -f broken ]; then echo "rt: low NOT PROVED"; exit 1; fi
-for name in low verdict archive quote margins greatest run rewrite; do echo "rt: $name proved (0 s)"; done
+for name in low verdict archive quote margins greatest sentence heard run rewrite; do echo "rt: $name proved (0 s)"; done
 "#;
 
 const CARGO: &str = r#"#!/bin/sh
@@ -43,7 +43,7 @@ chmod +x "$CARGO_TARGET_DIR/release/site"
 "#;
 
 const CRATES: &str =
-    "# NAME: DEP DEP ..\nlow:\nverdict: low io\narchive: low io\nquote: low io\nmargins: low io\ngreatest: low io\nrun: low io\nrewrite: low io\nother: low\n";
+    "# NAME: DEP DEP ..\nlow:\nverdict: low io\narchive: low io\nquote: low io\nmargins: low io\ngreatest: low io\nsentence: low io\nheard: low io\nrun: low io\nrewrite: low io\nother: low\n";
 
 pub struct Copy {
     pub place: PathBuf,
@@ -51,7 +51,7 @@ pub struct Copy {
 }
 
 /// Each in a folder of its own making; 'other' is under no program.
-const SOURCES: [&str; 13] = [
+const SOURCES: [&str; 15] = [
     "crates/low/src/lib.rt",
     "crates/low/specs/Lib.antt",
     "crates/low/proofs/f/Proof.antt",
@@ -60,6 +60,8 @@ const SOURCES: [&str; 13] = [
     "crates/quote/src/main.rt",
     "crates/margins/src/main.rt",
     "crates/greatest/src/main.rt",
+    "crates/sentence/src/main.rt",
+    "crates/heard/src/main.rt",
     "crates/run/src/main.rt",
     "crates/rewrite/src/main.rt",
     "crates/other/src/lib.rt",

@@ -4,7 +4,8 @@ use crate::ask::Programs;
 use crate::document::{self, Document};
 use crate::frames::{self, Answer, DEAF};
 use crate::search::LIMIT;
-use crate::{costs, draw, margins, mend, shown, silence, tell, trace, words, Told, Trouble};
+use crate::{costs, draw, margins, mend, sentence, shown, silence, tell, trace, words};
+use crate::{Told, Trouble};
 
 pub struct Call {
     word: String,
@@ -16,8 +17,8 @@ pub struct Call {
 
 /// The words' options; the last one has a number after it.
 const OPTIONS: [(&str, &str); 3] = [("draw", "--mend"), ("trace", "--csv"), ("mend", "--calls=")];
-const MANY_FILES: [&str; 7] = [
-    "verdict", "archive", "quote", "margins", "greatest", "check", "run",
+const MANY_FILES: [&str; 8] = [
+    "verdict", "archive", "quote", "sentence", "margins", "greatest", "check", "run",
 ];
 /// They do not look at the bound.
 const OF_DRAWINGS: [&str; 2] = ["greatest", "links"];
@@ -27,7 +28,7 @@ const REFUSED: u8 = 1;
 const WRONG: u8 = 2;
 const FAILS: u8 = 3;
 
-fn plainly(text: String) -> Told {
+pub fn plainly(text: String) -> Told {
     Told {
         text,
         status: PASSES,
@@ -48,14 +49,23 @@ fn number_of(word: &str, given: &str) -> Result<usize, Trouble> {
     }
 }
 
+/// The last option's number, and all that is no option.
+pub fn without_options(
+    word: &str,
+    rest: &[String],
+) -> Result<(Option<usize>, Vec<String>), Trouble> {
+    let (options, others): (Vec<String>, Vec<String>) =
+        rest.iter().cloned().partition(|one| one.starts_with("--"));
+    let mut option = None;
+    for given in &options {
+        option = Some(number_of(word, given)?);
+    }
+    Ok((option, others))
+}
+
 impl Call {
     pub fn read(word: &str, rest: &[String]) -> Result<Call, Trouble> {
-        let (options, mut files): (Vec<String>, Vec<String>) =
-            rest.iter().cloned().partition(|one| one.starts_with("--"));
-        let mut option = None;
-        for given in &options {
-            option = Some(number_of(word, given)?);
-        }
+        let (option, mut files) = without_options(word, rest)?;
         let mut terminals = Vec::new();
         if word == "with-bad" {
             if files.len() < 2 {
@@ -99,7 +109,7 @@ impl Call {
 
     fn answer_of(&self, document: &Document, programs: &Programs) -> Result<Told, Trouble> {
         match self.word.as_str() {
-            program @ ("verdict" | "archive" | "quote" | "margins" | "greatest") => {
+            program @ ("verdict" | "archive" | "quote" | "sentence" | "margins" | "greatest") => {
                 asked(program, document.plan_frames(), document, programs)
             }
             "run" => asked("run", document.frames(), document, programs),
@@ -178,7 +188,7 @@ fn checked(document: &Document, programs: &Programs) -> Result<Told, Trouble> {
     Ok(Told { text, status })
 }
 
-/// The frames as they came, then the words.
+/// The sentence of a plan that fails, the frames as they came, then the words.
 fn explained(document: &Document, programs: &Programs) -> Result<Told, Trouble> {
     let program = if document.is_run() { "run" } else { "verdict" };
     let (printed, answer) = programs.ask(program, document.frames())?;
@@ -190,7 +200,10 @@ fn explained(document: &Document, programs: &Programs) -> Result<Told, Trouble> 
         Answer::Refused(refusal) if document.is_text() => {
             return Err(document.refused(program, refusal));
         }
-        Answer::Verdict(_) => text += &words::ended(&margins::told(document, programs)?),
+        Answer::Verdict(verdict) => {
+            text += &words::ended(&margins::told(document, programs)?);
+            text = sentence::told(document, verdict, programs)? + &text;
+        }
         _ => {}
     }
     Ok(Told {
@@ -213,7 +226,7 @@ fn in_words(
             lines
         }
         Answer::Terminals(states) => words::of_states(document, states),
-        Answer::Plan | Answer::Margins(_) | Answer::Greatest(_) => Vec::new(),
+        Answer::Plan | Answer::Margins(_) | Answer::Greatest(_) | Answer::Sentence(_) => Vec::new(),
     })
 }
 

@@ -5,6 +5,7 @@ use crate::costs::{self, Greatest};
 use crate::groups::Limit;
 use crate::margins::Margins;
 use crate::notice::{Later, Notice};
+use crate::sentence::{self, Sentence};
 use std::collections::BTreeSet;
 
 #[derive(Clone)]
@@ -87,6 +88,7 @@ pub enum Answer {
     Plan,
     Margins(Margins),
     Greatest(Greatest),
+    Sentence(Sentence),
 }
 
 /// The limit is the bound, or says that groups are listed.
@@ -311,11 +313,13 @@ fn hearer_of(rest: &[u8]) -> (Option<u8>, &[u8]) {
     }
 }
 
-/// What a program printed: frames, by the kind of the first, or margins, or a greatest bound.
+/// What a program printed: frames, by the kind of the first, or margins, a greatest bound or a
+/// sentence.
 pub fn answer(printed: &str) -> Option<Answer> {
     of_frames(printed)
         .or_else(|| Margins::read(printed).map(Answer::Margins))
         .or_else(|| costs::read(printed).map(Answer::Greatest))
+        .or_else(|| sentence::read(printed).map(Answer::Sentence))
 }
 
 fn of_frames(printed: &str) -> Option<Answer> {

@@ -12,15 +12,18 @@ mod document;
 mod draw;
 mod frames;
 mod groups;
+mod heard;
 mod kinds;
 mod later;
 mod margins;
 mod mend;
+mod misheard;
 mod notice;
 mod numbers;
 mod places;
 mod reason;
 mod search;
+mod sentence;
 mod shapes;
 mod sheet;
 mod shown;
@@ -32,6 +35,7 @@ mod words;
 
 use ask::Programs;
 use call::Call;
+use heard::Heard;
 use std::ffi::OsString;
 use std::io::{self, Write};
 use std::process::ExitCode;
@@ -74,7 +78,11 @@ fn main() -> ExitCode {
     let [root, word, rest @ ..] = arguments.as_slice() else {
         return told("usage: site ROOT WORD ARGUMENTS", 2);
     };
-    let answer = Call::read(word, rest).and_then(|call| call.answer(&Programs::new(root)));
+    let programs = Programs::new(root);
+    let answer = match word.as_str() {
+        "heard" => Heard::read(rest).and_then(|heard| heard.answer(&programs)),
+        _ => Call::read(word, rest).and_then(|call| call.answer(&programs)),
+    };
     match answer {
         Ok(Told { text, status }) => match print(&text) {
             Ok(()) => ExitCode::from(status),

@@ -6,7 +6,7 @@ use crate::frames::{self, Plan, Refusal, Run, Word, DEAF, EDITION, GROUPS, TOO_M
 use crate::groups::{self, Limit, LISTED};
 use crate::{channel, kinds, later};
 
-const LONGEST_FILE: usize = 24_576;
+pub const LONGEST_FILE: usize = 24_576;
 const AT_THE_DESK: &str =
     "the quoting desk takes at most 12 terminals; './hulmayek verdict FILE' judges up to 20";
 
