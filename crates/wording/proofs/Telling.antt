@@ -7,7 +7,7 @@ use mathlib.Core.List.{List}
 use native.Mathlib.Nat.{mul-le-mul-right, add-mul, one-mul}
 use native.Mathlib.Omega.{arith}
 use lib.Dec.{eqb}
-use lib.Pow.{high, low}
+use lib.Pow.{high, low, pow-mono}
 use borrow.Author.Tests.{eq-eqb, eqb-true}
 use Rattle.sets.specs.Tests.{_and_, pick}
 use Rattle.sets.specs.Sets.{outside}
@@ -144,3 +144,25 @@ telling n = record {
       (a, sound n f l r h .rest ∙ ap₂ (outside n) a b ∙ sym (sound n f' l' r' k .rest), b);
   short = λ f l r h. sentence-short n f l r h;
 }
+
+-- ---- the sets that are told fit three bytes
+
+small : (n s : ℕ) → n ≤ 20 → s < 2 ^ n → s < 16777216
+small n s h l = omega (arith, pow-mono h)
+
+abbrev Small : Told → Type 0
+Small t = (t .f < 16777216) × (t .l < 16777216) × (t .r < 16777216)
+
+spoken-small : (n : ℕ) (text : List ℕ) (pairs : ℕ) → Small (spokenBelow n text pairs)
+unfolding spokenBelow
+spoken-small n text zero = (omega arith, omega arith, omega arith)
+spoken-small n text (suc pair) =
+    pick-case Small (speaksOf n text (silentIn n pair) (waitingIn n pair)) _ _
+    (λ y.
+    let s = sound n (silentIn n pair) (outside n (silentIn n pair) (waitingIn n pair)) (waitingIn n pair) (speaks-cause n text (silentIn n pair) (waitingIn n pair) y) in
+    (small n _ (s .twenty) (s .f-below), small n _ (s .twenty) (s .l-below), small n _ (s .twenty) (s .r-below)))
+    (λ y. spoken-small n text pair)
+
+pub heard-small : (n : ℕ) (text : List ℕ) → (heardOf n text .f < 16777216) × (heardOf n text .l < 16777216) × (heardOf n text .r < 16777216)
+unfolding heardOf
+heard-small n text = pick-case Small (terminalsInRange n) _ _ (λ y. spoken-small n text (2 ^ n * 2 ^ n)) (λ y. (omega arith, omega arith, omega arith))
