@@ -9,7 +9,7 @@ use lib.ListN.{length, take, length-take}
 use borrow.Author.Tests.{eq-eqb, ne-eqb, eqb-true}
 use Rattle.sets.proofs.Bools.{pick-yes, pick-no, pick-case}
 use Rattle.text.specs.Digits.{hexByte, hexPair}
-use Rattle.text.specs.Texts.{putInto}
+use Rattle.text.specs.Texts.{writtenOf, putInto}
 use Rattle.text.proofs.Laws as texts
 use Rattle.frames.specs.declared.FileRead.{FileRead}
 use Rattle.output.specs.declared.Written.{Written}
@@ -53,10 +53,19 @@ unfolding answerOn
 whole-text read text room h = ap (onLine (read .line)) (texts.written-fits (read .number) (length text) room h)
 
 -- of a call that was lent a list of this room: the count lies within the list that came back, and so the part of that many bytes has as many
+module _ (w : Written) (number line len room : ℕ) (after : List ℕ) (e : w ≡ onLine line (writtenOf number len room)) (k : length after ≡ room) where
+  pub lent-fits : w .len ≤ length after
+  lent-fits = omega (arith, ap (λ (x : Written). x .len) e, texts.written-within number len room)
+
+  pub lent-part : w .len ≡ length (take (w .len) after)
+  lent-part = omega (arith, lent-fits, length-take (w .len) after)
+
+-- the same of a text on a file
 module _ (w : Written) (read : FileRead) (text : List ℕ) (room : ℕ) (after : List ℕ) (e : w ≡ answerOn read text room) (k : length after ≡ room) where
   pub written-fits : w .len ≤ length after
   unfolding answerOn
-  written-fits = omega (arith, ap (λ (x : Written). x .len) e, texts.written-within (read .number) (length text) room)
+  written-fits = lent-fits w (read .number) (read .line) (length text) room after e k
 
   pub written-part : w .len ≡ length (take (w .len) after)
-  written-part = omega (arith, written-fits, length-take (w .len) after)
+  unfolding answerOn
+  written-part = lent-part w (read .number) (read .line) (length text) room after e k

@@ -33,11 +33,11 @@ pub says-number : (n : ℕ) {a b last : List ℕ} → a ≡ [] → b ≡ joined 
 unfolding numberLine
 says-number n z p q = whole z (then _ (decimal n) (10 ∷ []) p q) (let h = decimal-short n in omega (arith, length-append (decimal n) (10 ∷ [])))
 
-one-digit : (n : ℕ) → n < 10 → numberLine n ≡ (48 + n) ∷ 10 ∷ []
+pub one-digit : (n : ℕ) → n < 10 → numberLine n ≡ (48 + n) ∷ 10 ∷ []
 unfolding numberLine
 one-digit n h = ap (λ (l : List ℕ). l ++ (10 ∷ [])) (sym (decimal-one n h))
 
-two-digits : (n : ℕ) → 10 ≤ n → n < 100 → numberLine n ≡ (48 + n / 10) ∷ (48 + n % 10) ∷ 10 ∷ []
+pub two-digits : (n : ℕ) → 10 ≤ n → n < 100 → numberLine n ≡ (48 + n / 10) ∷ (48 + n % 10) ∷ 10 ∷ []
 unfolding numberLine
 two-digits n h k = ap (λ (l : List ℕ). l ++ (10 ∷ [])) (sym (decimal-two n h k))
 
