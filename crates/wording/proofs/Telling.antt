@@ -131,8 +131,7 @@ telling n = record {
       heard-sets n (sentence n f r) f r (speaks-i n (sentence n f r) f l r (s .rest) h refl)
       ∙ ap (λ (x : ℕ). record { number = 0; f = f; l = x; r = r }) (sym (s .rest));
   only = λ text h.
-      let w = heard-why n text h in
-      (
+      let w = heard-why n text h in (
         ap (λ (x : ℕ). sentenceCause n (heardOf n text .f) x (heardOf n text .r)) (w .1) ∙ speaks-cause n text (heardOf n text .f) (heardOf n text .r) (w .0),
         speaks-text n text (heardOf n text .f) (heardOf n text .r) (w .0),
       );
