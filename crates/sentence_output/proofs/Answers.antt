@@ -1,13 +1,11 @@
 -- The line of a judgement in words; and that a verdict's fail always composes. Assumes nothing.
-use Prim.Native.Nat.{ℕ, _≤_, _<_}
-use mathlib.Core.Path.{_≡_, refl, sym, ap, _∙_, subst}
-use mathlib.Core.Bool.{Bool, true, false, not}
-use mathlib.Core.List.{List, [], _∷_, _++_}
+use Prim.Native.Nat.{ℕ}
+use mathlib.Core.Path.{_≡_, sym, ap, _∙_, subst}
+use mathlib.Core.Bool.{true}
+use mathlib.Core.List.{List, [], _∷_}
 use native.Mathlib.Omega.{arith}
 use lib.Dec.{eqb}
-use lib.ListN.{length, length-append}
 use borrow.Author.Tests.{eq-eqb, ne-eqb, eqb-false}
-use Rattle.sets.specs.Tests.{_and_, pick}
 use Rattle.sets.specs.Sets.{mem}
 use Rattle.sets.proofs.Bools.{clash, and-l, and-r, not-e, pick-yes, pick-no}
 use Rattle.sets.proofs.Laws.{mem-zero}

@@ -1,23 +1,21 @@
 -- A file of n and a sentence: its first line, its second line, and what is told of it. Assumes nothing.
 use Prim.Native.Nat.{ℕ, zero, suc, _+_, _-_, _/_, _%_, _≤_, _<_}
-use mathlib.Core.Path.{_≡_, refl, sym, ap, ap₂, _∙_, subst}
-use mathlib.Core.Logic.{⊎-elim}
+use mathlib.Core.Path.{_≡_, refl, sym, ap, ap₂, _∙_}
 use mathlib.Core.Bool.{Bool, true, false}
-use mathlib.Core.List.{List, [], _∷_, _++_, append-assoc}
+use mathlib.Core.List.{List, [], _∷_, _++_}
 use native.Mathlib.Omega.{arith}
 use lib.Dec.{eqb, ltb}
 use lib.ListN.{length, getD, take, drop, length-append, length-take, length-drop}
-use lib.Seq.{take-all, take-append-seam, drop-append-seam}
-use borrow.Author.Tests.{eq-eqb, ne-eqb, eqb-true, eqb-false, lt-ltb, le-ltb}
+use lib.Seq.{take-all}
+use borrow.Author.Tests.{eq-eqb, ne-eqb, lt-ltb, le-ltb}
 use Rattle.sets.specs.Tests.{_and_, _or_, pick}
-use Rattle.sets.proofs.Bools.{clash, decide, and-i, and-l, and-r, and-no-r, or-l, or-r, or-no, no-by, pick-yes, pick-no, pick-case}
-use Rattle.sets.proofs.Laws.{below-or-not, equal-or-not}
+use Rattle.sets.proofs.Bools.{and-i, and-r, and-no-r, or-l, or-r, or-no, pick-yes, pick-no, pick-case}
 use Rattle.text.specs.Digits.{decimal}
 use Rattle.text.specs.declared.Written as texts
 use Rattle.text.specs.Texts.{joined, writtenOf, putInto}
-use Rattle.text.specs.Phrases.{same, begins}
+use Rattle.text.specs.Phrases.{begins}
 use Rattle.text.proofs.Laws.{then, whole, decimal-one, decimal-two, decimal-short}
-use Rattle.text.proofs.Phrases.{same-is, same-yes}
+use Rattle.text.proofs.Phrases.{same-is}
 use Rattle.wording.specs.Sentence.{terminalsInRange}
 use Rattle.wording.specs.Heard.{Told, refused, heardOf}
 use Rattle.wording.proofs.Causes.{range-right}

@@ -3,9 +3,9 @@ use Prim.Native.Nat.{ℕ, zero, suc, _+_, _-_, _/_, _%_, _≤_, _<_}
 use mathlib.Core.Path.{_≡_, refl, sym, ap, ap₂, _∙_, subst}
 use mathlib.Core.Logic.{⊎-elim}
 use mathlib.Core.Bool.{Bool, true, false}
-use mathlib.Core.List.{List, [], _∷_, _++_, append-assoc}
+use mathlib.Core.List.{List, [], _∷_, _++_}
 use native.Mathlib.Omega.{arith}
-use lib.Dec.{eqb, ltb}
+use lib.Dec.{eqb}
 use lib.ListN.{length, getD, take, drop, length-append}
 use lib.Seq.{take-append-seam, drop-append-seam, getD-append-add}
 use borrow.Author.Tests.{eq-eqb, leb-true}
@@ -14,13 +14,12 @@ use Rattle.sets.proofs.Bools.{and-i, and-l, and-r, no-by, pick-yes, pick-no}
 use Rattle.sets.proofs.Laws.{below-or-not, equal-or-not}
 use Rattle.quorum.specs.Quorum.{mostTerminals}
 use Rattle.plan.specs.Plan.{causeWithin, causeOf}
-use Rattle.closure.specs.Verdict.{verdict}
-use Rattle.closure.specs.Answer.{Answer, judged, answerWithin}
+use Rattle.closure.specs.Answer.{judged, answerWithin}
 use Rattle.text.specs.Phrases.{begins}
 use Rattle.text.proofs.Phrases.{same-is, same-yes}
 use Rattle.wording.specs.Sentence.{terminalsInRange, sentence, sentenceCause}
-use Rattle.wording.specs.Heard.{Told, heardOf}
-use Rattle.wording.proofs.Causes.{Sound, sound}
+use Rattle.wording.specs.Heard.{heardOf}
+use Rattle.wording.proofs.Causes.{sound}
 use Rattle.wording.proofs.Lengths.{sentence-short}
 use Rattle.wording.proofs.Telling.{telling}
 use Rattle.frames.specs.Reading.{planReader, planReading, fileRead}
@@ -28,7 +27,7 @@ use Rattle.frames.proofs.Accepted.{reading-whole}
 use Rattle.output.proofs.Laws.{refused-is, answered-is}
 use Rattle.verdict_output.specs.Verdict.{verdictLine, answerText, verdictOn, verdictText}
 use Rattle.sentence_output.specs.Sentence.{passLine, failLine, sentenceAnswer, sentenceOn, sentenceText}
-use Rattle.sentence_output.specs.Heard.{numberLine, terminalsBelow, terminalsIn, lineEnds, heardOn, heardIn, heardAnswer, heardText}
+use Rattle.sentence_output.specs.Heard.{numberLine, terminalsBelow, terminalsIn, heardOn, heardAnswer, heardText}
 use Rattle.sentence_output.specs.Printed.{planOf, verdictOf, SentencePrinted}
 use Rattle.sentence_output.proofs.Answers.{answer-composes}
 use Rattle.sentence_output.proofs.Entries.{one-digit, two-digits, one-length, two-length, on-line, in-some}

@@ -1,15 +1,13 @@
 -- A phrase that is joined byte by byte, and texts that are compared byte by byte. Assumes nothing.
-use Prim.Native.Nat.{ℕ, zero, suc, _+_, _≤_, _<_}
+use Prim.Native.Nat.{ℕ, _+_, _≤_, _<_}
 use mathlib.Core.Path.{_≡_, refl, sym, ap, ap₂, _∙_}
-use mathlib.Core.Bool.{Bool, true, false}
+use mathlib.Core.Bool.{true, false}
 use mathlib.Core.List.{List, [], _∷_, _++_}
 use native.Mathlib.Numerals.{add-one}
 use native.Mathlib.Omega.{arith}
-use lib.Dec.{eqb}
 use lib.ListN.{length, getD, take, length-take}
 use lib.Seq.{take-all, take-suc, getD-take, ext-getD}
 use borrow.Author.Tests.{eq-eqb, eqb-true}
-use Rattle.sets.specs.Tests.{_and_}
 use Rattle.sets.proofs.Bools.{clash, and-l, and-r, and-i, no-by}
 use Rattle.text.specs.Texts.{joined}
 use Rattle.text.specs.Phrases.{same, begins}

@@ -1,13 +1,11 @@
 -- Why there is no sentence of some sets, by the tests that lead there, and what is known where there is one. Assumes nothing.
 use Prim.Native.Nat.{ℕ, _^_, _≤_, _<_}
-use mathlib.Core.Path.{_≡_, sym, ap, _∙_}
-use mathlib.Core.Bool.{Bool, true, false, not}
-use mathlib.Core.List.{List, [], _∷_}
+use mathlib.Core.Path.{_≡_, _∙_}
+use mathlib.Core.Bool.{true, false}
+use mathlib.Core.List.{[]}
 use native.Mathlib.Omega.{arith}
 use lib.Dec.{eqb}
 use borrow.Author.Tests.{eq-eqb, ne-eqb, eqb-false, ltb-true, leb-true, le-leb, lt-leb}
-use Rattle.sets.specs.Tests.{_and_, pick}
-use Rattle.sets.specs.Causes.{_gives_, firstCause}
 use Rattle.sets.specs.Sets.{within, outside, isPartition}
 use Rattle.sets.proofs.Bools.{and-i, and-l, and-r, and-no-l, and-no-r, not-i, not-e, not-no, not-yes, pick-yes, pick-no}
 use Rattle.sets.proofs.Causes.{cause-here, cause-later, cause-last, cause-none}

@@ -1,20 +1,16 @@
 -- What is heard of a text, byte by byte, and that of a sentence its own sets are heard. Assumes nothing.
-use Prim.Native.Nat.{ℕ, zero, suc, _+_, _-_, _*_, _/_, _%_, _^_, _≤_, _<_}
-use mathlib.Core.Path.{_≡_, refl, sym, ap, ap₂, _∙_}
-use mathlib.Core.Logic.{⊎-elim}
-use mathlib.Core.Bool.{Bool, true, false}
-use mathlib.Core.List.{List, [], _∷_, _++_, append-assoc}
+use Prim.Native.Nat.{ℕ, _+_, _-_, _*_, _≤_, _<_}
+use mathlib.Core.Path.{_≡_, sym, ap, ap₂, _∙_}
+use mathlib.Core.Bool.{true, false}
+use mathlib.Core.List.{List}
 use native.Mathlib.Numerals.{add-one}
-use native.Mathlib.Omega.{arith}
-use lib.Dec.{eqb, ltb, leb}
 use lib.ListN.{length, getD, drop}
 use lib.Seq.{drop-cons}
-use borrow.Author.Tests.{eq-eqb, ne-eqb, lt-ltb, le-ltb, le-leb, lt-leb, leb-true}
-use Rattle.sets.specs.Tests.{_and_, _or_, pick}
+use borrow.Author.Tests.{eq-eqb, ne-eqb, lt-ltb, le-ltb, leb-true}
 use Rattle.sets.specs.Sets.{with}
-use Rattle.sets.proofs.Bools.{and-i, and-l, and-r, and-no-l, or-l, pick-yes, pick-no}
+use Rattle.sets.proofs.Bools.{and-l, and-r, pick-yes, pick-no}
 use Rattle.wording.specs.declared.ear.Ear.{Ear}
-use Rattle.wording.specs.Ear.{attentive, placed, isTurn, turned, isFigure, figured, afterByte, afterAll}
+use Rattle.wording.specs.Ear.{placed, isFigure, figured, afterByte, afterAll}
 
 -- ---- the functions' returns
 

@@ -1,6 +1,6 @@
 -- Of a sentence its own sets are heard. Assumes nothing.
 use Prim.Native.Nat.{ℕ, zero, suc, _+_, _-_, _*_, _/_, _%_, _^_, _≤_, _<_}
-use mathlib.Core.Path.{_≡_, refl, sym, ap, ap₂, _∙_, subst}
+use mathlib.Core.Path.{_≡_, refl, sym, ap, ap₂, _∙_}
 use mathlib.Core.Logic.{⊎-elim}
 use mathlib.Core.Bool.{Bool, true, false}
 use mathlib.Core.List.{List, [], _∷_, _++_, append-assoc}
@@ -8,12 +8,12 @@ use native.Mathlib.Nat.{add-zero, zero-add, lt-of-lt-of-le}
 use native.Mathlib.Numerals.{add-one}
 use native.Mathlib.Omega.{arith}
 use lib.Bits.{bitOr}
-use lib.Dec.{eqb, ltb, leb}
+use lib.Dec.{eqb, ltb}
 use lib.ListN.{length}
 use lib.Pow.{pow-mono}
-use borrow.Author.Tests.{eq-eqb, ne-eqb, eqb-true, eqb-false, lt-ltb, ltb-true, le-leb}
+use borrow.Author.Tests.{ne-eqb, eqb-true, lt-ltb, ltb-true, le-leb}
 use Rattle.sets.specs.Tests.{_and_, _or_, pick}
-use Rattle.sets.specs.Sets.{bit, mem, mask, size, singleton, with}
+use Rattle.sets.specs.Sets.{bit, mem, mask, size, with}
 use Rattle.sets.proofs.Bools.{decide, and-i, and-l, and-r, pick-yes, pick-no, pick-case, every}
 use Rattle.sets.proofs.Laws.{below-or-not, mask-lt, mask-of, mask-next}
 use Rattle.sets.proofs.Masks.{mask-or}
@@ -22,10 +22,9 @@ use Rattle.text.specs.Digits.{decimal}
 use Rattle.text.specs.Phrases.{phrase}
 use Rattle.text.proofs.Laws.{decimal-one, decimal-two}
 use Rattle.wording.specs.declared.ear.Ear.{Ear}
-use Rattle.wording.specs.Ear.{attentive, placed, isTurn, turned, isFigure, figured, afterByte, afterAll}
+use Rattle.wording.specs.Ear.{attentive, placed, isTurn, turned, isFigure, afterByte, afterAll}
 use Rattle.wording.specs.Sentence.{membersFrom, members, between, listing, agreeing, opening, closing, sentence, sentenceCause}
 use Rattle.wording.proofs.Ears.{figured-small}
-use Rattle.wording.proofs.Listings.{members-yes, members-no}
 use Rattle.wording.proofs.Causes.{sound}
 
 abbrev ear : Bool → (number f r : ℕ) → Ear

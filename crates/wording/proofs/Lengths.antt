@@ -4,22 +4,22 @@ use mathlib.Core.Path.{_≡_, refl, sym, ap, _∙_, subst}
 use mathlib.Core.Logic.{⊎-elim}
 use mathlib.Core.Bool.{Bool, true, false}
 use mathlib.Core.List.{List, [], _∷_, _++_}
-use native.Mathlib.Nat.{add-zero, zero-add}
+use native.Mathlib.Nat.{zero-add}
 use native.Mathlib.Omega.{arith}
 use lib.Dec.{eqb}
 use lib.ListN.{length, length-append}
 use lib.Pow.{pow-pos}
-use borrow.Author.Tests.{eqb-true, eqb-false}
-use Rattle.sets.specs.Tests.{_and_, pick}
-use Rattle.sets.specs.Sets.{bit, mem, count, size, within, isPartition}
-use Rattle.sets.proofs.Bools.{clash, decide, and-l, and-r, pick-yes, pick-no, pick-case}
-use Rattle.sets.proofs.Laws.{below-or-not, mem-zero, count-cong, count-none, all-at, subset-fewer}
+use borrow.Author.Tests.{eqb-true}
+use Rattle.sets.specs.Tests.{_and_}
+use Rattle.sets.specs.Sets.{bit, mem, size, within, isPartition}
+use Rattle.sets.proofs.Bools.{clash, decide, and-r, pick-case}
+use Rattle.sets.proofs.Laws.{below-or-not, mem-zero, count-cong, all-at, subset-fewer}
 use Rattle.text.specs.Digits.{decimal}
 use Rattle.text.specs.Phrases.{phrase}
 use Rattle.text.proofs.Laws.{decimal-one, decimal-two}
 use Rattle.wording.specs.Sentence.{membersFrom, members, between, listing, agreeing, opening, closing, sentence, sentenceCause}
 use Rattle.wording.proofs.Listings.{members-yes, members-no, members-count}
-use Rattle.wording.proofs.Causes.{Sound, sound}
+use Rattle.wording.proofs.Causes.{sound}
 
 -- ---- a listing is no longer than its numbers, two bytes for each, and one
 

@@ -1,11 +1,11 @@
 -- The numbers of a set, as they are said: one after the other in a loop, and how many there are. Assumes nothing.
-use Prim.Native.Nat.{ℕ, zero, suc, _+_, _-_, _*_, _/_, _%_, _^_, _≤_, _<_, suc-le-suc}
+use Prim.Native.Nat.{ℕ, zero, suc, _+_, _-_, _/_, _%_, _^_, _≤_, _<_}
 use Prim.Native.String.{String}
 use mathlib.Core.Path.{_≡_, refl, sym, ap, ap₂, _∙_, subst}
 use mathlib.Core.Logic.{⊎-elim}
-use mathlib.Core.Bool.{Bool, true, false}
+use mathlib.Core.Bool.{true, false}
 use mathlib.Core.List.{List, [], _∷_, _++_, append-assoc}
-use native.Mathlib.Nat.{add-zero, add-comm, zero-add, sub-self}
+use native.Mathlib.Nat.{add-zero, add-comm}
 use native.Mathlib.Numerals.{add-one}
 use native.Mathlib.Omega.{arith}
 use lib.Count.{ones}
@@ -13,9 +13,8 @@ use lib.Dec.{eqb}
 use borrow.Author.Tests.{eq-eqb, ne-eqb}
 use lib.ListN.{length}
 use lib.Pow.{shr-shr, shr-lt}
-use Rattle.sets.specs.Tests.{pick}
-use Rattle.sets.specs.Sets.{Set, bit, mem, count, size}
-use Rattle.sets.proofs.Bools.{clash, decide, pick-yes, pick-no, pick-case}
+use Rattle.sets.specs.Sets.{bit, mem, count, size}
+use Rattle.sets.proofs.Bools.{decide, pick-yes, pick-no}
 use Rattle.sets.proofs.Laws.{count-cong}
 use Rattle.sets.proofs.Masks.{mem-shift, ones-count}
 use Rattle.text.specs.Digits.{decimal}

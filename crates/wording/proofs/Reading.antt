@@ -1,6 +1,6 @@
 -- The reader's returns: the sets that were heard are the ones, or there are none. Assumes nothing.
-use Prim.Native.Nat.{ℕ, min, _≤_}
-use mathlib.Core.Path.{_≡_, refl, sym, ap, ap₂, _∙_}
+use Prim.Native.Nat.{ℕ, min}
+use mathlib.Core.Path.{_≡_, sym, ap, ap₂, _∙_}
 use mathlib.Core.Logic.{⊎-elim}
 use mathlib.Core.Bool.{Bool, true, false}
 use mathlib.Core.List.{List}
@@ -13,7 +13,7 @@ use Rattle.text.proofs.Phrases.{same-yes, same-is}
 use Rattle.wording.specs.declared.ear.Ear.{Ear}
 use Rattle.wording.specs.Ear.{attentive, afterAll}
 use Rattle.wording.specs.Sentence.{terminalsInRange, composes, sentence, sentenceCause, composed}
-use Rattle.wording.specs.Heard.{Told, refused, speaksOf, heardOf}
+use Rattle.wording.specs.Heard.{refused, speaksOf, heardOf}
 use Rattle.wording.proofs.Causes.{range-twenty, cause-range, cause-sets, cause-right, composed-is, sound}
 use Rattle.wording.proofs.Telling.{speaks-i, speaks-cause, speaks-text, speaks-heard, heard-sets, heard-other, heard-range}
 

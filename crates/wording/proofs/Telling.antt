@@ -1,26 +1,23 @@
 -- The one pair of sets that a text speaks of, and what composer and reader are to each other. Assumes nothing.
-use Prim.Native.Nat.{ℕ, zero, suc, _+_, _*_, _/_, _%_, _^_, _≤_, _<_}
+use Prim.Native.Nat.{ℕ, zero, suc, _+_, _*_, _^_, _≤_, _<_}
 use mathlib.Core.Path.{_≡_, refl, sym, ap, ap₂, _∙_, subst}
 use mathlib.Core.Logic.{⊎-elim}
-use mathlib.Core.Bool.{Bool, true, false}
+use mathlib.Core.Bool.{true, false}
 use mathlib.Core.List.{List}
 use native.Mathlib.Nat.{mul-le-mul-right, add-mul, one-mul}
 use native.Mathlib.Omega.{arith}
-use lib.Dec.{eqb}
 use lib.Pow.{high, low, pow-mono}
 use borrow.Author.Tests.{eq-eqb, eqb-true}
-use Rattle.sets.specs.Tests.{_and_, pick}
 use Rattle.sets.specs.Sets.{outside}
 use Rattle.sets.proofs.Bools.{clash, decide, and-i, and-l, and-r, no-by, pick-yes, pick-no, pick-case}
 use Rattle.sets.proofs.Laws.{equal-or-not}
-use Rattle.text.specs.Phrases.{same}
 use Rattle.text.proofs.Phrases.{same-yes, same-is}
 use Rattle.wording.specs.declared.ear.Ear.{Ear}
 use Rattle.wording.specs.Ear.{attentive, afterAll}
 use Rattle.wording.specs.Sentence.{terminalsInRange, sentence, sentenceCause}
 use Rattle.wording.specs.Heard.{Told, refused, speaksOf, silentIn, waitingIn, spokenBelow, heardOf}
 use Rattle.wording.specs.Telling.{Telling}
-use Rattle.wording.proofs.Causes.{Sound, sound}
+use Rattle.wording.proofs.Causes.{sound}
 use Rattle.wording.proofs.Lengths.{sentence-short}
 use Rattle.wording.proofs.Hearing.{sentence-heard}
 

@@ -5,7 +5,7 @@ use mathlib.Core.List.{List}
 use lib.ListN.{length}
 use Rattle.sets.specs.Sets.{Set}
 use Rattle.wording.specs.Sentence.{sentence, sentenceCause}
-use Rattle.wording.specs.Heard.{Told, heardOf}
+use Rattle.wording.specs.Heard.{heardOf}
 
 -- no sentence is longer, so a list of so many bytes is never too short
 abbrev pub longestSentence : ℕ

@@ -1,3 +1,4 @@
+-- Each judgement's line, by what the judgement tells. Assumes nothing.
 use mathlib.Core.Path.{refl}
 use native.Mathlib.Omega.{arith}
 use Rattle.partition.specs.declared.Judgement.the-variants.{Pass, Fail, WrongRange, TooMany, WrongLink, WrongGroups}
@@ -5,81 +6,58 @@ use Rattle.sentence_output.proofs.Answers.{says-passed, says-failed, sa
 use borrow.Author.Needs.{needs}
 use Rattle.sentence_output.proofs.answer.Statement.{statement}
 use Rattle.sentence_output.proofs.answer.Tie as tie
-use Rattle.sentence_output.proofs.answer.Reads as reads
-use Rattle.sentence_output.proofs.answer.Lts as lts
-use Rattle.output.proofs.refusal.Reads as refusal-reads
-use Rattle.sentence_output.proofs.fail_line.Reads as fail-line-reads
-use Rattle.sentence_output.proofs.pass_line.Reads as pass-line-reads
 
--- src/lib.rt:40:28
 enum-told : tie.Need-enum-told
 enum-told c = search needs
 
--- src/lib.rt:40:28
 pass-line-requires : tie.Need-pass-line-requires
 pass-line-requires c κs = search needs
 
--- src/lib.rt:41:25
 enum-known-j : tie.Need-enum-known-j
 enum-known-j c = search needs
 
--- src/lib.rt:41:31
 fail-line-requires : tie.Need-fail-line-requires
 fail-line-requires c κs = let composes = rw (c .before .j .given .1) at (c .before .before .before .pre) in composes refl
 
--- src/lib.rt:42:34
 enum-told-2 : tie.Need-enum-told-2
 enum-told-2 c = search needs
 
--- src/lib.rt:42:34
 refusal-requires : tie.Need-refusal-requires
 refusal-requires c κs = search needs
 
--- src/lib.rt:43:31
 enum-told-3 : tie.Need-enum-told-3
 enum-told-3 c = search needs
 
--- src/lib.rt:43:31
 refusal-requires-2 : tie.Need-refusal-requires-2
 refusal-requires-2 c κs = search needs
 
--- src/lib.rt:44:33
 enum-told-4 : tie.Need-enum-told-4
 enum-told-4 c = search needs
 
--- src/lib.rt:44:33
 refusal-requires-3 : tie.Need-refusal-requires-3
 refusal-requires-3 c κs = search needs
 
--- src/lib.rt:45:35
 enum-told-5 : tie.Need-enum-told-5
 enum-told-5 c = search needs
 
--- src/lib.rt:45:35
 refusal-requires-4 : tie.Need-refusal-requires-4
 refusal-requires-4 c κs = search needs
 
--- src/lib.rt:35:1
 returns : tie.Need-returns
 returns c = says-passed _ _ Pass _ (c .before .enum-told .given .1) refl refl (c .pass-line .ensures)
 
--- src/lib.rt:35:1
 returns-2 : tie.Need-returns-2
 returns-2 c = says-failed _ _ (Fail _) _ (c .before .before .j .given .1) refl (λ z. omega arith) (c .fail-line .ensures)
 
--- src/lib.rt:35:1
 returns-3 : tie.Need-returns-3
 returns-3 c = says-refused _ _ WrongRange _ (c .before .enum-told2 .given .1) (λ z. omega arith) (c .refusal .ensures)
 
--- src/lib.rt:35:1
 returns-4 : tie.Need-returns-4
 returns-4 c = says-refused _ _ TooMany _ (c .before .enum-told3 .given .1) (λ z. omega arith) (c .refusal2 .ensures)
 
--- src/lib.rt:35:1
 returns-5 : tie.Need-returns-5
 returns-5 c = says-refused _ _ WrongLink _ (c .before .enum-told4 .given .1) (λ z. omega arith) (c .refusal3 .ensures)
 
--- src/lib.rt:35:1
 returns-6 : tie.Need-returns-6
 returns-6 c = says-refused _ _ WrongGroups _ (c .before .enum-told5 .given .1) (λ z. omega arith) (c .refusal4 .ensures)
 

@@ -1,3 +1,4 @@
+-- The word and the line end. Assumes nothing.
 use native.Mathlib.Omega.{arith}
 use Rattle.text.specs.Phrases.{phrase}
 use Rattle.text.proofs.Laws.{whole}
@@ -5,24 +6,16 @@ use Rattle.sentence_output.specs.Sentence.{passLine}
 use borrow.Author.Needs.{needs}
 use Rattle.sentence_output.proofs.pass_line.Statement.{statement}
 use Rattle.sentence_output.proofs.pass_line.Tie as tie
-use Rattle.sentence_output.proofs.pass_line.Reads as reads
-use Rattle.sentence_output.proofs.pass_line.Lts as lts
-use Rattle.text.proofs.Text.phrase.Reads as phrase-reads
-use Rattle.text.proofs.empty.Reads as empty-reads
 
--- src/lib.rt:22:5
 empty-requires : tie.Need-empty-requires
 empty-requires c κs = search needs
 
--- src/lib.rt:22:26
 slice-aggregate-phrase : tie.Need-slice-aggregate-phrase
 slice-aggregate-phrase c = search needs
 
--- src/lib.rt:22:5
 phrase-requires : tie.Need-phrase-requires
 phrase-requires c κs = search needs
 
--- src/lib.rt:19:1
 returns : tie.Need-returns
 unfolding passLine phrase
 returns c = whole (c .before .before .empty .ensures) (c .phrase .ensures) (omega arith)

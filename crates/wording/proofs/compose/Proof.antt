@@ -1,3 +1,4 @@
+-- The sentence, put into the list. Assumes nothing.
 use Prim.Native.Nat.{ℕ}
 use mathlib.Core.Path.{ap, ap₂, _∙_}
 use mathlib.Core.List.{List}
@@ -6,24 +7,16 @@ use Rattle.text.specs.Texts.{writtenOf, putInto}
 use borrow.Author.Needs.{needs}
 use Rattle.wording.proofs.compose.Statement.{statement}
 use Rattle.wording.proofs.compose.Tie as tie
-use Rattle.wording.proofs.compose.Reads as reads
-use Rattle.wording.proofs.compose.Lts as lts
-use Rattle.text.proofs.Text.put.Reads as put-reads
-use Rattle.wording.proofs.sentence.Reads as sentence-reads
 
--- src/lib.rt:100:9
 sentence-requires : tie.Need-sentence-requires
 sentence-requires c κs = search needs
 
--- src/lib.rt:102:5
 put-requires : tie.Need-put-requires
 put-requires c κs = search needs
 
--- src/lib.rt:96:1
 same-length : tie.Need-same-length
 same-length c = search needs
 
--- src/lib.rt:96:1
 returns : tie.Need-returns
 returns c = let s = c .before .before .before .before .before .sentence .ensures in let out = c .before .before .before .before .before .before .before .args .out .now in (c .before .before .put .ensures .0 ∙ ap₂ (λ (k : ℕ) (l : List ℕ). writtenOf k (length l) (length out)) (s .0) (s .1), c .before .before .put .ensures .1 ∙ ap (λ (l : List ℕ). putInto l out) (s .1))
 

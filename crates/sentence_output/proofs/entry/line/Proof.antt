@@ -1,5 +1,5 @@
+-- The verdict's line, or the refusal. Assumes nothing.
 use mathlib.Core.Path.{sym, ap, _∙_}
-use Prim.Native.Nat.{ℕ}
 use borrow.Author.Tests.{eq-eqb, ne-eqb}
 use Rattle.sets.proofs.Bools.{pick-yes, pick-no}
 use Rattle.output.specs.OnFile.{refusalLine}
@@ -8,30 +8,20 @@ use Rattle.sentence_output.specs.Heard.{heardAnswer}
 use borrow.Author.Needs.{needs}
 use Rattle.sentence_output.proofs.entry.line.Statement.{statement}
 use Rattle.sentence_output.proofs.entry.line.Tie as tie
-use Rattle.sentence_output.proofs.entry.line.Reads as reads
-use Rattle.sentence_output.proofs.entry.line.Lts as lts
-use Rattle.output.proofs.refusal.Reads as refusal-reads
-use Rattle.sentence_output.proofs.entry.line_of.Reads as line-of-reads
-use Rattle.verdict_output.proofs.line.Reads as line-reads
 
--- src/entry.rt:141:9
 line-requires : tie.Need-line-requires
 line-requires c κs = search needs
 
--- src/entry.rt:141:9
 returns : tie.Need-returns
 unfolding heardAnswer
 returns c = let e = c .before .before .before .args .e in c .line .ensures ∙ low-sets 1 (e .f) (e .l) (e .r) (c .before .before .before .pre) ∙ sym (pick-yes _ _ _ (eq-eqb (e .number) 0 (c .before .if1 .taken)))
 
--- src/entry.rt:143:31
 line-of-requires : tie.Need-line-of-requires
 line-of-requires c κs = search needs
 
--- src/entry.rt:143:5
 refusal-requires : tie.Need-refusal-requires
 refusal-requires c κs = search needs
 
--- src/entry.rt:136:1
 returns-2 : tie.Need-returns-2
 unfolding heardAnswer
 returns-2 c = let e = c .before .before .before .before .args .e in c .refusal .ensures ∙ ap (refusalLine (e .number)) (c .before .line-of .ensures) ∙ sym (pick-no _ _ _ (ne-eqb (e .number) 0 (c .before .before .if1 .left)))

@@ -1,42 +1,32 @@
+-- Each answer as what is told. Assumes nothing.
 use mathlib.Core.Path.{sym, ap, _∙_}
 use Rattle.wording.specs.Heard.{told}
 use Rattle.sentence_output.specs.Entered.{entry}
 use borrow.Author.Needs.{needs}
 use Rattle.sentence_output.proofs.entry.of_heard.Statement.{statement}
 use Rattle.sentence_output.proofs.entry.of_heard.Tie as tie
-use Rattle.sentence_output.proofs.entry.of_heard.Reads as reads
-use Rattle.sentence_output.proofs.entry.of_heard.Lts as lts
-use Rattle.sentence_output.proofs.entry.refused.Reads as refused-reads
 
--- src/entry.rt:84:21
 enum-known-h : tie.Need-enum-known-h
 enum-known-h c = search needs
 
--- src/entry.rt:90:30
 enum-told : tie.Need-enum-told
 enum-told c = search needs
 
--- src/entry.rt:90:30
 refused-requires : tie.Need-refused-requires
 refused-requires c κs = search needs
 
--- src/entry.rt:91:29
 enum-told-2 : tie.Need-enum-told-2
 enum-told-2 c = search needs
 
--- src/entry.rt:91:29
 refused-requires-2 : tie.Need-refused-requires-2
 refused-requires-2 c κs = search needs
 
--- src/entry.rt:80:1
 returns : tie.Need-returns
 returns c = sym (ap told (c .before .h .given .1))
 
--- src/entry.rt:80:1
 returns-2 : tie.Need-returns-2
 returns-2 c = ap entry (c .refused .ensures) ∙ sym (ap told (c .before .enum-told .given .1))
 
--- src/entry.rt:80:1
 returns-3 : tie.Need-returns-3
 returns-3 c = ap entry (c .refused2 .ensures) ∙ sym (ap told (c .before .enum-told2 .given .1))
 

@@ -1,16 +1,14 @@
+-- The first i bytes are the same. Assumes nothing.
 use Prim.Native.Nat.{ℕ, _≤_, _<_, _-_}
 use mathlib.Core.Path.{_≡_, sym}
 use native.Mathlib.Omega.{arith}
-use lib.ListN.{length, take, getD, length-take}
+use lib.ListN.{length, getD, length-take}
 use borrow.Author.Count.{below-more}
 use borrow.Author.Needs.{needs}
 use Rattle.text.specs.Texts.{held}
 use Rattle.text.proofs.Phrases.{begins-short, begins-differs, begins-all}
 use Rattle.text.proofs.Text.begins.Statement.{statement}
 use Rattle.text.proofs.Text.begins.Tie as tie
-use Rattle.text.proofs.Text.begins.Reads as reads
-use Rattle.text.proofs.Text.begins.Lts as lts
-use Rattle.text.proofs.Text.count.Reads as count-reads
 
 abbrev Inv-loop : tie.InvT-loop
 Inv-loop bytes own n i₀ i = (i ≤ n) × ((k : ℕ) → k < i → getD own k 0 ≡ getD bytes k 0)
@@ -18,46 +16,36 @@ Inv-loop bytes own n i₀ i = (i ≤ n) × ((k : ℕ) → k < i → getD own k 0
 abbrev μ-loop : tie.MeasureT-loop
 μ-loop bytes own n i₀ i = n - i
 
--- src/lib.rt:150:13
 count-requires : tie.Need-count-requires Inv-loop μ-loop
 count-requires c κs = search needs
 
--- src/lib.rt:152:13
 returns : tie.Need-returns Inv-loop μ-loop
 unfolding held
 returns c = let t = c .before .before .before .before .args .self in sym (begins-short (t .bytes) (c .before .before .before .before .args .bytes .now) (t .len) _ (c .before .count .ensures) (c .if1 .taken))
 
--- src/lib.rt:155:9
 loop-holds : tie.Need-loop-holds Inv-loop μ-loop
 loop-holds c = (omega arith, λ k h. absurd (omega arith))
 
--- src/lib.rt:156:16
 array-read-if2 : tie.Need-array-read-if2 Inv-loop μ-loop
 unfolding held
 array-read-if2 c = let t = c .before .before .before .before .before .before .args .self in let e : length (t .bytes) ≡ 344 = search needs in omega (arith, c .before .before .before .count .ensures, length-take (t .len) (t .bytes))
 
--- src/lib.rt:156:26
 shared-slice-read-if2 : tie.Need-shared-slice-read-if2 Inv-loop μ-loop
 shared-slice-read-if2 c = omega arith
 
--- src/lib.rt:157:17
 returns-2 : tie.Need-returns-2 Inv-loop μ-loop
 unfolding held
 returns-2 c = let t = c .before .before .before .before .before .before .before .before .args .self in sym (begins-differs (t .bytes) (c .before .before .before .before .before .before .before .before .args .bytes .now) (t .len) _ (c .before .before .before .before .before .count .ensures) (c .before .before .before .loop .i) (omega arith) (c .if2 .taken))
 
--- src/lib.rt:159:13
 add-i : tie.Need-add-i Inv-loop μ-loop
 add-i c = omega arith
 
--- src/lib.rt:155:9
 loop-less : tie.Need-loop-less Inv-loop μ-loop
 loop-less c = omega arith
 
--- src/lib.rt:155:9
 loop-again : tie.Need-loop-again Inv-loop μ-loop
 loop-again c = (omega arith, below-more _ _ (c .before .before .before .loop .inv .1) (c .if2 .left))
 
--- src/lib.rt:146:5
 returns-3 : tie.Need-returns-3 Inv-loop μ-loop
 unfolding held
 returns-3 c = let t = c .before .before .before .before .before .before .args .self in sym (begins-all (t .bytes) (c .before .before .before .before .before .before .args .bytes .now) (t .len) _ (c .before .before .before .count .ensures) (omega arith) (λ k h. c .before .loop .inv .1 k (omega arith)))

@@ -1,4 +1,5 @@
-use Prim.Native.Nat.{ℕ, _≤_, _-_}
+-- The first i bytes are joined. Assumes nothing.
+use Prim.Native.Nat.{_≤_, _-_}
 use mathlib.Core.Path.{_≡_, ap, _∙_}
 use native.Mathlib.Omega.{arith}
 use lib.ListN.{length, take, length-take}
@@ -8,9 +9,6 @@ use Rattle.text.specs.Texts.{held, joined}
 use Rattle.text.proofs.Phrases.{joined-none, joined-next}
 use Rattle.text.proofs.Text.phrase.Statement.{statement}
 use Rattle.text.proofs.Text.phrase.Tie as tie
-use Rattle.text.proofs.Text.phrase.Reads as reads
-use Rattle.text.proofs.Text.phrase.Lts as lts
-use Rattle.text.proofs.Text.raw.Reads as raw-reads
 
 abbrev Inv-loop : tie.InvT-loop
 Inv-loop bytes t₀ i₀ t i = (i ≤ length bytes) × (held t ≡ joined (held t₀) (take i bytes))
@@ -18,32 +16,25 @@ Inv-loop bytes t₀ i₀ t i = (i ≤ length bytes) × (held t ≡ joined (held 
 abbrev μ-loop : tie.MeasureT-loop
 μ-loop bytes t₀ i₀ t i = length bytes - i
 
--- src/lib.rt:138:9
 loop-holds : tie.Need-loop-holds Inv-loop μ-loop
 unfolding held
 loop-holds c = let e : length (c .before .args .self .bytes) ≡ 344 = search needs in (omega arith, joined-none (held (c .before .args .self)) (omega (arith, length-take (c .before .args .self .len) (c .before .args .self .bytes))))
 
--- src/lib.rt:139:23
 shared-slice-read-raw : tie.Need-shared-slice-read-raw Inv-loop μ-loop
 shared-slice-read-raw c = omega arith
 
--- src/lib.rt:139:13
 raw-requires : tie.Need-raw-requires Inv-loop μ-loop
 raw-requires c κs = search needs
 
--- src/lib.rt:140:13
 add-i : tie.Need-add-i Inv-loop μ-loop
 add-i c = omega arith
 
--- src/lib.rt:138:9
 loop-less : tie.Need-loop-less Inv-loop μ-loop
 loop-less c = omega arith
 
--- src/lib.rt:138:9
 loop-again : tie.Need-loop-again Inv-loop μ-loop
 loop-again c = let l = c .before .before .before .loop in (omega arith, joined-next _ _ (l .i) (omega arith) (l .inv .1) (c .raw .ensures))
 
--- src/lib.rt:133:5
 returns : tie.Need-returns Inv-loop μ-loop
 returns c = let l = c .before .loop in l .inv .1 ∙ ap (joined (held (c .before .before .before .args .self))) (take-all (l .i) (c .before .before .before .args .bytes .now) (omega arith))
 

@@ -1,3 +1,4 @@
+-- A figure, or the end of a number. Assumes nothing.
 use mathlib.Core.Path.{sym, ap, _∙_}
 use Rattle.sets.proofs.Bools.{pick-yes, pick-no}
 use Rattle.wording.specs.declared.ear.Ear.{Ear}
@@ -5,35 +6,23 @@ use Rattle.wording.specs.Ear.{turned, afterByte}
 use borrow.Author.Needs.{needs}
 use Rattle.wording.proofs.ear.after_byte.Statement.{statement}
 use Rattle.wording.proofs.ear.after_byte.Tie as tie
-use Rattle.wording.proofs.ear.after_byte.Reads as reads
-use Rattle.wording.proofs.ear.after_byte.Lts as lts
-use Rattle.wording.proofs.ear.figured.Reads as figured-reads
-use Rattle.wording.proofs.ear.is_figure.Reads as is-figure-reads
-use Rattle.wording.proofs.ear.placed.Reads as placed-reads
-use Rattle.wording.proofs.ear.turned.Reads as turned-reads
 
--- src/ear.rt:88:8
 is-figure-requires : tie.Need-is-figure-requires
 is-figure-requires c κs = search needs
 
--- src/ear.rt:89:9
 figured-requires : tie.Need-figured-requires
 figured-requires c κs = sym (c .before .is-figure .ensures) ∙ c .if1 .taken
 
--- src/ear.rt:89:9
 returns : tie.Need-returns
 unfolding afterByte
 returns c = c .figured .ensures ∙ sym (pick-yes _ _ _ (sym (c .before .before .is-figure .ensures) ∙ c .before .if1 .taken))
 
--- src/ear.rt:91:12
 placed-requires : tie.Need-placed-requires
 placed-requires c κs = search needs
 
--- src/ear.rt:91:5
 turned-requires : tie.Need-turned-requires
 turned-requires c κs = search needs
 
--- src/ear.rt:85:1
 returns-2 : tie.Need-returns-2
 unfolding afterByte
 returns-2 c = c .turned .ensures ∙ ap (λ (e : Ear). turned e (c .before .before .before .before .args .byte)) (c .before .placed .ensures) ∙ sym (pick-no _ _ _ (sym (c .before .before .before .is-figure .ensures) ∙ c .before .before .if1 .left))

@@ -1,18 +1,15 @@
-use mathlib.Core.Path.{sym, _∙_}
+-- The ten figures. Assumes nothing.
+use mathlib.Core.Path.{sym}
 use borrow.Author.Tests.{lt-leb, le-leb}
 use Rattle.sets.proofs.Bools.{and-no-l, and-yes}
 use Rattle.wording.specs.Ear.{isFigure}
 use Rattle.wording.proofs.ear.is_figure.Statement.{statement}
 use Rattle.wording.proofs.ear.is_figure.Tie as tie
-use Rattle.wording.proofs.ear.is_figure.Reads as reads
-use Rattle.wording.proofs.ear.is_figure.Lts as lts
 
--- src/ear.rt:62:9
 returns : tie.Need-returns
 unfolding isFigure
 returns c = sym (and-no-l _ _ (lt-leb 48 (c .before .args .byte) (c .if1 .taken)))
 
--- src/ear.rt:58:1
 returns-2 : tie.Need-returns-2
 unfolding isFigure
 returns-2 c = sym (and-yes _ _ (le-leb 48 (c .before .args .byte) (c .if1 .left)))

@@ -1,36 +1,27 @@
+-- The number goes to its set, if there is one. Assumes nothing.
 use Rattle.wording.proofs.Ears.{placed-none, placed-waiting, placed-silent}
 use borrow.Author.Needs.{needs}
 use Rattle.wording.proofs.ear.placed.Statement.{statement}
 use Rattle.wording.proofs.ear.placed.Tie as tie
-use Rattle.wording.proofs.ear.placed.Reads as reads
-use Rattle.wording.proofs.ear.placed.Lts as lts
-use Rattle.sets.proofs.with.Reads as with-reads
 
--- src/ear.rt:19:9
 returns : tie.Need-returns
 returns c = placed-none (c .before .before .args .e) (c .if1 .taken)
 
--- src/ear.rt:21:14
 sub-i : tie.Need-sub-i
 sub-i c = search needs
 
--- src/ear.rt:21:13
 cast-i : tie.Need-cast-i
 cast-i c = search needs
 
--- src/ear.rt:27:16
 with-requires : tie.Need-with-requires
 with-requires c κs = search needs
 
--- src/ear.rt:23:9
 returns-2 : tie.Need-returns-2
 returns-2 c = placed-waiting (c .before .before .before .before .before .args .e) _ (c .before .before .before .if1 .left) (c .before .if2 .taken) (c .with .ensures)
 
--- src/ear.rt:33:12
 with-requires-2 : tie.Need-with-requires-2
 with-requires-2 c κs = search needs
 
--- src/ear.rt:15:1
 returns-3 : tie.Need-returns-3
 returns-3 c = placed-silent (c .before .before .before .before .before .args .e) _ (c .before .before .before .if1 .left) (c .before .if2 .left) (c .with2 .ensures)
 

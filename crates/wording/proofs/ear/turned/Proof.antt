@@ -1,23 +1,18 @@
+-- By the letter. Assumes nothing.
 use mathlib.Core.Path.{sym, _∙_}
 use Rattle.sets.proofs.Bools.{pick-yes, pick-no}
 use Rattle.wording.specs.Ear.{turned}
 use borrow.Author.Needs.{needs}
 use Rattle.wording.proofs.ear.turned.Statement.{statement}
 use Rattle.wording.proofs.ear.turned.Tie as tie
-use Rattle.wording.proofs.ear.turned.Reads as reads
-use Rattle.wording.proofs.ear.turned.Lts as lts
-use Rattle.wording.proofs.ear.is_turn.Reads as is-turn-reads
 
--- src/ear.rt:52:8
 is-turn-requires : tie.Need-is-turn-requires
 is-turn-requires c κs = search needs
 
--- src/ear.rt:48:1
 returns : tie.Need-returns
 unfolding turned
 returns c = sym (pick-yes _ _ _ (sym (c .before .is-turn .ensures) ∙ c .if1 .taken))
 
--- src/ear.rt:48:1
 returns-2 : tie.Need-returns-2
 unfolding turned
 returns-2 c = sym (pick-no _ _ _ (sym (c .before .is-turn .ensures) ∙ c .if1 .left))

@@ -1,3 +1,4 @@
+-- What stands between, by how many follow. Assumes nothing.
 use mathlib.Core.Path.{sym, ap, _∙_}
 use Prim.Native.Nat.{ℕ}
 use Rattle.text.specs.Texts.{held, joined}
@@ -8,37 +9,27 @@ use Rattle.wording.proofs.Listings.{between-many}
 use borrow.Author.Needs.{needs}
 use Rattle.wording.proofs.names.with_between.Statement.{statement}
 use Rattle.wording.proofs.names.with_between.Tie as tie
-use Rattle.wording.proofs.names.with_between.Reads as reads
-use Rattle.wording.proofs.names.with_between.Lts as lts
-use Rattle.text.proofs.Text.phrase.Reads as phrase-reads
 
--- src/names.rt:16:9
 returns : tie.Need-returns
 unfolding between
 returns c = joined-none _ (c .before .pre) ∙ ap (λ (k : ℕ). joined (held (c .before .args .t)) (between k)) (sym (c .if1 .taken))
 
--- src/names.rt:19:25
 slice-aggregate-phrase : tie.Need-slice-aggregate-phrase
 slice-aggregate-phrase c = search needs
 
--- src/names.rt:19:9
 phrase-requires : tie.Need-phrase-requires
 phrase-requires c κs = search needs
 
--- src/names.rt:19:9
 returns-2 : tie.Need-returns-2
 unfolding between phrase
 returns-2 c = c .phrase .ensures ∙ ap (λ (k : ℕ). joined (held (c .before .before .before .before .args .t)) (between k)) (sym (c .before .before .if2 .taken))
 
--- src/names.rt:21:14
 slice-aggregate-phrase-2 : tie.Need-slice-aggregate-phrase-2
 slice-aggregate-phrase-2 c = search needs
 
--- src/names.rt:21:5
 phrase-requires-2 : tie.Need-phrase-requires-2
 phrase-requires-2 c κs = search needs
 
--- src/names.rt:11:1
 returns-3 : tie.Need-returns-3
 unfolding phrase
 returns-3 c = c .phrase2 .ensures ∙ ap (joined (held (c .before .before .before .before .args .t))) (sym (between-many (c .before .before .before .before .args .more) (c .before .before .before .if1 .left) (c .before .before .if2 .left)))

@@ -1,3 +1,4 @@
+-- A member and what stands after it, or nothing. Assumes nothing.
 use mathlib.Core.Path.{sym, ap, _∙_}
 use Rattle.sets.proofs.Bools.{pick-yes, pick-no}
 use Rattle.text.specs.Texts.{held, joined}
@@ -7,46 +8,32 @@ use Rattle.wording.specs.Turn.{named}
 use borrow.Author.Needs.{needs}
 use Rattle.wording.proofs.names.with_one.Statement.{statement}
 use Rattle.wording.proofs.names.with_one.Tie as tie
-use Rattle.wording.proofs.names.with_one.Reads as reads
-use Rattle.wording.proofs.names.with_one.Lts as lts
-use Rattle.sets.proofs.member.Reads as member-reads
-use Rattle.text.proofs.Text.decimal.Reads as decimal-reads
-use Rattle.wording.proofs.names.with_between.Reads as with-between-reads
 
--- src/names.rt:29:8
 member-requires : tie.Need-member-requires
 member-requires c κs = search needs
 
--- src/names.rt:30:39
 cast-decimal : tie.Need-cast-decimal
 cast-decimal c = search needs
 
--- src/names.rt:30:29
 decimal-requires : tie.Need-decimal-requires
 decimal-requires c κs = search needs
 
--- src/names.rt:30:71
 add-with-between : tie.Need-add-with-between
 add-with-between c = search needs
 
--- src/names.rt:30:71
 cast-with-between : tie.Need-cast-with-between
 cast-with-between c = search needs
 
--- src/names.rt:30:65
 shr-with-between : tie.Need-shr-with-between
 shr-with-between c = search needs
 
--- src/names.rt:30:9
 with-between-requires : tie.Need-with-between-requires
 with-between-requires c κs = joined-length _ _ (c .decimal .ensures)
 
--- src/names.rt:30:9
 returns : tie.Need-returns
 unfolding named
 returns c = then _ _ _ (c .before .decimal .ensures) (c .with-between .ensures) ∙ ap (joined (held (c .before .before .before .before .args .t))) (sym (pick-yes _ _ _ (sym (c .before .before .before .member .ensures) ∙ c .before .before .if1 .taken)))
 
--- src/names.rt:25:1
 returns-2 : tie.Need-returns-2
 unfolding named
 returns-2 c = joined-none _ (c .before .before .pre .1) ∙ ap (joined (held (c .before .before .args .t))) (sym (pick-no _ _ _ (sym (c .before .member .ensures) ∙ c .if1 .left)))
