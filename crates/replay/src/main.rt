@@ -10,6 +10,7 @@ mod say;
 mod shared;
 mod standings;
 mod texts;
+mod worded;
 
 // One call of a kind, and the line's length; a kind that is none has an empty line. `size` is the
 // length of the list that the call lends.
@@ -20,6 +21,8 @@ fn answer(kind: u8, size: usize, body: &[u8], line: &mut [u8]) -> usize {
         b'q' => texts::quote(size, body, line),
         b'm' => texts::margins(size, body, line),
         b'g' => texts::greatest(size, body, line),
+        b'e' => texts::sentence(size, body, line),
+        b'h' => texts::heard(size, body, line),
         b'd' => texts::open(body, line),
         b'r' => texts::run(size, body, line),
         b'f' => texts::read(size, body, line),
@@ -31,6 +34,8 @@ fn answer(kind: u8, size: usize, body: &[u8], line: &mut [u8]) -> usize {
         b'j' => judged::both(body, line),
         b'M' => standings::margins(body, line),
         b'G' => drawn::greatest(body, line),
+        b'E' => worded::compose(size, body, line),
+        b'H' => worded::read(body, line),
         b'n' => calls::site(size, body, line),
         b'l' => lent::run(size, body, line),
         b'S' => shared::step(size, body, line),

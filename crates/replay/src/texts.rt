@@ -8,7 +8,7 @@ use lines::Form;
 use plan::Plan;
 
 // The number, the text's length, and all of the lent list.
-fn written(line: &mut [u8], number: u8, len: usize, list: &[u8]) -> usize {
+pub(crate) fn written(line: &mut [u8], number: u8, len: usize, list: &[u8]) -> usize {
     let one = say::byte(line, 0, number);
     let two = say::size(line, one, len);
     say::bytes(line, two, list)
@@ -80,6 +80,34 @@ pub(crate) fn greatest(room: usize, file: &[u8], line: &mut [u8]) -> usize {
     let mut out = [90u8; 400];
     if room <= 400 {
         return greatest_into(file, &mut out[..room], line);
+    }
+    0
+}
+
+fn sentence_into(file: &[u8], out: &mut [u8], line: &mut [u8]) -> usize {
+    let w = sentence_output::sentence_text(file, out);
+    written(line, w.number, w.len, out)
+}
+
+// The same by the program for the sentence.
+pub(crate) fn sentence(room: usize, file: &[u8], line: &mut [u8]) -> usize {
+    let mut out = [90u8; 400];
+    if room <= 400 {
+        return sentence_into(file, &mut out[..room], line);
+    }
+    0
+}
+
+fn heard_into(file: &[u8], out: &mut [u8], line: &mut [u8]) -> usize {
+    let w = sentence_output::heard_text(file, out);
+    written(line, w.number, w.len, out)
+}
+
+// The same by the program that reads a sentence back.
+pub(crate) fn heard(room: usize, file: &[u8], line: &mut [u8]) -> usize {
+    let mut out = [90u8; 400];
+    if room <= 400 {
+        return heard_into(file, &mut out[..room], line);
     }
     0
 }
