@@ -1,10 +1,11 @@
 // Hexadecimal digits by the table of characters (ISO 646): sixteen cases in, sixteen cases out, and
 // no arithmetic on characters.
+#![tactic(auto)]
 ghost use Rattle.std.specs.Prelude.{◌≡◌};
 ghost use Rattle.digits.specs.Digits.{digit_of, character_of};
 
 // What a character is: a digit of this value, or foreign, as every other one.
-#[derive(Drop)]
+#[derive(Clone, Copy)]
 pub enum Digit {
     Value(u8),
     Foreign,

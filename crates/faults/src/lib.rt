@@ -1,5 +1,6 @@
 // Whether a set of terminals can be the liars' of a plan: one answer for the run, the reader and the
 // witness check.
+#![tactic(auto)]
 ghost use Rattle.std.specs.Prelude.{◌≡◌, not, ℕ, ◌<◌, ◌^◌, get_or};
 ghost use Rattle.sets.specs.Tests.{◌and◌, ◌implies◌};
 ghost use Rattle.sets.specs.Sets.{mem, all, some, mask};
@@ -11,7 +12,7 @@ ghost use Rattle.faults.specs.Check.{fault_number_of, fault_cause_of, shared_fau
 use plan::{Plan, Soundness};
 use quorum::{Bound, BoundKind};
 
-#[derive(Drop)]
+#[derive(Clone, Copy)]
 pub enum FaultSetCheck {
     Sound,
     WrongRange,

@@ -1,5 +1,6 @@
 // The step for C, by value, and the office's notice to its own board. include/terminal.h has the same in
 // C's words.
+#![tactic(auto)]
 ghost use Rattle.std.specs.Prelude.{◌≡◌, eqb, leb, get_or};
 ghost use Rattle.sets.specs.Tests.{◌or◌, pick};
 ghost use Rattle.quorum.specs.Notice.{notice_of};
@@ -15,7 +16,7 @@ use terminal::{Note, Record, State, Stepped};
 // 1 for one that took `notice` in round `at`. Any other bytes are a record that no step takes. A notice
 // is one number, its edition times 65,536 and its layout.
 #[repr(C)]
-#[derive(Drop)]
+#[derive(Clone, Copy)]
 pub struct BoardRecord {
     pub taken: u8,
     pub at: u8,
@@ -27,7 +28,7 @@ pub struct BoardRecord {
 // The number of a refusal, 0 for none, and the record after the call. A refused one comes back as
 // it went in.
 #[repr(C)]
-#[derive(Drop)]
+#[derive(Clone, Copy)]
 pub struct BoardAnswer {
     pub number: u8,
     pub after: BoardRecord,
@@ -36,7 +37,7 @@ pub struct BoardAnswer {
 // The groups of boards that fail together: the first `count` of them; the others are 0. Bit j of a
 // group is terminal j. Of a site without groups the count is f, and all sixteen are 0.
 #[repr(C)]
-#[derive(Drop)]
+#[derive(Clone, Copy)]
 pub struct BoardGroups {
     pub count: usize,
     pub groups: [u32; 16],
@@ -276,7 +277,7 @@ fn with_nine(number: u8, default: u16) -> u8
 }
 
 // The state of a record: its three fields.
-#[derive(Drop)]
+#[derive(Clone, Copy)]
 struct StateParts {
     taken: u8,
     at: u8,

@@ -1,5 +1,6 @@
 // Hexadecimal lines: the readers of plan files, new ones, those of the archive, of the quoting desk, of
 // margins and of drawings, and of run files.
+#![tactic(auto)]
 mod deaf;
 mod ends;
 mod told;
@@ -30,7 +31,7 @@ const MOST_TERMINALS: u8 = 20;
 const MOST_QUOTED: u8 = 12;
 
 // The heads that a reader takes: with how many terminals at most, and whether with groups too.
-#[derive(Drop)]
+#[derive(Clone, Copy)]
 pub struct Heads {
     pub most: u8,
     pub groups: bool,
@@ -38,7 +39,7 @@ pub struct Heads {
 
 // What a reader opens: the kinds of frame that it knows, whether plans with a deaf terminal too, as
 // that of the archive does, and the heads that it takes.
-#[derive(Drop)]
+#[derive(Clone, Copy)]
 pub struct Reader {
     pub kinds: u32,
     pub archive: bool,
@@ -47,7 +48,7 @@ pub struct Reader {
 
 // How far a file was read: nothing; the head and perhaps links; groups too; the default layout of a
 // shared channel too; the fault set too; the start too and perhaps later notices; words too.
-#[derive(Drop)]
+#[derive(Clone, Copy)]
 pub enum Stage {
     Nothing,
     Links,
@@ -62,7 +63,7 @@ pub enum Stage {
 // (edition and layout in one number) and its rounds, of the office's last notice the round in which it is
 // issued, 0 for the start, and its edition, and the default layout of a shared channel, 0 where the
 // channel is not shared.
-#[derive(Drop)]
+#[derive(Clone, Copy)]
 pub struct Progress {
     pub stage: Stage,
     pub plan: Plan,
@@ -77,7 +78,7 @@ pub struct Progress {
 
 // The number of a refusal and its line, 0 and 0 where the file is read. A refused file gives only
 // zeros beside them.
-#[derive(Drop)]
+#[derive(Clone, Copy)]
 pub struct FileRead {
     pub number: u8,
     pub line: u16,
@@ -85,7 +86,7 @@ pub struct FileRead {
 }
 
 // What the reader of the archive answers: the deaf terminals too.
-#[derive(Drop)]
+#[derive(Clone, Copy)]
 pub struct ArchiveRead {
     pub file: FileRead,
     pub deaf: u32,
@@ -229,7 +230,7 @@ fn refusal(number: u8, line: u16) -> FileRead
 
 // Where the pass over a file's bytes stands: what is known, the line's number and its first byte; and
 // the cause that refused the line before, 0 for none. Where the links are refused the number is 0.
-#[derive(Drop)]
+#[derive(Clone, Copy)]
 struct Cursor {
     progress: Progress,
     line: u16,
@@ -249,7 +250,7 @@ fn pass(
 ) -> Cursor
     requires { Going reader text.now (both words.old later.old) at i × (i < length text.now) × (length text.now ≤ most_bytes) }
     ensures going { result.cause ≡ 0 → Going reader text.now (both words.new later.new) result (i + 1) }
-    ensures text_value { (result.cause ≡ 0 → ⊥) → reading reader text.now ≡ refusal result.cause result.line }
+    ensures refused { (result.cause ≡ 0 → ⊥) → reading reader text.now ≡ refusal result.cause result.line }
 {
     if text[i] == 10 {
         let from = at.from;

@@ -17,7 +17,7 @@ use plan::Plan;
 use quorum::{Bound, BoundKind};
 
 // The cause that refuses a frame, 0 for none; and what is known after it where it is accepted.
-#[derive(Drop)]
+#[derive(Clone, Copy)]
 pub(crate) struct Told {
     pub cause: u8,
     pub progress: Progress,

@@ -1,4 +1,5 @@
 // One line's frame. A line is hexadecimal digits, two a byte, the high one first.
+#![tactic(auto)]
 ghost use Rattle.std.specs.Prelude.{◌≡◌, true, ℕ, ◌+◌, ◌<◌, length, get_or};
 ghost use Rattle.lines.specs.Bytes.{byte_at, well_formed};
 ghost use Rattle.lines.specs.Frames.{pair_at, triple_at, head_of, link_of, group_of, fault_set_of, start_of, later_of, message_of, channel_of, kind_of, known_frame, frame_of};
@@ -7,7 +8,7 @@ use digits::Digit;
 
 // What a line says. Foreign is no whole number of hexadecimal bytes; Unknown is a kind that the
 // program lacks, or one of the wrong length.
-#[derive(Drop)]
+#[derive(Clone, Copy)]
 pub enum Frame {
     Foreign,
     Unknown,
@@ -23,14 +24,14 @@ pub enum Frame {
 }
 
 // Whether a start and words have an edition. In the old form they have none, which counts as edition 1.
-#[derive(Drop)]
+#[derive(Clone, Copy)]
 pub enum Form {
     Old,
     New,
 }
 
 // The rounds of a start frame: a byte, or none.
-#[derive(Drop)]
+#[derive(Clone, Copy)]
 pub enum Rounds {
     Given(u8),
     Left,
@@ -40,7 +41,7 @@ pub enum Rounds {
 const MOST: usize = 8;
 
 // A line's first bytes, 0 past its end. It is whole if it is bytes and nothing else.
-#[derive(Drop)]
+#[derive(Clone, Copy)]
 struct Bytes {
     whole: bool,
     first: [u8; MOST],
@@ -48,8 +49,8 @@ struct Bytes {
 
 // Each digit goes into its byte from the right, so that the first one becomes the high one.
 fn bytes_of(line: &[u8]) -> Bytes
-    ensures whole_value { result.whole ≡ well_formed line.now }
-    ensures k_value { result.whole ≡ true → (k : ℕ) → k < 8 → get_or result.first k 0 ≡ byte_at line.now k }
+    ensures whole { result.whole ≡ well_formed line.now }
+    ensures bytes { result.whole ≡ true → (k : ℕ) → k < 8 → get_or result.first k 0 ≡ byte_at line.now k }
 {
     let mut first = [0u8; MOST];
     if line.len() < 1 {

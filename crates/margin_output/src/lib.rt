@@ -1,4 +1,5 @@
 // What `margins` prints: from a plan file's bytes to a line for each terminal and the line of counts.
+#![tactic(auto)]
 mod counting;
 mod table;
 
@@ -16,7 +17,7 @@ use plan::Plan;
 use text::Text;
 
 // The four counts of the last line.
-#[derive(Drop)]
+#[derive(Clone, Copy)]
 pub(crate) struct Tally {
     pub direct: u8,
     pub below: u8,

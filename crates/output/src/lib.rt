@@ -1,4 +1,5 @@
 // What the programs' texts share: the line that refuses a file, and the answer on a file.
+#![tactic(auto)]
 ghost use Rattle.std.specs.Prelude.{◌≡◌, length};
 ghost use Rattle.text.specs.Texts.{held, put_into};
 ghost use Rattle.output.specs.OnFile.{refusal_line, on_line, answer_on};
@@ -8,7 +9,7 @@ use text::Text;
 
 // The number and line of a refused file, whose text says the same, or 12 where an accepted file's
 // text has no room; and the length of the text that was put.
-#[derive(Drop)]
+#[derive(Clone, Copy)]
 pub struct Written {
     pub number: u8,
     pub line: u16,

@@ -1,4 +1,5 @@
 // The verdict on a plan, the check of a witness that anybody proposes, and how far each terminal is from trouble.
+#![tactic(auto)]
 mod bound;
 mod branch;
 mod check;
@@ -20,14 +21,14 @@ use quorum::BoundKind;
 
 // The fault set f, the terminals l that a notice reaches in spite of it, and the terminals r that
 // it cuts off.
-#[derive(Drop)]
+#[derive(Clone, Copy)]
 pub struct Witness {
     pub f: u32,
     pub l: u32,
     pub r: u32,
 }
 
-#[derive(Drop)]
+#[derive(Clone, Copy)]
 pub enum Judgement {
     Pass,
     Fail(Witness),
@@ -37,7 +38,7 @@ pub enum Judgement {
     WrongGroups,
 }
 
-#[derive(Drop)]
+#[derive(Clone, Copy)]
 pub enum WitnessCheck {
     Accepted,
     Rejected,
@@ -48,7 +49,7 @@ pub enum WitnessCheck {
 
 // How one terminal stands: it is the source, it hears the source, or it has a margin. Absent: the plan has no
 // terminal of that number.
-#[derive(Drop)]
+#[derive(Clone, Copy)]
 pub enum Standing {
     Source,
     Direct,
@@ -56,12 +57,12 @@ pub enum Standing {
     Absent,
 }
 
-#[derive(Drop)]
+#[derive(Clone, Copy)]
 pub struct Place {
     pub standing: Standing,
 }
 
-#[derive(Drop)]
+#[derive(Clone, Copy)]
 pub enum Outcome {
     Known,
     WrongRange,
@@ -69,7 +70,7 @@ pub enum Outcome {
 }
 
 // places[b] is how terminal b stands; where the record is refused, all are absent.
-#[derive(Drop)]
+#[derive(Clone, Copy)]
 pub struct Sheet {
     pub outcome: Outcome,
     pub places: [Place; 20],
@@ -95,8 +96,8 @@ fn judge(p: Plan) -> Judgement
 // The same for whoever may send at most so many terminals, or why the record is no plan that he may
 // send. What a fail lists is accepted by the witness check.
 fn judge_within(most: usize, p: Plan) -> Judgement
-    ensures result_value { answered result ≡ answer_within most p }
-    ensures result_value_2 { (answered result).failed ≡ 1 → accepts p (answered result).f (answered result).l (answered result).r ≡ true }
+    ensures answer { answered result ≡ answer_within most p }
+    ensures accepted { (answered result).failed ≡ 1 → accepts p (answered result).f (answered result).l (answered result).r ≡ true }
 {
     if plan::too_many(most, p) {
         return Judgement::TooMany;
@@ -113,16 +114,16 @@ fn judge_within(most: usize, p: Plan) -> Judgement
 // Pass, or fail with the least witness, or why the record is no plan: for the planner, who may send
 // every plan.
 pub fn verdict(p: Plan) -> Judgement
-    ensures result_value { answered result ≡ answer_of p }
-    ensures result_value_2 { (answered result).failed ≡ 1 → accepts p (answered result).f (answered result).l (answered result).r ≡ true }
+    ensures answer { answered result ≡ answer_of p }
+    ensures accepted { (answered result).failed ≡ 1 → accepts p (answered result).f (answered result).l (answered result).r ≡ true }
 {
     judge_within(20, p)
 }
 
 // The same for the quoting desk, which may send at most twelve terminals.
 pub fn quote(p: Plan) -> Judgement
-    ensures result_value { answered result ≡ quote_of p }
-    ensures result_value_2 { (answered result).failed ≡ 1 → accepts p (answered result).f (answered result).l (answered result).r ≡ true }
+    ensures answer { answered result ≡ quote_of p }
+    ensures accepted { (answered result).failed ≡ 1 → accepts p (answered result).f (answered result).l (answered result).r ≡ true }
 {
     judge_within(12, p)
 }

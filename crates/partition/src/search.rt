@@ -12,7 +12,7 @@ use plan::Plan;
 use quorum::BoundKind;
 
 // The best set so far: members above 20 for none.
-#[derive(Drop)]
+#[derive(Clone, Copy)]
 pub(crate) struct Best {
     pub members: usize,
     pub set: u32,

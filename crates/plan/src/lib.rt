@@ -1,4 +1,5 @@
 // The plan of a site: who hears whom, who issues the notice, and who may be bad together.
+#![tactic(auto)]
 ghost use Rattle.std.specs.Prelude.{◌≡◌, get_or};
 ghost use Rattle.sets.specs.Sets.{all};
 ghost use Rattle.plan.specs.Plan.{number_of, row_sound, cause_of, too_many};
@@ -6,7 +7,7 @@ ghost use Rattle.plan.specs.Plan.{number_of, row_sound, cause_of, too_many};
 use quorum::Bound;
 
 // rows[b] is the set of terminals that b hears.
-#[derive(Drop)]
+#[derive(Clone, Copy)]
 pub struct Plan {
     pub n: usize,
     pub source: usize,
@@ -14,7 +15,7 @@ pub struct Plan {
     pub rows: [u32; 20],
 }
 
-#[derive(Drop)]
+#[derive(Clone, Copy)]
 pub enum Soundness {
     Sound,
     WrongRange,

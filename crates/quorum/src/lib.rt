@@ -1,5 +1,6 @@
 // The numbers of a plan and of a run, what a terminal may hear, who may be bad together, and what a notice
 // is: causes 4, 5, 9, 16 and 17 have one test each.
+#![tactic(auto)]
 ghost use Rattle.std.specs.Prelude.{◌≡◌, eqb, ltb, get_or};
 ghost use Rattle.sets.specs.Tests.{◌implies◌, pick};
 ghost use Rattle.sets.specs.Sets.{mem, all, some};
@@ -8,7 +9,7 @@ ghost use Rattle.quorum.specs.Notice.{notice_of, edition_of, layout_of, silent, 
 ghost use Rattle.quorum.specs.Words.{start_sound};
 
 // Most(f): a good terminal hears at most f bad ones. Groups(count): the bad ones are some of one group.
-#[derive(Drop)]
+#[derive(Clone, Copy)]
 pub enum BoundKind {
     Most(usize),
     Groups(usize),
@@ -16,7 +17,7 @@ pub enum BoundKind {
 
 // Who may be bad together. groups[i] is the set of group i; the places after those that are listed are 0,
 // so all sixteen of a bound f.
-#[derive(Drop)]
+#[derive(Clone, Copy)]
 pub struct Bound {
     pub kind: BoundKind,
     pub groups: [u32; 16],

@@ -8,7 +8,7 @@ use simulation::Outcome;
 use terminal::Record;
 
 // What the run answered, and what it left in the records.
-#[derive(Drop)]
+#[derive(Clone, Copy)]
 pub(crate) struct Lent {
     pub outcome: Outcome,
     pub records: [Record; 5],
@@ -47,7 +47,7 @@ pub(crate) fn records(line: &mut [u8], at: usize, list: [Record; 5]) -> usize {
 }
 
 // What the five places hold before, and the place after them in the call.
-#[derive(Drop)]
+#[derive(Clone, Copy)]
 pub(crate) struct Before {
     pub records: [Record; 5],
     pub next: usize,

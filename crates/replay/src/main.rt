@@ -1,6 +1,7 @@
 // Plays recorded calls through the proved functions and prints what they answer, a line a call.
 // A call is its kind, the length of the list that it lends, the length of the rest, both in two
 // bytes, high byte first, and the rest.
+#![tactic(auto)]
 mod calls;
 mod drawn;
 mod judged;

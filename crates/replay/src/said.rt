@@ -34,7 +34,7 @@ fn kind(groups: bool, number: usize) -> BoundKind {
 }
 
 // A bound, and the place after it.
-#[derive(Drop)]
+#[derive(Clone, Copy)]
 pub(crate) struct PlacedBound {
     pub bound: Bound,
     pub next: usize,
@@ -86,7 +86,7 @@ pub(crate) fn drawing(body: &[u8]) -> Drawing {
 }
 
 // A plan, and the place after it.
-#[derive(Drop)]
+#[derive(Clone, Copy)]
 pub(crate) struct PlacedPlan {
     pub plan: Plan,
     pub next: usize,
@@ -150,7 +150,7 @@ fn note(body: &[u8], i: usize) -> Note
 }
 
 // A record, and the place after it.
-#[derive(Drop)]
+#[derive(Clone, Copy)]
 pub(crate) struct Placed {
     pub record: Record,
     pub next: usize,

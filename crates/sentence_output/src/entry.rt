@@ -11,7 +11,7 @@ use wording::Heard;
 const MOST_BYTES: usize = 24576;
 
 // The number of a refusal, 0 for none, and the sets; zeros beside a refusal.
-#[derive(Drop)]
+#[derive(Clone, Copy)]
 pub(crate) struct Entered {
     pub number: u8,
     pub f: u32,

@@ -1,4 +1,5 @@
 // The run of a site against scripted liars, with a word for each hearer or on a shared channel.
+#![tactic(auto)]
 mod channel;
 mod playing;
 
@@ -13,7 +14,7 @@ use faults::FaultSetCheck;
 use plan::Plan;
 use terminal::Record;
 
-#[derive(Drop)]
+#[derive(Clone, Copy)]
 pub enum Outcome {
     Played,
     WrongRange,
@@ -47,7 +48,7 @@ pub fn number(o: Outcome) -> u8
 // in round r, if that is no silence. `spoken` is what each good terminal says to all this round, fixed
 // before its first step; `next` collects what they say in the next. `default` is the default layout of a
 // shared channel, 0 where each hearer has its word.
-#[derive(Drop)]
+#[derive(Clone, Copy)]
 pub(crate) struct Turn {
     pub plan: Plan,
     pub faulty: u32,
@@ -60,7 +61,7 @@ pub(crate) struct Turn {
     pub default: u16,
 }
 
-#[derive(Drop)]
+#[derive(Clone, Copy)]
 pub(crate) struct Made {
     pub turn: Turn,
     pub after: Record,
@@ -68,14 +69,14 @@ pub(crate) struct Made {
 
 // The outcome of the run, and terminal b's record after the last round at place b. A refused run
 // leaves start records.
-#[derive(Drop)]
+#[derive(Clone, Copy)]
 pub struct Ran {
     pub outcome: Outcome,
     pub records: [Record; 20],
 }
 
 // The outcome of a run, its first turn, and how many turns it has: none where it is refused.
-#[derive(Drop)]
+#[derive(Clone, Copy)]
 pub(crate) struct Begun {
     pub outcome: Outcome,
     pub turn: Turn,
@@ -259,9 +260,9 @@ fn play_array(t: Turn, turns: usize, words: &[u32], records: [Record; 20]) -> [R
 // The run by value. later[r - 1] is what the office issues in round r; a zero in either half of it is
 // silence.
 pub fn run_site(p: Plan, faulty: u32, first: u32, later: &[u32], rounds: u8, words: &[u32]) -> Ran
-    ensures outcome_value { number_of result.outcome ≡ run_cause p faulty first later.now rounds (length words.now) p.n }
-    ensures records_value { result.records ≡ array_after p faulty first later.now rounds words.now }
-    ensures demand3holds { number_of result.outcome ≡ 0 → Demand3Holds p faulty first later.now rounds words.now result.records }
+    ensures outcome { number_of result.outcome ≡ run_cause p faulty first later.now rounds (length words.now) p.n }
+    ensures records_after { result.records ≡ array_after p faulty first later.now rounds words.now }
+    ensures demand3 { number_of result.outcome ≡ 0 → Demand3Holds p faulty first later.now rounds words.now result.records }
 {
     let b = begin(p, faulty, first, later, rounds, words.len(), p.n);
     let outcome = b.outcome;
@@ -281,9 +282,9 @@ pub fn run(
     words: &[u32],
     records: &mut [Record],
 ) -> Outcome
-    ensures result_value { number_of result ≡ run_cause p faulty first later.now rounds (length words.now) (length records.old) }
+    ensures outcome { number_of result ≡ run_cause p faulty first later.now rounds (length words.now) (length records.old) }
     ensures records_after { records.new ≡ records_after p faulty first later.now rounds words.now records.old }
-    ensures demand3holds { number_of result ≡ 0 → Demand3Holds p faulty first later.now rounds words.now records.new }
+    ensures demand3 { number_of result ≡ 0 → Demand3Holds p faulty first later.now rounds words.now records.new }
 {
     let b = begin(p, faulty, first, later, rounds, words.len(), records.len());
     play_turns(b.turn, b.turns, words, records);
@@ -417,9 +418,9 @@ pub fn run_shared_site(
     rounds: u8,
     words: &[u16],
 ) -> Ran
-    ensures outcome_value { number_of result.outcome ≡ shared_run_cause p faulty value default rounds (length words.now) p.n }
-    ensures records_value { result.records ≡ shared_array_after p faulty value default rounds words.now }
-    ensures agreement_holds { number_of result.outcome ≡ 0 → AgreementHolds p faulty value default rounds words.now result.records }
+    ensures outcome { number_of result.outcome ≡ shared_run_cause p faulty value default rounds (length words.now) p.n }
+    ensures records_after { result.records ≡ shared_array_after p faulty value default rounds words.now }
+    ensures agreement { number_of result.outcome ≡ 0 → AgreementHolds p faulty value default rounds words.now result.records }
 {
     let b = begin_shared(p, faulty, value, default, rounds, words.len(), p.n);
     let outcome = b.outcome;
@@ -439,9 +440,9 @@ pub fn run_shared(
     words: &[u16],
     records: &mut [Record],
 ) -> Outcome
-    ensures result_value { number_of result ≡ shared_run_cause p faulty value default rounds (length words.now) (length records.old) }
+    ensures outcome { number_of result ≡ shared_run_cause p faulty value default rounds (length words.now) (length records.old) }
     ensures records_after { records.new ≡ shared_records_after p faulty value default rounds words.now records.old }
-    ensures agreement_holds { number_of result ≡ 0 → AgreementHolds p faulty value default rounds words.now records.new }
+    ensures agreement { number_of result ≡ 0 → AgreementHolds p faulty value default rounds words.now records.new }
 {
     let b = begin_shared(
         p,

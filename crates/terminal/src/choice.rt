@@ -14,7 +14,7 @@ use super::Note;
 use quorum::Bound;
 
 // Who has said one value, who has said more, and the first place of each note.
-#[derive(Drop)]
+#[derive(Clone, Copy)]
 pub(crate) struct FirstValues {
     pub single: u32,
     pub fickle: u32,

@@ -59,7 +59,7 @@ fn layout_in(notes: [Note; 20], n: usize, source: usize, bound: Bound, who: u32)
 }
 
 // An edition in which something qualifies, and the layout; 0 and 0 for none.
-#[derive(Drop)]
+#[derive(Clone, Copy)]
 pub(crate) struct Best {
     pub edition: u16,
     pub layout: u16,

@@ -1,5 +1,6 @@
 // One terminal: its record, the step that plays one round of it, and what its office issues. All that the
 // firmware ships.
+#![tactic(auto)]
 pub mod channel;
 mod choice;
 mod choosing;
@@ -17,7 +18,7 @@ use quorum::Bound;
 
 // A terminal waits, or it has taken a notice in a round and keeps both. A notice is one number, its
 // edition times 65,536 and its layout.
-#[derive(Drop)]
+#[derive(Clone, Copy)]
 pub enum State {
     Waiting,
     Taken(u8, u32),
@@ -27,7 +28,7 @@ pub enum State {
 // layouts in that edition, in the order in which they were first said. The places after them are not
 // looked at. Laid out as C has it, for boards.
 #[repr(C)]
-#[derive(Drop)]
+#[derive(Clone, Copy)]
 pub struct Note {
     pub edition: u16,
     pub count: u8,
@@ -35,14 +36,14 @@ pub struct Note {
 }
 
 // notes[j] is what terminal j has said to this one.
-#[derive(Drop)]
+#[derive(Clone, Copy)]
 pub struct Record {
     pub state: State,
     pub round: u8,
     pub notes: [Note; 20],
 }
 
-#[derive(Drop)]
+#[derive(Clone, Copy)]
 pub enum Outcome {
     Accepted,
     WrongRange,
@@ -71,7 +72,7 @@ pub fn number(o: Outcome) -> u8
 }
 
 // The record after the step; where it is refused, the record that went in.
-#[derive(Drop)]
+#[derive(Clone, Copy)]
 pub struct Stepped {
     pub outcome: Outcome,
     pub after: Record,

@@ -1,5 +1,6 @@
 // Text out: bytes as hexadecimal digits and in decimal, a text that is put together by value, and a text put into a
 // lent list once it is whole.
+#![tactic(auto)]
 ghost use Rattle.std.specs.Prelude.{◌≡◌, [], ◌∷◌, ◌≤◌, ◌/◌, ◌%◌, length};
 ghost use Rattle.std.proofs.Math.Seq.{paste};
 ghost use Rattle.digits.specs.Digits.{character_of};
@@ -10,14 +11,14 @@ ghost use Rattle.text.specs.Phrases.{same, begins};
 // The bytes that a text has room for.
 const ROOM: usize = 344;
 
-#[derive(Drop)]
+#[derive(Clone, Copy)]
 pub struct Text {
     pub bytes: [u8; ROOM],
     pub len: usize,
 }
 
 // The number of a refusal, 0 for none, and the length of the text that was put.
-#[derive(Drop)]
+#[derive(Clone, Copy)]
 pub struct Written {
     pub number: u8,
     pub len: usize,

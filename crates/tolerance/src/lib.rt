@@ -1,4 +1,5 @@
 // The greatest bound for which a drawing passes, from its links alone.
+#![tactic(auto)]
 ghost use Rattle.std.specs.Prelude.{◌≡◌, ◌<◌};
 ghost use Rattle.plan.specs.Plan.{cause_of};
 ghost use Rattle.tolerance.specs.Greatest.{with_bound, passes_with, greatest, height};
@@ -9,7 +10,7 @@ use plan::{Plan, Soundness};
 use quorum::{Bound, BoundKind};
 
 // Who hears whom: rows[b] is the set that terminal b hears. A plan without its bound.
-#[derive(Drop)]
+#[derive(Clone, Copy)]
 pub struct Drawing {
     pub n: usize,
     pub source: usize,
@@ -18,7 +19,7 @@ pub struct Drawing {
 
 // The greatest bound for which the drawing passes; none, if it fails for 0 already; or why the record is
 // no drawing.
-#[derive(Drop)]
+#[derive(Clone, Copy)]
 pub enum Greatest {
     None,
     Bound(usize),

@@ -3,7 +3,7 @@ ghost use Rattle.std.specs.Prelude.{◌≡◌, true};
 ghost use Rattle.wording.specs.Ear.{attentive, placed, is_turn, turned, is_figure, figured, after_byte, after_all};
 
 // Whether those are told who wait, the number that is read, with one added, 0 for none, and the sets so far.
-#[derive(Drop)]
+#[derive(Clone, Copy)]
 pub(crate) struct Ear {
     pub waiting: bool,
     pub number: u32,

@@ -1,4 +1,5 @@
 // The fail in a sentence, for the phone: composed of the sets, and read back.
+#![tactic(auto)]
 mod ear;
 mod names;
 
@@ -10,14 +11,14 @@ ghost use Rattle.wording.specs.Heard.{told, heard_of};
 use text::{Text, Written};
 
 // The number of a refusal, 0 for none, and the sentence; where the sets are refused it is empty.
-#[derive(Drop)]
+#[derive(Clone, Copy)]
 pub struct Composed {
     pub number: u8,
     pub text: Text,
 }
 
 // The sets F, L and R that a text speaks of, or why it speaks of none.
-#[derive(Drop)]
+#[derive(Clone, Copy)]
 pub enum Heard {
     Sets(u32, u32, u32),
     WrongRange,
@@ -75,8 +76,8 @@ fn closed(t: Text, n: usize, r: u32) -> Text
 
 // The sentence of a witness, by value.
 pub fn sentence(n: usize, f: u32, l: u32, r: u32) -> Composed
-    ensures number_value { result.number ≡ sentence_cause n f l r }
-    ensures text_value { held result.text ≡ composed n f l r }
+    ensures cause { result.number ≡ sentence_cause n f l r }
+    ensures sentence { held result.text ≡ composed n f l r }
 {
     let number = cause(n, f, l, r);
     if number != 0 {

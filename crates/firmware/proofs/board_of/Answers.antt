@@ -1,0 +1,11 @@
+-- By the two cases of a state. Assumes nothing.
+use Rattle.firmware.specs.Board.{board_with, board_of}
+use Rattle.firmware.proofs.board_of.Goals as goal
+
+pub returns-in-Waiting : goal.returns-in-Waiting
+unfolding board_of board_with
+returns-in-Waiting c = simp c.enum_told-1.given.1
+
+pub returns-in-Taken : goal.returns-in-Taken
+unfolding board_of board_with
+returns-in-Taken c = simp c.state-1.given.1

@@ -1,0 +1,25 @@
+-- By the bytes, one test at a time. Assumes nothing.
+use borrow.Author.Tests.{eq-eqb, ne_eqb}
+use Rattle.sets.specs.Tests.{pick}
+use Rattle.firmware.specs.Board.{state_of}
+use Rattle.firmware.proofs.state_of.Goals as goal
+
+pub returns-then-taken-eq1 : goal.returns-then-taken-eq1
+unfolding state_of pick ◌and◌
+returns-then-taken-eq1 c = simp (eq-eqb _ 1 c.if-taken-eq1.true)
+
+pub returns-then-notice-eq0 : goal.returns-then-notice-eq0
+unfolding state_of pick ◌and◌
+returns-then-notice-eq0 c = simp (ne_eqb _ 1 c.if-taken-eq1.false, eq-eqb _ 0 c.if-taken-eq0.true, eq-eqb _ 0 c.if-at-eq0.true, eq-eqb _ 0 c.if-notice-eq0.true)
+
+pub returns-else-notice-eq0 : goal.returns-else-notice-eq0
+unfolding state_of pick ◌and◌
+returns-else-notice-eq0 c = simp (ne_eqb _ 1 c.if-taken-eq1.false, eq-eqb _ 0 c.if-taken-eq0.true, eq-eqb _ 0 c.if-at-eq0.true, ne_eqb _ 0 c.if-notice-eq0.false)
+
+pub returns-else-at-eq0 : goal.returns-else-at-eq0
+unfolding state_of pick ◌and◌
+returns-else-at-eq0 c = simp (ne_eqb _ 1 c.if-taken-eq1.false, eq-eqb _ 0 c.if-taken-eq0.true, ne_eqb _ 0 c.if-at-eq0.false)
+
+pub returns-else-taken-eq0 : goal.returns-else-taken-eq0
+unfolding state_of pick ◌and◌
+returns-else-taken-eq0 c = simp (ne_eqb _ 1 c.if-taken-eq1.false, ne_eqb _ 0 c.if-taken-eq0.false)

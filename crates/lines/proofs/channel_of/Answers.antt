@@ -1,0 +1,16 @@
+-- The length picks the definition's case; the layout is the callee's. Assumes nothing.
+use mathlib.Core.Path.{sym, ap, ◌∙◌}
+use lib.ListN.{length}
+use borrow.Author.Tests.{eq-eqb, ne_eqb}
+use Rattle.sets.proofs.Bools.{pick_yes, pick_no}
+use Rattle.lines.specs.declared.Frame.TheVariants.{Channel}
+use Rattle.lines.specs.Frames.{channel_of}
+use Rattle.lines.proofs.channel_of.Goals as goal
+
+pub returns-then-bytes-eq3 : goal.returns-then-bytes-eq3
+unfolding channel_of
+returns-then-bytes-eq3 c = ap Channel c.pair_at.ensures ∙ sym (pick_yes _ _ _ (eq-eqb (length c.args.bytes.now) 3 c.if-bytes-eq3.true))
+
+pub returns : goal.returns
+unfolding channel_of
+returns c = sym (pick_no _ _ _ (ne_eqb (length c.args.bytes.now) 3 c.if-bytes-eq3.false))

@@ -1,0 +1,28 @@
+-- The parts of a line, one after the other. Assumes nothing.
+use mathlib.Core.Path.{sym, ap, subst, ◌∙◌}
+use mir.Syntax.{w32}
+use mir.Val.{SFits}
+use mir.Facts.{to_z-of_z}
+use borrow.Author.Rules.{rules}
+use Rattle.partition.specs.declared.Standing.{Standing}
+use Rattle.partition.specs.declared.Standing.TheVariants.{Margin}
+use Rattle.text.specs.Texts.{held, joined}
+use Rattle.margin_output.specs.Margins.{standing_line}
+use Rattle.margin_output.specs.Counts.{Small}
+use Rattle.margin_output.proofs.TableLaws.{line_source, line_direct, line_margin, line_absent}
+use Rattle.margin_output.proofs.table.with_line.Goals as goal
+
+pub with_margin-requires : goal.with_margin-requires
+with_margin-requires c = let fit : SFits w32 c.s-1.given.0.0 = search rules in subst Small (c.s-1.given.1 ∙ ap Margin (sym (to_z-of_z fit))) c.requires.0
+
+pub returns-in-Source : goal.returns-in-Source
+returns-in-Source c = let a = c.args in line_source (held a.t) a.b c.requires.1 ∙ ap (λ (s : Standing). joined (held a.t) (standing_line a.b s)) (sym c.enum_told-1.given.1)
+
+pub returns-in-Direct : goal.returns-in-Direct
+returns-in-Direct c = let a = c.args in line_direct _ _ c.decimal.ensures c.raw.ensures c.with_direct.ensures c.raw-in-Direct.ensures ∙ ap (λ (s : Standing). joined (held a.t) (standing_line a.b s)) (sym c.enum_told-in-Direct-1.given.1)
+
+pub returns-in-Margin : goal.returns-in-Margin
+returns-in-Margin c = let fit : SFits w32 c.s-1.given.0.0 = search rules in let a = c.args in line_margin _ _ _ c.decimal-in-Margin.ensures c.raw-in-Margin.ensures c.with_margin.ensures c.raw-in-Margin-2.ensures ∙ ap (λ (s : Standing). joined (held a.t) (standing_line a.b s)) (ap Margin (to_z-of_z fit) ∙ sym c.s-1.given.1)
+
+pub returns-in-Absent : goal.returns-in-Absent
+returns-in-Absent c = let a = c.args in line_absent (held a.t) a.b c.requires.1 ∙ ap (λ (s : Standing). joined (held a.t) (standing_line a.b s)) (sym c.enum_told-in-Absent-1.given.1)

@@ -1,0 +1,10 @@
+use Prim.Native.Nat.{◌-◌}
+use Rattle.sets.specs.Sets.{mem, count}
+use Rattle.partition.specs.Search.{Grown}
+use Rattle.partition.proofs.bound.settled.Given as goal
+
+abbrev pub invariant-loop-s : goal.invariant-loop-s
+invariant-loop-s l = Grown l.p l.out l.known l.s
+
+abbrev pub decreases-loop-s : goal.decreases-loop-s
+decreases-loop-s l = l.p.n - count l.p.n (λ i. mem i l.s)

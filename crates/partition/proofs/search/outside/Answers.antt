@@ -1,0 +1,8 @@
+-- A plan has fewer terminals than a word has bits. Assumes nothing.
+use mathlib.Core.Path.{◌∙◌}
+use native.Mathlib.Omega.{arith}
+use Rattle.sets.proofs.Partition.{few_outside}
+use Rattle.partition.proofs.search.outside.Goals as goal
+
+pub returns : goal.returns
+returns c = let a = c.args in c.outside.ensures ∙ few_outside a.n a.faulty a.l (omega arith)

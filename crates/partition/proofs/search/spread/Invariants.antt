@@ -1,0 +1,11 @@
+-- The set grows turn by turn, until a turn adds nobody. Assumes nothing.
+use Prim.Native.Nat.{◌-◌}
+use Rattle.sets.specs.Sets.{mem, count}
+use Rattle.partition.specs.Search.{Spreading}
+use Rattle.partition.proofs.search.spread.Given as goal
+
+abbrev pub invariant-loop-l : goal.invariant-loop-l
+invariant-loop-l l = Spreading l.p l.s l.wall l.l
+
+abbrev pub decreases-loop-l : goal.decreases-loop-l
+decreases-loop-l l = l.p.n - count l.p.n (λ i. mem i l.l)

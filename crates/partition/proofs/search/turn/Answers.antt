@@ -1,0 +1,19 @@
+-- By a bound f all at once, by groups one after the other. Assumes nothing.
+use mathlib.Core.Path.{◌∙◌}
+use native.Mathlib.Omega.{arith}
+use Rattle.plan.proofs.Laws.{sound}
+use Rattle.faults.proofs.Rows.{over_hearing}
+use Rattle.partition.proofs.Bounds.{swept_at_once}
+use Rattle.partition.proofs.search.turn.Goals as goal
+
+pub overflow_cast-f : goal.overflow_cast-f
+overflow_cast-f c =
+    let g = sound _ c.requires.0 in
+    let k = g.f_below _ c.kind-1.given.1 in
+    let t = g.twenty in
+    omega arith
+
+pub returns-in-Most : goal.returns-in-Most
+returns-in-Most c =
+    let e = c.before.before.before.before.before.before in
+    swept_at_once _ (sound _ e.requires.0) _ _ _ e.ranges.wall.fits e.requires.1 (c.over.ensures ∙ over_hearing _ _ _ _ c.kind-1.given.1)

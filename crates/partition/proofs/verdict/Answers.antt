@@ -1,0 +1,7 @@
+-- The one judgement, within 20 terminals. Assumes nothing.
+use Rattle.closure.specs.Answer.{answer_of}
+use Rattle.partition.proofs.verdict.Goals as goal
+
+pub returns : goal.returns
+unfolding answer_of
+returns c = (c.judge_within.ensures.answer, c.judge_within.ensures.accepted)

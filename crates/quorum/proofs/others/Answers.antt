@@ -1,0 +1,12 @@
+-- `others` meets its contract: the two tests of the rule, in its order. Assumes nothing.
+use mathlib.Core.Path.{sym, ◌∙◌}
+use Rattle.quorum.specs.Quorum.{others}
+use Rattle.quorum.proofs.others.Goals as goal
+
+pub returns-then-within : goal.returns-then-within
+unfolding others ◌and◌
+returns-then-within c = simp (sym c.within.ensures ∙ c.if-within.true, c.member.ensures)
+
+pub returns : goal.returns
+unfolding others ◌and◌
+returns c = simp (sym c.within.ensures ∙ c.if-within.false)

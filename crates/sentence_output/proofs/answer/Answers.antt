@@ -1,0 +1,27 @@
+-- Each judgement's line, by what the judgement tells. Assumes nothing.
+use mathlib.Core.Path.{refl}
+use native.Mathlib.Omega.{arith}
+use Rattle.partition.specs.declared.Judgement.TheVariants.{Pass, Fail, WrongRange, TooMany, WrongLink, WrongGroups}
+use Rattle.sentence_output.proofs.Answers.{says_passed, says_failed, says_refused}
+use Rattle.sentence_output.proofs.answer.Goals as goal
+
+pub fail_line-requires : goal.fail_line-requires
+fail_line-requires c = let composes = rw c.j-1.given.1 at c.requires in composes refl
+
+pub returns-in-Pass : goal.returns-in-Pass
+returns-in-Pass c = says_passed _ _ Pass _ c.enum_told-1.given.1 refl refl c.pass_line.ensures
+
+pub returns-in-Fail : goal.returns-in-Fail
+returns-in-Fail c = says_failed _ _ (Fail _) _ c.j-1.given.1 refl (λ z. omega arith) c.fail_line.ensures
+
+pub returns-in-WrongRange : goal.returns-in-WrongRange
+returns-in-WrongRange c = says_refused _ _ WrongRange _ c.enum_told-in-WrongRange-1.given.1 (λ z. omega arith) c.refusal.ensures
+
+pub returns-in-TooMany : goal.returns-in-TooMany
+returns-in-TooMany c = says_refused _ _ TooMany _ c.enum_told-in-TooMany-1.given.1 (λ z. omega arith) c.refusal-in-TooMany.ensures
+
+pub returns-in-WrongLink : goal.returns-in-WrongLink
+returns-in-WrongLink c = says_refused _ _ WrongLink _ c.enum_told-in-WrongLink-1.given.1 (λ z. omega arith) c.refusal-in-WrongLink.ensures
+
+pub returns-in-WrongGroups : goal.returns-in-WrongGroups
+returns-in-WrongGroups c = says_refused _ _ WrongGroups _ c.enum_told-in-WrongGroups-1.given.1 (λ z. omega arith) c.refusal-in-WrongGroups.ensures

@@ -1,0 +1,14 @@
+-- Either the next terminal's turn in this round, or the first's in the next. Assumes nothing.
+use mathlib.Core.Path.{sym}
+use borrow.Author.Tests.{lt-ltb, le-ltb}
+use Rattle.sets.proofs.Bools.{pick_yes, pick_no}
+use Rattle.simulation.specs.Turns.{next_turn}
+use Rattle.simulation.proofs.playing.next_turn.Goals as goal
+
+pub returns-then-at-plan : goal.returns-then-at-plan
+unfolding next_turn
+returns-then-at-plan c = sym (pick_yes _ _ _ (lt-ltb _ _ c.if-at-plan.true))
+
+pub returns : goal.returns
+unfolding next_turn
+returns c = sym (pick_no _ _ _ (le-ltb _ _ c.if-at-plan.false))

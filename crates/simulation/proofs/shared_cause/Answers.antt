@@ -1,0 +1,34 @@
+-- The causes of plan and fault set come first. Assumes nothing.
+use mathlib.Core.Path.{◌≡◌, sym, ap, ◌∙◌}
+use Rattle.faults.specs.Check.{shared_fault_cause_of}
+use Rattle.plan.proofs.Laws.{sound}
+use Rattle.faults.proofs.Laws.{shared_sound}
+use Rattle.simulation.specs.Answer.{number_of}
+use Rattle.simulation.proofs.Causes.{not_played}
+use Rattle.simulation.proofs.SharedCauses.{shared_start_parts, shared_played, shared_length, shared_wrong_start, shared_fault}
+use Rattle.simulation.proofs.shared_cause.Goals as goal
+
+-- where the outcome is Played so far, plan and fault set are sound
+checked : (c : goal.In-Played) → let a = c.args in shared_fault_cause_of a.p a.faulty ≡ 0
+checked c = sym c.check_shared_fault_set.ensures ∙ sym c.refused-fault.ensures ∙ ap number_of c.enum_told-1.given.1
+
+pub shared_lists_fit-requires : goal.shared_lists_fit-requires
+shared_lists_fit-requires c =
+    ((sound _ (shared_sound _ _ (checked c.before.before)).0).twenty, (shared_start_parts _ _ _ (sym c.shared_start_sound.ensures ∙ c.if-shared_start_sound.true)).1)
+
+pub returns-then-shared_lists_fit : goal.returns-then-shared_lists_fit
+returns-then-shared_lists_fit c =
+    shared_played _ _ _ _ _ _ _ (checked c.before.before.before.before) (sym c.shared_start_sound.ensures ∙ c.if-shared_start_sound.true)
+    (sym c.shared_lists_fit.ensures ∙ c.if-shared_lists_fit.true)
+
+pub returns-then-shared_start_sound : goal.returns-then-shared_start_sound
+returns-then-shared_start_sound c =
+    shared_length _ _ _ _ _ _ _ (checked c.before.before.before.before) (sym c.shared_start_sound.ensures ∙ c.if-shared_start_sound.true)
+    (sym c.shared_lists_fit.ensures ∙ c.if-shared_lists_fit.false)
+
+pub returns-in-Played : goal.returns-in-Played
+returns-in-Played c = shared_wrong_start _ _ _ _ _ _ _ (checked c.before.before) (sym c.shared_start_sound.ensures ∙ c.if-shared_start_sound.false)
+
+pub returns : goal.returns
+returns c =
+    shared_fault _ _ _ _ _ _ _ _ (c.refused-fault.ensures ∙ c.check_shared_fault_set.ensures) (not_played c.refused-fault.result c.in_default.keys2)

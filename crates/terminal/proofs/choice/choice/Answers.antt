@@ -1,0 +1,26 @@
+-- `choice` meets its contract: the code asks for the source's first value first, as the rule does; both ways past it end at the least that is certified.
+-- Assumes nothing.
+use mathlib.Core.Path.{sym, ◌∙◌}
+use mathlib.Core.Logic.{inl, inr, ⊎_elim}
+use lib.Bits.{bit_or}
+use Rattle.sets.specs.Sets.{mem}
+use Rattle.terminal.proofs.Search.{direct_yes, direct_no}
+use Rattle.terminal.proofs.choice.choice.Goals as goal
+
+pub returns-then-word-ne0 : goal.returns-then-word-ne0
+returns-then-word-ne0 c =
+    let a = c.args in
+    let p = c.requires in
+    let e = c.first_values-first.ensures in
+    direct_yes a.n a.bound a.heard a.notes p.0 p.2 c.first_values-first.result.values e.2 a.source p.1
+    (sym (λ i. mem a.source (bit_or (e.0 i) (e.1 i))) ∙ sym c.member.ensures ∙ c.if-member.true) c.if-word-ne0.true
+
+pub returns : goal.returns
+returns c =
+    let a = c.args in
+    let p = c.requires in
+    let e = c.first_values-first.ensures in
+    let same = sym (λ i. mem a.source (bit_or (e.0 i) (e.1 i))) in
+    c.least_certified.ensures
+    ∙ direct_no a.n a.bound a.heard a.notes p.0 p.2 c.first_values-first.result.values e.2 a.source p.1
+    (⊎_elim (λ w. inl (same ∙ sym c.member.ensures ∙ w.0.taken, w.1.left)) (λ w. inr (same ∙ sym c.member.ensures ∙ w.left)) c.if-member.branch)

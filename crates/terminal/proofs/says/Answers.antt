@@ -1,0 +1,13 @@
+-- `says` meets its contract, by the two cases of a state: the rounds agree exactly where their successors do. Assumes nothing.
+use mathlib.Core.Path.{sym}
+use Rattle.terminal.proofs.Laws.{says_took, says_else, says_waits}
+use Rattle.terminal.proofs.says.Goals as goal
+
+pub returns-then-at-round : goal.returns-then-at-round
+returns-then-at-round c = sym (says_took _ _ _ c.state-1.given.1 c.if-at-round.true)
+
+pub returns-in-Waiting : goal.returns-in-Waiting
+returns-in-Waiting c = sym (says_waits _ c.enum_told-1.given.1)
+
+pub returns-else-at-round : goal.returns-else-at-round
+returns-else-at-round c = sym (says_else _ _ _ c.state-1.given.1 c.if-at-round.false)

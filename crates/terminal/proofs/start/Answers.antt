@@ -1,0 +1,10 @@
+-- `start` meets its contract: twenty notes without a value show that nothing is heard. Assumes nothing.
+use mathlib.Core.Path.{ap, ◌∙◌}
+use lib.ListN.{replicate}
+use Rattle.terminal.specs.declared.State.TheVariants.{Waiting}
+use Rattle.terminal.specs.declared.Note.{Note}
+use Rattle.terminal.proofs.Shown.{shown_nothing}
+use Rattle.terminal.proofs.start.Goals as goal
+
+pub returns : goal.returns
+returns c = ap (λ (m : Note). record { state = Waiting; round = 0; notes = replicate 20 m }) c.no_note-nothing.ensures ∙ shown_nothing _
