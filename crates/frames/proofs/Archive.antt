@@ -264,22 +264,22 @@ module _ (kinds : ℕ) where
     unfolding told
     early_missing m =
         beside_same _ _ (refusal 17 0)
-        (unless_some (end_cause kept p frame) 0 _ (λ z. omega (arith, m.of-kept)) ∙ ap (λ (x : ℕ). refusal x 0) m.of-kept)
-        (unless_some (end_cause fresh p frame) 0 _ (λ z. omega (arith, m.of-fresh)) ∙ ap (λ (x : ℕ). refusal x 0) m.of-fresh)
+        (unless_some (end_cause kept p frame) 0 _ (λ z. omega (arith, m.of_kept)) ∙ ap (λ (x : ℕ). refusal x 0) m.of_kept)
+        (unless_some (end_cause fresh p frame) 0 _ (λ z. omega (arith, m.of_fresh)) ∙ ap (λ (x : ℕ). refusal x 0) m.of_fresh)
         (λ z. absurd (omega arith))
 
     early_refused : Deaf p frame → Here
     unfolding told
     early_refused d =
-        beside_deaf _ _ (unless_some (end_cause fresh p frame) 0 _ (λ z. omega (arith, d.of-fresh)) ∙ ap (λ (x : ℕ). refusal x 0) d.of-fresh)
+        beside_deaf _ _ (unless_some (end_cause fresh p frame) 0 _ (λ z. omega (arith, d.of_fresh)) ∙ ap (λ (x : ℕ). refusal x 0) d.of_fresh)
         (ended_deaf p said k line rest s d.ends d.somebody)
 
     module _ (o : Passed p frame) where
       kept_goes : told kept p said k (ended line ∷ rest) ≡ unless (cause_in p said frame) k archived
-      kept_goes = line_goes kept p said k line rest refl o.of-kept
+      kept_goes = line_goes kept p said k line rest refl o.of_kept
 
       fresh_goes : told fresh p said k (ended line ∷ rest) ≡ unless (cause_in p said frame) k renewed
-      fresh_goes = line_goes fresh p said k line rest refl o.of-fresh
+      fresh_goes = line_goes fresh p said k line rest refl o.of_fresh
 
       early_wrong : (cause_in p said frame ≡ 0 → ⊥) → Here
       early_wrong n =

@@ -50,12 +50,12 @@ put_as w last out read file text said e t a b = rw (← e, ← t) (a, b)
 pub whole_text : (read : FileRead) (text : List ℕ) (room : ℕ) → length text ≤ room
     → answer_on read text room ≡ record { number = read.number; line = read.line; len = length text }
 unfolding answer_on
-whole_text read text room h = ap (on_line read.line) (texts.written-fits read.number (length text) room h)
+whole_text read text room h = ap (on_line read.line) (texts.written_fits read.number (length text) room h)
 
 -- of a call that was lent a list of this room: the count lies within the list that came back, and so the part of that many bytes has as many
 module _ (w : Written) (number line len room : ℕ) (after : List ℕ) (e : w ≡ on_line line (written_of number len room)) (k : length after ≡ room) where
   pub lent_fits : w.len ≤ length after
-  lent_fits = omega (arith, ap (λ (x : Written). x.len) e, texts.written-within number len room)
+  lent_fits = omega (arith, ap (λ (x : Written). x.len) e, texts.written_within number len room)
 
   pub lent_part : w.len ≡ length (take w.len after)
   lent_part = omega (arith, lent_fits, length-take w.len after)

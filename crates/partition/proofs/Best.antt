@@ -31,7 +31,7 @@ module _ (p : Plan) (e : cause_of p ≡ 0) (one : ℕ) (q : one ≡ singleton 32
   pub whole : (f : ℕ) → p.bound.kind ≡ Most f → (hearers : ℕ) → hearers ≡ direct p.rows p.source → Part p f hearers 0 one (bit_or one hearers)
   whole f m hearers d = record {
     plan = e;
-    bound-is = m;
+    bound_is = m;
     hearers_are = d;
     inn_below = pow_pos p.n;
     out_below = one_below p (sound p e) one q;

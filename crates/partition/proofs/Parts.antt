@@ -41,7 +41,7 @@ module _ {p : Plan} {f hearers inn out known : ℕ} (part : Part p f hearers inn
       → Part p f hearers inn' out' known'
   narrows inn' out' known' i o a b c keeps = record {
     plan = part.plan;
-    bound-is = part.bound_is;
+    bound_is = part.bound_is;
     hearers_are = part.hearers_are;
     inn_below = a;
     out_below = b;

@@ -237,14 +237,14 @@ module _ (p : Plan) (checked : plan.causeOf p ≡ 0) (faulty : ℕ) (fault : is_
       unfolding hears
       next_spoken j z =
           notes_new j
-          ∙ laws.step-agree p.n p.source p.bound b (heard_by p b) said heard_old (new r b) (old r b) lengths j ((ih b k g).spoken j z) (word_same j z)
+          ∙ laws.step_agree p.n p.source p.bound b (heard_by p b) said heard_old (new r b) (old r b) lengths j ((ih b k g).spoken j z) (word_same j z)
           ∙ ap (λ (x : View). spoken_by x.notes j) (sym next_old)
 
       plain_low : (j : ℕ) → noted_edition plain j ≤ 1
       plain_low j =
           ⊎_elim (λ e. omega (arith, e, (ih b k g).low j))
           (λ e. omega (arith, e.2, first_edition_le (shared_word p faulty value default script r b j) (shared_small p faulty value default script layouts.words_small r b j)))
-          (laws.edition-why p.n p.source p.bound b (heard_by p b) said (new r b) j)
+          (laws.edition_why p.n p.source p.bound b (heard_by p b) said (new r b) j)
 
       -- ---- the state
 
@@ -334,8 +334,8 @@ module _ (p : Plan) (checked : plan.causeOf p ≡ 0) (faulty : ℕ) (fault : is_
         round =
             ap (λ (x : View). x.round) next_new
             ∙ shared_round p.n p.source p.bound b (heard_by p b) default (shared_word p faulty value default script r b) (new r b)
-            ∙ laws.step-round p.n p.source p.bound b (heard_by p b) said (new r b) ∙ ap (λ (m : ℕ). m + 1) (ih b k g).round
-            ∙ sym (ap (λ (x : View). x.round) next_old ∙ laws.step-round p.n p.source p.bound b (heard_by p b) heard_old (old r b));
+            ∙ laws.step_round p.n p.source p.bound b (heard_by p b) said (new r b) ∙ ap (λ (m : ℕ). m + 1) (ih b k g).round
+            ∙ sym (ap (λ (x : View). x.round) next_old ∙ laws.step_round p.n p.source p.bound b (heard_by p b) heard_old (old r b));
         regular =
             subst Regular (sym next_new)
             (shared_regular p.n p.source p.bound b (heard_by p b) default (shared_word p faulty value default script r b) (new r b) (ih b k g).regular);

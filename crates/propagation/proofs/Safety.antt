@@ -153,10 +153,10 @@ module _ (p : Plan) (sound : Sound p) (faulty : ℕ) (office : Office) (rising :
         let l : t ≤ r = old.0 in (omega arith, old.1, old.2))
         (λ n.
         let rd : (site p faulty office script r b).round ≡ r = (ih b k g).round_is in
-        let tt1 : (site p faulty office script r b).round + 1 ≡ t = same_time (sym n.1.state-is ∙ e) in
-        let i = subst (Issued office r) (same_held (sym n.1.state-is ∙ e)) (reason b k g n.0 (takes_why p b _ _ n.0 n.1)) in (
+        let tt1 : (site p faulty office script r b).round + 1 ≡ t = same_time (sym n.1.state_is ∙ e) in
+        let i = subst (Issued office r) (same_held (sym n.1.state_is ∙ e)) (reason b k g n.0 (takes_why p b _ _ n.0 n.1)) in (
           omega arith,
-          ap silent (sym (same_held (sym n.1.state-is ∙ e))) ∙ n.1.said-something,
+          ap silent (sym (same_held (sym n.1.state_is ∙ e))) ∙ n.1.said_something,
           record { at_source = issued_mono office r t y (omega arith) i; elsewhere = λ _. (r, omega arith, i) },
         ))
         (step_state p b (word p faulty office script r b) (site p faulty office script r b) (ih b k g).regular)
@@ -226,7 +226,7 @@ module _ (p : Plan) (sound : Sound p) (faulty : ℕ) (office : Office) (rising :
       (λ z.
       let now = ap (λ (x : View). x.state) (at_other p faulty office script r b k g z) in
       let rd : (site p faulty office script r b).round + 1 ≡ suc r = omega (arith, (safe r b k g).round_is) in
-      ⊎_elim (λ same. inl (now ∙ same)) (λ t. inr (t.0, now ∙ t.1.state-is ∙ ap (λ (m : ℕ). Taken m t.0) rd, t.1.above))
+      ⊎_elim (λ same. inl (now ∙ same)) (λ t. inr (t.0, now ∙ t.1.state_is ∙ ap (λ (m : ℕ). Taken m t.0) rd, t.1.above))
       (step_state p b (word p faulty office script r b) (site p faulty office script r b) (safe r b k g).regular))
       (equal_or_not b p.source)
 

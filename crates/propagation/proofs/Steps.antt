@@ -28,10 +28,10 @@ module _ (p : Plan) (b : ℕ) (said : ℕ → ℕ) (r : View) where
   after = step_in p b said r
 
   pub step_round : after.round ≡ r.round + 1
-  step_round = laws.step-round p.n p.source p.bound b (heard_by p b) said r
+  step_round = laws.step_round p.n p.source p.bound b (heard_by p b) said r
 
   pub step_regular : Regular r → Regular after
-  step_regular = laws.step-regular p.n p.source p.bound b (heard_by p b) said r
+  step_regular = laws.step_regular p.n p.source p.bound b (heard_by p b) said r
 
   pub source_stays : b ≡ p.source → after.state ≡ r.state
   source_stays = laws.source_stays p.n p.source p.bound b (heard_by p b) said r
@@ -45,7 +45,7 @@ module _ (p : Plan) (b : ℕ) (said : ℕ → ℕ) (r : View) where
   takes_why x t = t.reason
 
   pub step_state : Regular r → (after.state ≡ r.state) ⊎ ((x : ℕ) × Takes x)
-  step_state = laws.step-state p.n p.source p.bound b (heard_by p b) said r
+  step_state = laws.step_state p.n p.source p.bound b (heard_by p b) said r
 
   pub holds_source : Regular r → (b ≡ p.source → ⊥) → p.source < p.n → hears p b p.source ≡ true → (x : ℕ) → holds after x p.source ≡ true
       → edition_of x ≤ held_by after.state
@@ -55,24 +55,24 @@ module _ (p : Plan) (b : ℕ) (said : ℕ → ℕ) (r : View) where
   pub holds_votes : Regular r → (b ≡ p.source → ⊥) → (x : ℕ) → enough_in p (λ j. hears p b j and holds after x j) ≡ true
       → edition_of x ≤ held_by after.state
   unfolding hears
-  holds_votes = laws.holds-votes p.n p.source p.bound b (heard_by p b) said r
+  holds_votes = laws.holds_votes p.n p.source p.bound b (heard_by p b) said r
 
   pub note_said : (x j : ℕ) → holds after x j ≡ true → (holds r x j ≡ true) ⊎ ((hears p b j ≡ true) × (said j ≡ x))
   unfolding hears
-  note_said = laws.note-said p.n p.source p.bound b (heard_by p b) said r
+  note_said = laws.note_said p.n p.source p.bound b (heard_by p b) said r
 
   pub note_stays : (x j : ℕ) → (silent (said j) ≡ false → edition_of (said j) ≤ edition_of x) → holds r x j ≡ true → holds after x j ≡ true
-  note_stays = laws.note-stays p.n p.source p.bound b (heard_by p b) said r
+  note_stays = laws.note_stays p.n p.source p.bound b (heard_by p b) said r
 
   pub spoken_noted : (j : ℕ) → j < p.n → j < length r.notes → hears p b j ≡ true → silent (said j) ≡ false → noted_edition r j ≤ edition_of (said j)
       → holds after (said j) j ≡ true
   unfolding hears
-  spoken_noted = laws.spoken-noted p.n p.source p.bound b (heard_by p b) said r
+  spoken_noted = laws.spoken_noted p.n p.source p.bound b (heard_by p b) said r
 
   pub edition_why : (j : ℕ)
       → (noted_edition after j ≡ noted_edition r j) ⊎ ((hears p b j ≡ true) × (silent (said j) ≡ false) × (noted_edition after j ≡ edition_of (said j)))
   unfolding hears
-  edition_why = laws.edition-why p.n p.source p.bound b (heard_by p b) said r
+  edition_why = laws.edition_why p.n p.source p.bound b (heard_by p b) said r
 
 -- ---- what the office issues in a round: it is written into the source's record, and only its state changes
 
@@ -94,13 +94,13 @@ module _ (p : Plan) (office : Office) (round b : ℕ) (r : View) where
   issued_by Q i q = pick_case Q (eqb b p.source and not (silent (office.later round))) (issue (office.later round) r) r (λ t. i) (λ t. q)
 
   pub issued_round : (issued p office round b r).round ≡ r.round
-  issued_round = issued_by (λ (x : View). x.round ≡ r.round) (laws.issue-round (office.later round) r) refl
+  issued_round = issued_by (λ (x : View). x.round ≡ r.round) (laws.issue_round (office.later round) r) refl
 
   pub issued_regular : Regular r → Regular (issued p office round b r)
-  issued_regular g = issued_by Regular (laws.issue-regular (office.later round) r g) g
+  issued_regular g = issued_by Regular (laws.issue_regular (office.later round) r g) g
 
   pub issued_holds : (y j : ℕ) → holds (issued p office round b r) y j ≡ holds r y j
-  issued_holds y j = issued_by (λ (x : View). holds x y j ≡ holds r y j) (laws.issue-holds (office.later round) r y j) refl
+  issued_holds y j = issued_by (λ (x : View). holds x y j ≡ holds r y j) (laws.issue_holds (office.later round) r y j) refl
 
   pub issued_edition : (j : ℕ) → noted_edition (issued p office round b r) j ≡ noted_edition r j
-  issued_edition j = issued_by (λ (x : View). noted_edition x j ≡ noted_edition r j) (laws.issue-edition (office.later round) r j) refl
+  issued_edition j = issued_by (λ (x : View). noted_edition x j ≡ noted_edition r j) (laws.issue_edition (office.later round) r j) refl

@@ -112,9 +112,9 @@ module _ (file : List ℕ) (h : (run_reading file).number ≡ 0) (shared : is_sh
   layouts =
       let a = run_accepted file h in
       record {
-        some-value = λ z. omega (arith, (start_parts (layout_of p.notice) p.rounds a.starts_sound).0, z);
-        some-default = (run_shared_playable file h shared).some_default;
-        value-small = layout_small p.notice;
+        some_value = λ z. omega (arith, (start_parts (layout_of p.notice) p.rounds a.starts_sound).0, z);
+        some_default = (run_shared_playable file h shared).some_default;
+        value_small = layout_small p.notice;
         default_small = a.default_small;
         words_small = read_small;
       }

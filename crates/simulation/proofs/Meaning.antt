@@ -110,16 +110,16 @@ module _ (p : Plan) (checked : plan.causeOf p ≡ 0) (faulty first : ℕ) (later
   unfolding record_of record_after issued_in issued office_of
   made_record ys zero b s a h k =
       pick_yes _ _ _ (eq-eqb s.turn.round 0 a.round_is)
-      ∙ ap shown ((λ i. start_record (a.plan-is i) (a.first-is i) (a.at-is i)) ∙ sym (at_start p faulty office script b k))
+      ∙ ap shown ((λ i. start_record (a.plan_is i) (a.first_is i) (a.at_is i)) ∙ sym (at_start p faulty office script b k))
   made_record ys (suc q) b s a h k =
       pick_no _ _ _ (ne_eqb s.turn.round 0 (λ z. let y = a.round_is in omega arith))
       ∙ ⊎_elim
-      (λ m. pick_yes _ _ _ (ap₂ mem a.at-is a.faulty-is ∙ m) ∙ ap shown (sym (at_faulty p faulty office script q b k m)))
-      (λ g. pick_no _ _ _ (ap₂ mem a.at-is a.faulty-is ∙ g) ∙ written g ∙ ap shown (sym (at_next p faulty office script q b k g)))
+      (λ m. pick_yes _ _ _ (ap₂ mem a.at_is a.faulty_is ∙ m) ∙ ap shown (sym (at_faulty p faulty office script q b k m)))
+      (λ g. pick_no _ _ _ (ap₂ mem a.at_is a.faulty_is ∙ g) ∙ written g ∙ ap shown (sym (at_next p faulty office script q b k g)))
       (decide (mem b faulty))
     where
       before : get_or s.records s.turn.at nothing_heard ≡ here q b
-      before = ap (λ (x : ℕ). get_or s.records x nothing_heard) a.at-is ∙ a.waiting q refl b (omega arith) k
+      before = ap (λ (x : ℕ). get_or s.records x nothing_heard) a.at_is ∙ a.waiting q refl b (omega arith) k
 
       heard : List ℕ
       heard = take p.n (table 20 (heard_in s.turn words))
@@ -132,18 +132,18 @@ module _ (p : Plan) (checked : plan.causeOf p ≡ 0) (faulty first : ℕ) (later
           let safe-here = safely q b k g in
           let rd : (held q b).round ≡ q = safe-here.round_is in
           (λ i.
-          record_after (a.plan-is i).n (a.plan-is i).source (a.plan-is i).bound (a.at-is i) (heard_by (a.plan-is i) (a.at-is i)) (before i)
-          (take (a.plan-is i).n (table 20 (heard_in s.turn words))))
+          record_after (a.plan_is i).n (a.plan_is i).source (a.plan_is i).bound (a.at_is i) (heard_by (a.plan_is i) (a.at_is i)) (before i)
+          (take (a.plan_is i).n (table 20 (heard_in s.turn words))))
           ∙ shown_step p.n p.source p.bound b (heard_by p b) (held q b) safe-here.regular heard (omega arith)
           (cause_none q b (length heard) (omega arith) k g
           (length-take-le p.n (table 20 (heard_in s.turn words)) (let v = (sound p checked).twenty in omega (arith, table_length 20 (heard_in s.turn words)))))
           ∙ ap (λ (w : ℕ → ℕ). shown (step_in p b w (held q b)))
-          (fun_ext (heard_is s.turn q b a.plan-is a.faulty-is a.round_is a.at-is k (a.spoken-is q refl)))
+          (fun_ext (heard_is s.turn q b a.plan_is a.faulty_is a.round_is a.at_is k (a.spoken_is q refl)))
 
       -- the notice of this round
       notice : get_or s.turn.later (s.turn.round - 1) 0 ≡ office.later (suc q)
       notice =
-          (λ i. get_or (a.later-is i) (a.round_is i - 1) 0)
+          (λ i. get_or (a.later_is i) (a.round_is i - 1) 0)
           ∙ table_at 40 (λ (i : ℕ). get_or later i 0) 0 (suc q - 1) (omega arith)
 
       after : View
@@ -169,7 +169,7 @@ module _ (p : Plan) (checked : plan.causeOf p ≡ 0) (faulty first : ℕ) (later
           ≡ shown (issued p office (suc q) b after)
       written g =
           (λ i.
-          pick (eqb (a.at-is i) (a.plan-is i).source and not (silent (notice i))) (record_issued (stepped g i) (notice i)) (stepped g i))
+          pick (eqb (a.at_is i) (a.plan_is i).source and not (silent (notice i))) (record_issued (stepped g i) (notice i)) (stepped g i))
           ∙ both g
 
   -- ---- the traversal, with these records

@@ -159,7 +159,7 @@ module _ (p : Plan) (faulty first : ℕ) (later : List ℕ) (rounds : ℕ) (word
 
 module _ (p : Plan) (faulty first : ℕ) (later : List ℕ) (rounds : ℕ) (words : List ℕ) (ys : List Record) where
   lent_room : run_cause p faulty first later rounds (length words) (length ys) ≡ 0 → p.n ≤ length ys
-  lent_room e = let q = (accepted_run p faulty first later rounds (length words) (length ys) e).places-fit in omega arith
+  lent_room e = let q = (accepted_run p faulty first later rounds (length words) (length ys) e).places_fit in omega arith
 
   pub lent_ready : (t : Turn) (n : ℕ) → t ≡ first_turn p faulty first later 0 → n ≡ turns_of p faulty first later rounds (length words) (length ys) → CanPlay (record_of words) t ys n
   lent_ready = ready p faulty first later rounds words (length ys) ys lent_room
@@ -172,7 +172,7 @@ module _ (p : Plan) (faulty first : ℕ) (later : List ℕ) (rounds : ℕ) (word
       left p faulty first later rounds words (length ys) ys lent_room t n e f (map shown (sites p faulty (office_of first later) (script_of p.n words) rounds))
       (λ h.
       let a = accepted_run p faulty first later rounds (length words) (length ys) h in
-      walk_is p a.plan_sound faulty first later words (list_rises first later a.first_said a.rises) a.fault ys a.places-fit rounds a.forty)
+      walk_is p a.plan_sound faulty first later words (list_rises first later a.first_said a.rises) a.fault ys a.places_fit rounds a.forty)
 
   pub lent_promised : run_cause p faulty first later rounds (length words) (length ys) ≡ 0 → (records : List Record)
       → records ≡ records_after p faulty first later rounds words ys → Demand3Holds p faulty first later rounds words records

@@ -95,8 +95,8 @@ module _ (p : Plan) (checked : plan.causeOf p ≡ 0) (faulty value default : ℕ
   unfolding shared_record_of
   made_record ys r b s a h k =
       ⊎_elim
-      (λ m. pick_yes _ _ _ (ap₂ mem a.at-is a.faulty-is ∙ m) ∙ ap shown (sym (shared_faulty p faulty value default script r b k m)))
-      (λ g. pick_no _ _ _ (ap₂ mem a.at-is a.faulty-is ∙ g) ∙ by_round r refl g)
+      (λ m. pick_yes _ _ _ (ap₂ mem a.at_is a.faulty_is ∙ m) ∙ ap shown (sym (shared_faulty p faulty value default script r b k m)))
+      (λ g. pick_no _ _ _ (ap₂ mem a.at_is a.faulty_is ∙ g) ∙ by_round r refl g)
       (decide (mem b faulty))
     where
       by_round : (m : ℕ) → r ≡ m → mem b faulty ≡ false
@@ -107,23 +107,23 @@ module _ (p : Plan) (checked : plan.causeOf p ≡ 0) (faulty value default : ℕ
       by_round zero e g =
           pick_yes _ _ _ (eq-eqb s.turn.round 0 (a.round_is ∙ e))
           ∙ ap shown
-          ((λ i. start_record (a.plan-is i) (a.first-is i) (a.at-is i)) ∙ sym (shared_start_lem p faulty value default script b k g) ∙ ap (λ (x : ℕ). held x b) (sym e))
+          ((λ i. start_record (a.plan_is i) (a.first_is i) (a.at_is i)) ∙ sym (shared_start_lem p faulty value default script b k g) ∙ ap (λ (x : ℕ). held x b) (sym e))
       by_round (suc q) e g =
           let rd : (held q b).round ≡ q = round_is q b k g in
           let before : get_or s.records s.turn.at nothing_heard ≡ here q b =
-          ap (λ (x : ℕ). get_or s.records x nothing_heard) a.at-is ∙ a.waiting q e b (omega arith) k in
+          ap (λ (x : ℕ). get_or s.records x nothing_heard) a.at_is ∙ a.waiting q e b (omega arith) k in
           let heard = take p.n (table 20 (shared_in s.turn words)) in
           let spoken : (j : ℕ) → j < p.n → get_or s.turn.spoken j 0 ≡ says_in (suc q) (here q j).state =
-          λ j l. a.spoken-is q e j l ∙ ap (λ (x : ℕ). says_in x (here q j).state) e in
+          λ j l. a.spoken_is q e j l ∙ ap (λ (x : ℕ). says_in x (here q j).state) e in
           pick_no _ _ _ (ne_eqb s.turn.round 0 (λ z. let y = a.round_is in omega arith))
           ∙ (λ i.
-          shared_record_after (a.plan-is i).n (a.plan-is i).source (a.plan-is i).bound (a.at-is i) (heard_by (a.plan-is i) (a.at-is i)) (a.default-is i) (before i)
-          (take (a.plan-is i).n (table 20 (shared_in s.turn words))))
+          shared_record_after (a.plan_is i).n (a.plan_is i).source (a.plan_is i).bound (a.at_is i) (heard_by (a.plan_is i) (a.at_is i)) (a.default_is i) (before i)
+          (take (a.plan_is i).n (table 20 (shared_in s.turn words))))
           ∙ shown_shared p.n p.source p.bound b (heard_by p b) default (held q b) (shared_regular_at p checked faulty fault value default script layouts q b k g) heard (omega arith)
           (shared_cause_none q b (length heard) (omega arith) k g
           (length-take-le p.n (table 20 (shared_in s.turn words)) (let v = (sound p checked).twenty in omega (arith, table_length 20 (shared_in s.turn words)))))
           ∙ ap (λ (w : ℕ → ℕ). shown (shared_step p.n p.source p.bound b (heard_by p b) default w (held q b)))
-          (fun_ext (heard_is s.turn q b a.plan-is a.faulty-is (a.round_is ∙ e) a.at-is k spoken))
+          (fun_ext (heard_is s.turn q b a.plan_is a.faulty_is (a.round_is ∙ e) a.at_is k spoken))
           ∙ ap shown (sym (shared_next p faulty value default script q b k g) ∙ ap (λ (x : ℕ). held x b) (sym e))
 
   -- ---- the traversal, with these records

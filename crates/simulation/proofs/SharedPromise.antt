@@ -43,9 +43,9 @@ module _ (p : Plan) (faulty value default rounds : ℕ) (words : List ℕ) (valu
   module _ (places : ℕ) (a : SharedAccepted p faulty value default rounds (length words) places) where
     layouts : Layouts value default script
     layouts = record {
-      some-value = a.some_value;
-      some-default = a.some_default;
-      value-small = value-small;
+      some_value = a.some_value;
+      some_default = a.some_default;
+      value_small = value-small;
       default_small = default-small;
       words_small = script_small p.n words;
     }
@@ -148,7 +148,7 @@ module _ (p : Plan) (faulty value default rounds : ℕ) (words : List ℕ) (valu
 
   module _ (ys : List Record) where
     lent_room : shared_run_cause p faulty value default rounds (length words) (length ys) ≡ 0 → p.n ≤ length ys
-    lent_room e = let q = (shared_accepted_run p faulty value default rounds (length words) (length ys) e).places-fit in omega arith
+    lent_room e = let q = (shared_accepted_run p faulty value default rounds (length words) (length ys) e).places_fit in omega arith
 
     pub shared_lent_ready : (t : Turn) (n : ℕ) → t ≡ first_turn p faulty (notice_of 1 value) [] default → n ≡ shared_turns_of p faulty value default rounds (length words) (length ys)
         → CanPlay (shared_record_of words) t ys n
@@ -162,7 +162,7 @@ module _ (p : Plan) (faulty value default rounds : ℕ) (words : List ℕ) (valu
         left (length ys) ys lent_room t n e f (map shown (shared_sites p faulty value default script rounds))
         (λ h.
         let a = shared_accepted_run p faulty value default rounds (length words) (length ys) h in
-        shared_walk_is p a.plan_sound faulty value default words a.fault (layouts (length ys) a) ys a.places-fit rounds a.forty)
+        shared_walk_is p a.plan_sound faulty value default words a.fault (layouts (length ys) a) ys a.places_fit rounds a.forty)
 
     pub shared_lent_promised : shared_run_cause p faulty value default rounds (length words) (length ys) ≡ 0 → (records : List Record)
         → records ≡ shared_records_after p faulty value default rounds words ys → AgreementHolds p faulty value default rounds words records

@@ -72,7 +72,7 @@ module _ (p : Plan) (two : 2 ≤ p.n) (twenty : p.n ≤ 20) (faulty first : ℕ)
   next_records : (ys : List Record) (r b : ℕ) (s : Played) → At p faulty first later default here ys r b s → r ≤ 40 → b < p.n → p.n ≤ length ys
       → (play_one make s).records ≡ set s.records b (here r b)
   unfolding play_one made_of
-  next_records ys r b s a h k l = λ i. set s.records (a.at-is i) (makes ys r b s a h k i)
+  next_records ys r b s a h k l = λ i. set s.records (a.at_is i) (makes ys r b s a h k i)
 
   next_turn_is : (ys : List Record) (r b : ℕ) (s : Played) → At p faulty first later default here ys r b s → r ≤ 40 → b < p.n
       → (play_one make s).turn ≡ next_turn s.turn (says_in (r + 1) (here r b).state)
@@ -84,14 +84,14 @@ module _ (p : Plan) (two : 2 ≤ p.n) (twenty : p.n ≤ 20) (faulty first : ℕ)
   set_done ys r b s a k l =
       below_more (λ (i : ℕ). get_or (set s.records b (here r b)) i nothing_heard ≡ here r i) b
       (λ i h. get_or-set_other s.records b i (here r b) nothing_heard (λ q. omega arith) ∙ a.done i h)
-      (get_or-set_same s.records b (here r b) nothing_heard (let e = a.records-room in omega arith))
+      (get_or-set_same s.records b (here r b) nothing_heard (let e = a.records_room in omega arith))
 
   set_next : (ys : List Record) (r b : ℕ) (s : Played) → At p faulty first later default here ys r b s → b < p.n
       → (j : ℕ) → j < b + 1 → get_or (set s.turn.next b (says_in (r + 1) (here r b).state)) j 0 ≡ says_in (r + 1) (here r j).state
   set_next ys r b s a k =
       below_more (λ (j : ℕ). get_or (set s.turn.next b (says_in (r + 1) (here r b).state)) j 0 ≡ says_in (r + 1) (here r j).state) b
-      (λ j h. get_or-set_other s.turn.next b j (says_in (r + 1) (here r b).state) 0 (λ q. omega arith) ∙ a.next-is j h)
-      (get_or-set_same s.turn.next b (says_in (r + 1) (here r b).state) 0 (let e = a.next-room in omega arith))
+      (λ j h. get_or-set_other s.turn.next b j (says_in (r + 1) (here r b).state) 0 (λ q. omega arith) ∙ a.next_is j h)
+      (get_or-set_same s.turn.next b (says_in (r + 1) (here r b).state) 0 (let e = a.next_room in omega arith))
 
   -- a turn within a round
   turn_inside : (ys : List Record) (r b : ℕ) (s : Played) → At p faulty first later default here ys r b s → r ≤ 40 → b + 1 < p.n → p.n ≤ length ys → At p faulty first later default here ys r (b + 1) (play_one make s)
@@ -112,20 +112,20 @@ module _ (p : Plan) (two : 2 ≤ p.n) (twenty : p.n ≤ 20) (faulty first : ℕ)
         default = s.turn.default;
       } =
       next_turn_is ys r b s a h bk
-      ∙ pick_yes _ _ _ ((λ i. ltb (a.at-is i + 1) (a.plan-is i).n) ∙ lt-ltb (b + 1) p.n k) in
-      let nx : (play_one make s).turn.next ≡ set s.turn.next b w = ap (λ (t : Turn). t.next) tn ∙ ap (λ (x : ℕ). set s.turn.next x w) a.at-is in
+      ∙ pick_yes _ _ _ ((λ i. ltb (a.at_is i + 1) (a.plan_is i).n) ∙ lt-ltb (b + 1) p.n k) in
+      let nx : (play_one make s).turn.next ≡ set s.turn.next b w = ap (λ (t : Turn). t.next) tn ∙ ap (λ (x : ℕ). set s.turn.next x w) a.at_is in
       record {
-        plan_is = ap (λ (t : Turn). t.plan) tn ∙ a.plan-is;
-        faulty_is = ap (λ (t : Turn). t.faulty) tn ∙ a.faulty-is;
-        first_is = ap (λ (t : Turn). t.first) tn ∙ a.first-is;
-        later_is = ap (λ (t : Turn). t.later) tn ∙ a.later-is;
-        default_is = ap (λ (t : Turn). t.default) tn ∙ a.default-is;
+        plan_is = ap (λ (t : Turn). t.plan) tn ∙ a.plan_is;
+        faulty_is = ap (λ (t : Turn). t.faulty) tn ∙ a.faulty_is;
+        first_is = ap (λ (t : Turn). t.first) tn ∙ a.first_is;
+        later_is = ap (λ (t : Turn). t.later) tn ∙ a.later_is;
+        default_is = ap (λ (t : Turn). t.default) tn ∙ a.default_is;
         round_is = ap (λ (t : Turn). t.round) tn ∙ a.round_is;
-        at_is = ap (λ (t : Turn). t.at) tn ∙ ap (λ (x : ℕ). x + 1) a.at-is;
-        spoken_is = λ q e j lj. ap (λ (t : Turn). get_or t.spoken j 0) tn ∙ a.spoken-is q e j lj;
-        next_room = ap length nx ∙ length-set s.turn.next b w ∙ a.next-room;
+        at_is = ap (λ (t : Turn). t.at) tn ∙ ap (λ (x : ℕ). x + 1) a.at_is;
+        spoken_is = λ q e j lj. ap (λ (t : Turn). get_or t.spoken j 0) tn ∙ a.spoken_is q e j lj;
+        next_room = ap length nx ∙ length-set s.turn.next b w ∙ a.next_room;
         next_is = λ j lj. ap (λ (x : List ℕ). get_or x j 0) nx ∙ set_next ys r b s a bk j lj;
-        records_room = ap length rs ∙ length-set s.records b (here r b) ∙ a.records-room;
+        records_room = ap length rs ∙ length-set s.records b (here r b) ∙ a.records_room;
         done = λ i li. ap (λ (x : List Record). get_or x i nothing_heard) rs ∙ set_done ys r b s a bk l i li;
         waiting = λ q e i li ln.
             ap (λ (x : List Record). get_or x i nothing_heard) rs ∙ get_or-set_other s.records b i (here r b) nothing_heard (λ y. omega arith) ∙ a.waiting q e i (omega arith) ln;
@@ -151,14 +151,14 @@ module _ (p : Plan) (two : 2 ≤ p.n) (twenty : p.n ≤ 20) (faulty first : ℕ)
         default = s.turn.default;
       } =
       next_turn_is ys r b s a h bk
-      ∙ pick_no _ _ _ ((λ i. ltb (a.at-is i + 1) (a.plan-is i).n) ∙ le-ltb (b + 1) p.n (omega arith)) in
-      let sp : (play_one make s).turn.spoken ≡ set s.turn.next b w = ap (λ (t : Turn). t.spoken) tn ∙ ap (λ (x : ℕ). set s.turn.next x w) a.at-is in
+      ∙ pick_no _ _ _ ((λ i. ltb (a.at_is i + 1) (a.plan_is i).n) ∙ le-ltb (b + 1) p.n (omega arith)) in
+      let sp : (play_one make s).turn.spoken ≡ set s.turn.next b w = ap (λ (t : Turn). t.spoken) tn ∙ ap (λ (x : ℕ). set s.turn.next x w) a.at_is in
       record {
-        plan_is = ap (λ (t : Turn). t.plan) tn ∙ a.plan-is;
-        faulty_is = ap (λ (t : Turn). t.faulty) tn ∙ a.faulty-is;
-        first_is = ap (λ (t : Turn). t.first) tn ∙ a.first-is;
-        later_is = ap (λ (t : Turn). t.later) tn ∙ a.later-is;
-        default_is = ap (λ (t : Turn). t.default) tn ∙ a.default-is;
+        plan_is = ap (λ (t : Turn). t.plan) tn ∙ a.plan_is;
+        faulty_is = ap (λ (t : Turn). t.faulty) tn ∙ a.faulty_is;
+        first_is = ap (λ (t : Turn). t.first) tn ∙ a.first_is;
+        later_is = ap (λ (t : Turn). t.later) tn ∙ a.later_is;
+        default_is = ap (λ (t : Turn). t.default) tn ∙ a.default_is;
         round_is = ap (λ (t : Turn). t.round) tn ∙ ap (λ (x : ℕ). x + 1) a.round_is;
         at_is = ap (λ (t : Turn). t.at) tn;
         spoken_is = λ q e j lj.
@@ -166,7 +166,7 @@ module _ (p : Plan) (two : 2 ≤ p.n) (twenty : p.n ≤ 20) (faulty first : ℕ)
             ap (λ (x : List ℕ). get_or x j 0) sp ∙ set_next ys r b s a bk j (omega arith) ∙ ap (λ (x : ℕ). says_in (r + 1) (here x j).state) qr;
         next_room = ap (λ (t : Turn). length t.next) tn;
         next_is = λ j lj. absurd (omega arith);
-        records_room = ap length rs ∙ length-set s.records b (here r b) ∙ a.records-room;
+        records_room = ap length rs ∙ length-set s.records b (here r b) ∙ a.records_room;
         done = λ i li. absurd (omega arith);
         waiting = λ q e i li ln.
             let qr : r ≡ q = omega arith in
@@ -252,8 +252,8 @@ module _ (p : Plan) (two : 2 ≤ p.n) (twenty : p.n ≤ 20) (faulty first : ℕ)
       let a = w.2 in
       let q = w.0 in
       let b = w.1 in
-      let an : t.plan.n ≡ p.n = ap (λ (x : Turn). x.plan.n) e ∙ ap (λ (x : Plan). x.n) a.plan-is in
-      let aa : t.at ≡ k % p.n = ap (λ (x : Turn). x.at) e ∙ a.at-is in
+      let an : t.plan.n ≡ p.n = ap (λ (x : Turn). x.plan.n) e ∙ ap (λ (x : Plan). x.n) a.plan_is in
+      let aa : t.at ≡ k % p.n = ap (λ (x : Turn). x.at) e ∙ a.at_is in
       let ar : t.round ≡ k / p.n = ap (λ (x : Turn). x.round) e ∙ a.round_is in
       record { twenty = omega arith; within = omega arith; early = omega arith; place = omega arith }
 
@@ -266,8 +266,8 @@ module _ (p : Plan) (two : 2 ≤ p.n) (twenty : p.n ≤ 20) (faulty first : ℕ)
       let le : p.n ≤ length ys = omega arith in
       let a = rounds_on ys le (suc r) (omega arith) in
       ext_get_or nothing_heard (played_after make (record { turn = first_turn p faulty first later default; records = ys }) (suc r * p.n)).records l
-      (a.records-room ∙ e ∙ sym q)
-      (λ b k. let kb : b < p.n = let m = a.records-room in omega arith in walk_at ys le r h b kb ∙ sym (same b kb))
+      (a.records_room ∙ e ∙ sym q)
+      (λ b k. let kb : b < p.n = let m = a.records_room in omega arith in walk_at ys le r h b kb ∙ sym (same b kb))
 
   pub walk_twenty : (r : ℕ) → r ≤ 40 → ((b : ℕ) → p.n ≤ b → here r b ≡ nothing_heard)
       → (played_after make (record { turn = first_turn p faulty first later default; records = replicate 20 nothing_heard }) (suc r * p.n)).records ≡ table 20 (here r)
@@ -275,7 +275,7 @@ module _ (p : Plan) (two : 2 ≤ p.n) (twenty : p.n ≤ 20) (faulty first : ℕ)
       let l : p.n ≤ length (replicate 20 nothing_heard) = omega (arith, length-replicate 20 nothing_heard) in
       let a = rounds_on (replicate 20 nothing_heard) l (suc r) (omega arith) in
       let room : length (played_after make (record { turn = first_turn p faulty first later default; records = replicate 20 nothing_heard }) (suc r * p.n)).records ≡ 20 =
-      a.records-room ∙ length-replicate 20 nothing_heard in
+      a.records_room ∙ length-replicate 20 nothing_heard in
       ext_get_or nothing_heard (played_after make (record { turn = first_turn p faulty first later default; records = replicate 20 nothing_heard }) (suc r * p.n)).records
       (table 20 (here r)) (room ∙ sym (table_length 20 (here r)))
       (λ b k.

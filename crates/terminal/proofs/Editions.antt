@@ -211,7 +211,7 @@ module _ (n source : ℕ) (bound : Bound) (heard : ℕ) (notes : List Note) (hel
     pub seen_past : mem j rest ≡ false → Seen (j + 1) best rest
     seen_past h = record {
       highest_is =
-          so.highest-is
+          so.highest_is
           ∙ ⊎_elim (λ z. omega (arith, highest_turn j q, z)) (λ w. omega (arith, highest_turn j q, highest_ge j q w.0 w.1, w.2)) (so.gone j k h);
       layout_is = so.layout_is;
       inside = so.inside;
@@ -261,18 +261,18 @@ module _ (n source : ℕ) (bound : Bound) (heard : ℕ) (notes : List Note) (hel
         turned : max (highest j q) (q j) ≡ next.edition
         turned =
             ⊎_elim
-            (λ z. omega (arith, q_none z, so.highest-is, stays (and_no_r _ _ (not_yes (eq-eqb layout 0 (l ∙ z))))))
+            (λ z. omega (arith, q_none z, so.highest_is, stays (and_no_r _ _ (not_yes (eq-eqb layout 0 (l ∙ z))))))
             (λ z.
             ⊎_elim
             (λ b.
             omega (
               arith,
               q_some z,
-              so.highest-is,
+              so.highest_is,
               b,
               ap (λ (x : Best). x.edition) (e ∙ pick_yes _ _ _ (and_i _ _ (lt-ltb best.edition (note_of notes j).edition b) (not_i (ne_eqb layout 0 (λ y. z (sym l ∙ y)))))),
             ))
-            (λ b. omega (arith, q_some z, so.highest-is, b, stays (and_no_l _ _ (le-ltb best.edition (note_of notes j).edition b))))
+            (λ b. omega (arith, q_some z, so.highest_is, b, stays (and_no_l _ _ (le-ltb best.edition (note_of notes j).edition b))))
             (below_or_not best.edition (note_of notes j).edition))
             (equal_or_not (layout_at (note_of notes j).edition) 0)
 

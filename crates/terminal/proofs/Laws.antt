@@ -258,7 +258,7 @@ module _ (n source : ℕ) (bound : Bound) (own heard : ℕ) (said : ℕ → ℕ)
   pub held_grows : (r : View) → Regular r → held_by r.state ≤ held_by (after r).state
   unfolding held_by
   held_grows r g =
-      ⊎_elim (λ e. omega (arith, ap held_by e)) (λ t. omega (arith, t.1.above, ap held_by t.1.state-is)) (step_state r g)
+      ⊎_elim (λ e. omega (arith, ap held_by e)) (λ t. omega (arith, t.1.above, ap held_by t.1.state_is)) (step_state r g)
 
   -- where a terminal has a reason for a notice, it then holds its edition or a higher one
   held_chosen : (r : View) → Regular r → (own ≡ source → ⊥) → (x : ℕ) → (held_by r.state < edition_of x → edition_of x ≤ edition_of (choose r)) → edition_of x ≤ held_by (after r).state

@@ -135,8 +135,8 @@ module _ (n : ℕ) (bound : Bound) (notes : List Note) (firsts : List ℕ) (sing
           ⊎_elim
           (λ m.
           let w = so.gone j k m h in
-          so.least-is ∙ sym (least_again j from w.0 w.1) ∙ ap (lesser (least j from)) w.2)
-          (λ m. so.least-is ∙ sym (lesser_none (least j from)) ∙ ap (lesser (least j from)) (sym (from_other j m)))
+          so.least_is ∙ sym (least_again j from w.0 w.1) ∙ ap (lesser (least j from)) w.2)
+          (λ m. so.least_is ∙ sym (lesser_none (least j from)) ∙ ap (lesser (least j from)) (sym (from_other j m)))
           (decide (mem j single))
           ∙ sym (ap (λ (x : ℕ). least x from) (add-one j) ∙ least_next j from);
       inside = so.inside;
@@ -149,7 +149,7 @@ module _ (n : ℕ) (bound : Bound) (notes : List Note) (firsts : List ℕ) (sing
         → Looked (j + 1) (lesser best next) (bit_and rest (4294967295 - who))
     unfolding same_in
     looked_at small who next h low e q = record {
-      least_is = least_turn j best next from so.least-is
+      least_is = least_turn j best next from so.least_is
           (q ∙ ap (λ (s : ℕ). if_enough bound (bit_or s (voters_in n notes fickle (get_or firsts j 0))) (get_or firsts j 0)) e ∙ sym (from_single j (so.inside j h)));
       inside = λ i m. so.inside i (and_l _ _ (sym (mem_and i rest (4294967295 - who)) ∙ m));
       gone = λ i l m z.

@@ -7,68 +7,68 @@ use Rattle.digits.proofs.character_of.Goals as goal
 
 pub returns-in-0 : goal.returns-in-0
 unfolding character_of by_case sixteen pick
-returns-in-0 c = sym (ap character_of c.in-0.keys1)
+returns-in-0 c = sym (ap character_of c.in-0.is)
 
 pub returns-in-1 : goal.returns-in-1
 unfolding character_of by_case sixteen pick
-returns-in-1 c = sym (ap character_of c.in-1.keys2)
+returns-in-1 c = sym (ap character_of c.in-1.is)
 
 pub returns-in-2 : goal.returns-in-2
 unfolding character_of by_case sixteen pick
-returns-in-2 c = sym (ap character_of c.in-2.keys3)
+returns-in-2 c = sym (ap character_of c.in-2.is)
 
 pub returns-in-3 : goal.returns-in-3
 unfolding character_of by_case sixteen pick
-returns-in-3 c = sym (ap character_of c.in-3.keys4)
+returns-in-3 c = sym (ap character_of c.in-3.is)
 
 pub returns-in-4 : goal.returns-in-4
 unfolding character_of by_case sixteen pick
-returns-in-4 c = sym (ap character_of c.in-4.keys5)
+returns-in-4 c = sym (ap character_of c.in-4.is)
 
 pub returns-in-5 : goal.returns-in-5
 unfolding character_of by_case sixteen pick
-returns-in-5 c = sym (ap character_of c.in-5.keys6)
+returns-in-5 c = sym (ap character_of c.in-5.is)
 
 pub returns-in-6 : goal.returns-in-6
 unfolding character_of by_case sixteen pick
-returns-in-6 c = sym (ap character_of c.in-6.keys7)
+returns-in-6 c = sym (ap character_of c.in-6.is)
 
 pub returns-in-7 : goal.returns-in-7
 unfolding character_of by_case sixteen pick
-returns-in-7 c = sym (ap character_of c.in-7.keys8)
+returns-in-7 c = sym (ap character_of c.in-7.is)
 
 pub returns-in-8 : goal.returns-in-8
 unfolding character_of by_case sixteen pick
-returns-in-8 c = sym (ap character_of c.in-8.keys9)
+returns-in-8 c = sym (ap character_of c.in-8.is)
 
 pub returns-in-9 : goal.returns-in-9
 unfolding character_of by_case sixteen pick
-returns-in-9 c = sym (ap character_of c.in-9.keys10)
+returns-in-9 c = sym (ap character_of c.in-9.is)
 
 pub returns-in-10 : goal.returns-in-10
 unfolding character_of by_case sixteen pick
-returns-in-10 c = sym (ap character_of c.in-10.keys11)
+returns-in-10 c = sym (ap character_of c.in-10.is)
 
 pub returns-in-11 : goal.returns-in-11
 unfolding character_of by_case sixteen pick
-returns-in-11 c = sym (ap character_of c.in-11.keys12)
+returns-in-11 c = sym (ap character_of c.in-11.is)
 
 pub returns-in-12 : goal.returns-in-12
 unfolding character_of by_case sixteen pick
-returns-in-12 c = sym (ap character_of c.in-12.keys13)
+returns-in-12 c = sym (ap character_of c.in-12.is)
 
 pub returns-in-13 : goal.returns-in-13
 unfolding character_of by_case sixteen pick
-returns-in-13 c = sym (ap character_of c.in-13.keys14)
+returns-in-13 c = sym (ap character_of c.in-13.is)
 
 pub returns-in-14 : goal.returns-in-14
 unfolding character_of by_case sixteen pick
-returns-in-14 c = sym (ap character_of c.in-14.keys15)
+returns-in-14 c = sym (ap character_of c.in-14.is)
 
 pub returns-in-15 : goal.returns-in-15
 unfolding character_of by_case sixteen pick
-returns-in-15 c = sym (ap character_of c.in-15.keys16)
+returns-in-15 c = sym (ap character_of c.in-15.is)
 
 pub returns-in_default : goal.returns-in_default
 unfolding character_of sixteen
-returns-in_default c = sym (by_none _ _ _ sixteen Unit _ c.in_default.rest)
+returns-in_default c = sym (by_none _ _ _ sixteen Unit _ c.in_default.in_default-own.rest)

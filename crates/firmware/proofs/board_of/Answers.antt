@@ -4,8 +4,8 @@ use Rattle.firmware.proofs.board_of.Goals as goal
 
 pub returns-in-Waiting : goal.returns-in-Waiting
 unfolding board_of board_with
-returns-in-Waiting c = simp c.enum_told-1.given.1
+returns-in-Waiting c = simp c.in-Waiting.is
 
 pub returns-in-Taken : goal.returns-in-Taken
 unfolding board_of board_with
-returns-in-Taken c = simp c.state-1.given.1
+returns-in-Taken c = simp c.in-Taken.is

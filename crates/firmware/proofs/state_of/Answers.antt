@@ -1,6 +1,6 @@
 -- By the bytes, one test at a time. Assumes nothing.
 use borrow.Author.Tests.{eq-eqb, ne_eqb}
-use Rattle.sets.specs.Tests.{pick}
+use Rattle.sets.specs.Tests.{◌and◌, pick}
 use Rattle.firmware.specs.Board.{state_of}
 use Rattle.firmware.proofs.state_of.Goals as goal
 

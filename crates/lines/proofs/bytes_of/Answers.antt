@@ -24,14 +24,14 @@ loop-i-init c = (omega arith, refl, start_held _)
 
 pub overflow_add-first : goal.overflow_add-first
 overflow_add-first c =
-    let small : c.v-1.given.0.0 < 16 = (out_after_in _ _ (sym c.digit_of.ensures ∙ c.v-1.given.1)).0 in
+    let small : c.in-Value.v < 16 = (out_after_in _ _ (sym c.digit_of.ensures ∙ c.in-Value.is)).0 in
     omega arith
 
 pub loop-i-preserved : goal.loop-i-preserved
 loop-i-preserved c =
     let line = c.args.line.now in
     let l = c.loop-i in
-    let read = sym c.digit_of.ensures ∙ c.v-1.given.1 in
+    let read = sym c.digit_of.ensures ∙ c.in-Value.is in
     let Next : List ℕ → Type 0 = Held line (l.i + 1) in (
       omega arith,
       l.invariant.1 ∙ digits_turn _ _ c.loop-i-test.true (digit_yes _ _ read),
@@ -43,7 +43,7 @@ pub returns-in-Foreign : goal.returns-in-Foreign
 unfolding well_formed
 returns-in-Foreign c =
     let l = c.loop-i in
-    let none = l.invariant.1 ∙ digits_stop _ _ c.loop-i-test.true (digit_no _ (sym c.digit_of.ensures ∙ c.enum_told-1.given.1)) in
+    let none = l.invariant.1 ∙ digits_stop _ _ c.loop-i-test.true (digit_no _ (sym c.digit_of.ensures ∙ c.in-Foreign.is)) in
     (sym (and_no_r _ _ (and_no_r _ _ none)), λ h. clash h refl)
 
 pub returns : goal.returns

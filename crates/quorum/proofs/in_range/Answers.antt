@@ -1,5 +1,6 @@
 -- `in_range` meets its contract: the four tests of the rule, in its order, the first three turned round. Assumes nothing.
 use borrow.Author.Tests.{lt-ltb, le-ltb, le-leb, lt-leb}
+use Rattle.sets.specs.Tests.{◌and◌}
 use Rattle.quorum.specs.Quorum.{in_range}
 use Rattle.quorum.proofs.in_range.Goals as goal
 

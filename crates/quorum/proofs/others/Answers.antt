@@ -1,5 +1,6 @@
 -- `others` meets its contract: the two tests of the rule, in its order. Assumes nothing.
 use mathlib.Core.Path.{sym, ◌∙◌}
+use Rattle.sets.specs.Tests.{◌and◌}
 use Rattle.quorum.specs.Quorum.{others}
 use Rattle.quorum.proofs.others.Goals as goal
 

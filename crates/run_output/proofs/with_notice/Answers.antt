@@ -11,10 +11,10 @@ use Rattle.run_output.proofs.with_notice.Goals as goal
 pub returns-in-Old : goal.returns-in-Old
 unfolding notice_text
 returns-in-Old c = let a = c.args in
-    c.pair.ensures ∙ ap (λ (v : ℕ). joined (held a.t) (hex_pair v)) c.layout_of.ensures ∙ ap (λ (f : Form). joined (held a.t) (notice_text f a.notice)) (sym c.enum_told-1.given.1)
+    c.pair.ensures ∙ ap (λ (v : ℕ). joined (held a.t) (hex_pair v)) c.layout_of.ensures ∙ ap (λ (f : Form). joined (held a.t) (notice_text f a.notice)) (sym c.in-Old.is)
 
 pub returns-in-New : goal.returns-in-New
 unfolding notice_text
 returns-in-New c = let a = c.args in
     then _ _ _ (c.pair-in-New.ensures ∙ ap (λ (v : ℕ). joined (held a.t) (hex_pair v)) c.edition_of.ensures) (c.pair-in-New-2.ensures ∙ ap (λ (v : ℕ). joined (held c.pair-in-New.result) (hex_pair v)) c.layout_of-in-New.ensures)
-    ∙ ap (λ (f : Form). joined (held a.t) (notice_text f a.notice)) (sym c.enum_told-in-New-1.given.1)
+    ∙ ap (λ (f : Form). joined (held a.t) (notice_text f a.notice)) (sym c.in-New.is)

@@ -8,13 +8,13 @@ use native.Mathlib.Omega.{arith}
 use Rattle.simulation.proofs.begin.Goals as goal
 
 pub overflow_mul-result : goal.overflow_mul-result
-overflow_mul-result c = let z = sym c.first_cause-outcome.ensures ∙ ap number_of c.enum_told-1.given.1 in
+overflow_mul-result c = let z = sym c.first_cause-outcome.ensures ∙ ap number_of c.in-Played.is in
     let a = accepted_run _ _ _ _ _ _ _ z in
     omega (arith, turns_le c.args.p.n c.args.rounds (sound _ a.plan_sound).twenty a.forty)
 
 pub returns-in-Played : goal.returns-in-Played
-returns-in-Played c = let z = sym c.first_cause-outcome.ensures ∙ ap number_of c.enum_told-1.given.1 in
+returns-in-Played c = let z = sym c.first_cause-outcome.ensures ∙ ap number_of c.in-Played.is in
     (sym z, c.first_turn-turn.ensures, turns_played _ _ _ _ _ _ _ z)
 
 pub returns : goal.returns
-returns c = (c.first_cause-outcome.ensures, c.first_turn-turn.ensures, turns_refused _ _ _ _ _ _ _ _ c.first_cause-outcome.ensures (not_played c.first_cause-outcome.result c.in_default.keys2))
+returns c = (c.first_cause-outcome.ensures, c.first_turn-turn.ensures, turns_refused _ _ _ _ _ _ _ _ c.first_cause-outcome.ensures (not_played c.first_cause-outcome.result c.in_default.in_default-own.keys2))

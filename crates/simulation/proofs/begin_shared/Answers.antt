@@ -10,15 +10,15 @@ use Rattle.simulation.proofs.begin_shared.Goals as goal
 
 pub overflow_mul-result : goal.overflow_mul-result
 overflow_mul-result c =
-    let z = sym c.shared_cause-outcome.ensures ∙ ap number_of c.enum_told-1.given.1 in
+    let z = sym c.shared_cause-outcome.ensures ∙ ap number_of c.in-Played.is in
     let a = shared_accepted_run _ _ _ _ _ _ _ z in
     omega (arith, turns_le c.args.p.n c.args.rounds (sound _ a.plan_sound).twenty a.forty)
 
 pub returns-in-Played : goal.returns-in-Played
 returns-in-Played c =
-    let z = sym c.shared_cause-outcome.ensures ∙ ap number_of c.enum_told-1.given.1 in
+    let z = sym c.shared_cause-outcome.ensures ∙ ap number_of c.in-Played.is in
     (sym z, c.shared_turn-turn.ensures, shared_turns_played _ _ _ _ _ _ _ z)
 
 pub returns : goal.returns
 returns c =
-    (c.shared_cause-outcome.ensures, c.shared_turn-turn.ensures, shared_turns_refused _ _ _ _ _ _ _ _ c.shared_cause-outcome.ensures (not_played c.shared_cause-outcome.result c.in_default.keys2))
+    (c.shared_cause-outcome.ensures, c.shared_turn-turn.ensures, shared_turns_refused _ _ _ _ _ _ _ _ c.shared_cause-outcome.ensures (not_played c.shared_cause-outcome.result c.in_default.in_default-own.keys2))

@@ -10,7 +10,7 @@ use Rattle.simulation.proofs.shared_cause.Goals as goal
 
 -- where the outcome is Played so far, plan and fault set are sound
 checked : (c : goal.In-Played) → let a = c.args in shared_fault_cause_of a.p a.faulty ≡ 0
-checked c = sym c.check_shared_fault_set.ensures ∙ sym c.refused-fault.ensures ∙ ap number_of c.enum_told-1.given.1
+checked c = sym c.check_shared_fault_set.ensures ∙ sym c.refused-fault.ensures ∙ ap number_of c.in-Played.is
 
 pub shared_lists_fit-requires : goal.shared_lists_fit-requires
 shared_lists_fit-requires c =
@@ -31,4 +31,4 @@ returns-in-Played c = shared_wrong_start _ _ _ _ _ _ _ (checked c.before.before)
 
 pub returns : goal.returns
 returns c =
-    shared_fault _ _ _ _ _ _ _ _ (c.refused-fault.ensures ∙ c.check_shared_fault_set.ensures) (not_played c.refused-fault.result c.in_default.keys2)
+    shared_fault _ _ _ _ _ _ _ _ (c.refused-fault.ensures ∙ c.check_shared_fault_set.ensures) (not_played c.refused-fault.result c.in_default.in_default-own.keys2)

@@ -1,4 +1,5 @@
 -- `count_sound` meets its contract, by whether the neighbour is heard. Assumes nothing.
+use Rattle.sets.specs.Tests.{◌implies◌}
 use borrow.Author.Rules.{rules}
 use Rattle.terminal.proofs.count_sound.Goals as goal
 

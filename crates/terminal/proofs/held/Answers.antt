@@ -5,8 +5,8 @@ use Rattle.terminal.proofs.held.Goals as goal
 
 pub returns-in-Waiting : goal.returns-in-Waiting
 unfolding held_by
-returns-in-Waiting c = sym (ap held_by c.enum_told-1.given.1)
+returns-in-Waiting c = sym (ap held_by c.in-Waiting.is)
 
 pub returns-in-Taken : goal.returns-in-Taken
 unfolding held_by
-returns-in-Taken c = c.edition_of.ensures ∙ sym (ap held_by c.state-1.given.1)
+returns-in-Taken c = c.edition_of.ensures ∙ sym (ap held_by c.in-Taken.is)

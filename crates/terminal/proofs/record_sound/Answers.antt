@@ -1,6 +1,7 @@
 -- `record_sound` meets its contract: the tests of the round and of the number, then the state's and the counts'. Assumes nothing.
 use mathlib.Core.Path.{refl, sym, ◌∙◌}
 use borrow.Author.Tests.{lt-ltb, le-ltb}
+use Rattle.sets.specs.Tests.{◌and◌}
 use Rattle.sets.proofs.Bools.{clash}
 use Rattle.terminal.specs.Answer.{record_sound}
 use Rattle.terminal.proofs.record_sound.Goals as goal

@@ -4,10 +4,10 @@ use Rattle.terminal.proofs.Laws.{says_took, says_else, says_waits}
 use Rattle.terminal.proofs.says.Goals as goal
 
 pub returns-then-at-round : goal.returns-then-at-round
-returns-then-at-round c = sym (says_took _ _ _ c.state-1.given.1 c.if-at-round.true)
+returns-then-at-round c = sym (says_took _ _ _ c.in-Taken.is c.if-at-round.true)
 
 pub returns-in-Waiting : goal.returns-in-Waiting
-returns-in-Waiting c = sym (says_waits _ c.enum_told-1.given.1)
+returns-in-Waiting c = sym (says_waits _ c.in-Waiting.is)
 
 pub returns-else-at-round : goal.returns-else-at-round
-returns-else-at-round c = sym (says_else _ _ _ c.state-1.given.1 c.if-at-round.false)
+returns-else-at-round c = sym (says_else _ _ _ c.in-Taken.is c.if-at-round.false)

@@ -24,7 +24,7 @@ found c =
 accepted : (c : goal.In-Accepted)
     → let a = c.args in
     0 ≡ shared_cause_of a.n a.source a.bound a.own a.heard a.default a.before (length a.said.now)
-accepted c = ap number_of (sym c.enum_told-1.given.1) ∙ found c.before.before
+accepted c = ap number_of (sym c.in-Accepted.is) ∙ found c.before.before
 
 pub play_shared-requires : goal.play_shared-requires
 play_shared-requires c =
@@ -37,4 +37,4 @@ returns-in-Accepted c = (accepted c.before, c.play_shared.ensures ∙ shared_aft
 
 pub returns : goal.returns
 returns c =
-    (found c.before, shared_refused _ _ _ _ _ _ _ _ _ (found c.before) (refused c.with_nine-outcome.result c.in_default.keys2))
+    (found c.before, shared_refused _ _ _ _ _ _ _ _ _ (found c.before) (refused c.with_nine-outcome.result c.in_default.in_default-own.keys2))

@@ -10,16 +10,16 @@ use Rattle.terminal.proofs.step.Goals as goal
 accepted : (c : goal.In-Accepted)
     → let a = c.args in
     0 ≡ cause_of a.n a.source a.bound a.own a.heard a.before (length a.said.now)
-accepted c = ap number_of (sym c.enum_told-1.given.1) ∙ c.first_cause-outcome.ensures.0
+accepted c = ap number_of (sym c.in-Accepted.is) ∙ c.first_cause-outcome.ensures.0
 
 pub play-requires : goal.play-requires
 play-requires c =
     let a = accepted_plays _ _ _ _ _ _ _ (sym (accepted c)) in
-    (a.0, a.1, a.2, a.3, c.first_cause-outcome.ensures.1 (ap number_of c.enum_told-1.given.1), a.4)
+    (a.0, a.1, a.2, a.3, c.first_cause-outcome.ensures.1 (ap number_of c.in-Accepted.is), a.4)
 
 pub returns-in-Accepted : goal.returns-in-Accepted
 returns-in-Accepted c = (accepted c.before, c.play.ensures ∙ after_accepted _ _ _ _ _ _ _ (accepted c.before))
 
 pub returns : goal.returns
 returns c =
-    (c.first_cause-outcome.ensures.0, after_refused _ _ _ _ _ _ _ _ c.first_cause-outcome.ensures.0 (refused c.first_cause-outcome.result c.in_default.keys2))
+    (c.first_cause-outcome.ensures.0, after_refused _ _ _ _ _ _ _ _ c.first_cause-outcome.ensures.0 (refused c.first_cause-outcome.result c.in_default.in_default-own.keys2))

@@ -4,4 +4,4 @@ use Rattle.frames.specs.Reading.{lists_none}
 use Rattle.frames.proofs.ends.lists_none.Goals as goal
 
 pub returns-in-Groups : goal.returns-in-Groups
-returns-in-Groups c = sym (ap lists_none c.kind-1.given.1)
+returns-in-Groups c = sym (ap lists_none c.in-Groups.is)

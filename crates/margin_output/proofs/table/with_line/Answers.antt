@@ -13,16 +13,16 @@ use Rattle.margin_output.proofs.TableLaws.{line_source, line_direct, line_margin
 use Rattle.margin_output.proofs.table.with_line.Goals as goal
 
 pub with_margin-requires : goal.with_margin-requires
-with_margin-requires c = let fit : SFits w32 c.s-1.given.0.0 = search rules in subst Small (c.s-1.given.1 ∙ ap Margin (sym (to_z-of_z fit))) c.requires.0
+with_margin-requires c = let fit : SFits w32 c.in-Margin.m = search rules in subst Small (c.in-Margin.is ∙ ap Margin (sym (to_z-of_z fit))) c.requires.0
 
 pub returns-in-Source : goal.returns-in-Source
-returns-in-Source c = let a = c.args in line_source (held a.t) a.b c.requires.1 ∙ ap (λ (s : Standing). joined (held a.t) (standing_line a.b s)) (sym c.enum_told-1.given.1)
+returns-in-Source c = let a = c.args in line_source (held a.t) a.b c.requires.1 ∙ ap (λ (s : Standing). joined (held a.t) (standing_line a.b s)) (sym c.in-Source.is)
 
 pub returns-in-Direct : goal.returns-in-Direct
-returns-in-Direct c = let a = c.args in line_direct _ _ c.decimal.ensures c.raw.ensures c.with_direct.ensures c.raw-in-Direct.ensures ∙ ap (λ (s : Standing). joined (held a.t) (standing_line a.b s)) (sym c.enum_told-in-Direct-1.given.1)
+returns-in-Direct c = let a = c.args in line_direct _ _ c.decimal.ensures c.raw.ensures c.with_direct.ensures c.raw-in-Direct.ensures ∙ ap (λ (s : Standing). joined (held a.t) (standing_line a.b s)) (sym c.in-Direct.is)
 
 pub returns-in-Margin : goal.returns-in-Margin
-returns-in-Margin c = let fit : SFits w32 c.s-1.given.0.0 = search rules in let a = c.args in line_margin _ _ _ c.decimal-in-Margin.ensures c.raw-in-Margin.ensures c.with_margin.ensures c.raw-in-Margin-2.ensures ∙ ap (λ (s : Standing). joined (held a.t) (standing_line a.b s)) (ap Margin (to_z-of_z fit) ∙ sym c.s-1.given.1)
+returns-in-Margin c = let fit : SFits w32 c.in-Margin.m = search rules in let a = c.args in line_margin _ _ _ c.decimal-in-Margin.ensures c.raw-in-Margin.ensures c.with_margin.ensures c.raw-in-Margin-2.ensures ∙ ap (λ (s : Standing). joined (held a.t) (standing_line a.b s)) (ap Margin (to_z-of_z fit) ∙ sym c.in-Margin.is)
 
 pub returns-in-Absent : goal.returns-in-Absent
-returns-in-Absent c = let a = c.args in line_absent (held a.t) a.b c.requires.1 ∙ ap (λ (s : Standing). joined (held a.t) (standing_line a.b s)) (sym c.enum_told-in-Absent-1.given.1)
+returns-in-Absent c = let a = c.args in line_absent (held a.t) a.b c.requires.1 ∙ ap (λ (s : Standing). joined (held a.t) (standing_line a.b s)) (sym c.in-Absent.is)

@@ -9,11 +9,11 @@ use Rattle.partition.proofs.search.turn.Goals as goal
 pub overflow_cast-f : goal.overflow_cast-f
 overflow_cast-f c =
     let g = sound _ c.requires.0 in
-    let k = g.f_below _ c.kind-1.given.1 in
+    let k = g.f_below _ c.in-Most.is in
     let t = g.twenty in
     omega arith
 
 pub returns-in-Most : goal.returns-in-Most
 returns-in-Most c =
     let e = c.before.before.before.before.before.before in
-    swept_at_once _ (sound _ e.requires.0) _ _ _ e.ranges.wall.fits e.requires.1 (c.over.ensures ∙ over_hearing _ _ _ _ c.kind-1.given.1)
+    swept_at_once _ (sound _ e.requires.0) _ _ _ e.ranges.wall.fits e.requires.1 (c.over.ensures ∙ over_hearing _ _ _ _ c.in-Most.is)

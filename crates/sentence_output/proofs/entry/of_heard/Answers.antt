@@ -5,10 +5,10 @@ use Rattle.sentence_output.specs.Entered.{entry}
 use Rattle.sentence_output.proofs.entry.of_heard.Goals as goal
 
 pub returns-in-Sets : goal.returns-in-Sets
-returns-in-Sets c = sym (ap told c.h-1.given.1)
+returns-in-Sets c = sym (ap told c.in-Sets.is)
 
 pub returns-in-WrongRange : goal.returns-in-WrongRange
-returns-in-WrongRange c = ap entry c.refused.ensures ∙ sym (ap told c.enum_told-1.given.1)
+returns-in-WrongRange c = ap entry c.refused.ensures ∙ sym (ap told c.in-WrongRange.is)
 
 pub returns-in-OtherText : goal.returns-in-OtherText
-returns-in-OtherText c = ap entry c.refused-in-OtherText.ensures ∙ sym (ap told c.enum_told-in-OtherText-1.given.1)
+returns-in-OtherText c = ap entry c.refused-in-OtherText.ensures ∙ sym (ap told c.in-OtherText.is)

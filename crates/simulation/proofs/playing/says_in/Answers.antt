@@ -8,12 +8,12 @@ use Rattle.simulation.proofs.playing.says_in.Goals as goal
 
 pub returns-then-at-round : goal.returns-then-at-round
 unfolding says_in
-returns-then-at-round c = sym (ap (says_in c.args.round) c.state-1.given.1 ∙ pick_yes _ _ _ (eq-eqb _ _ c.if-at-round.true))
+returns-then-at-round c = sym (ap (says_in c.args.round) c.in-Taken.is ∙ pick_yes _ _ _ (eq-eqb _ _ c.if-at-round.true))
 
 pub returns-in-Waiting : goal.returns-in-Waiting
 unfolding says_in
-returns-in-Waiting c = ap (says_in c.args.round) (sym c.enum_told-1.given.1)
+returns-in-Waiting c = ap (says_in c.args.round) (sym c.in-Waiting.is)
 
 pub returns-else-at-round : goal.returns-else-at-round
 unfolding says_in
-returns-else-at-round c = sym (ap (says_in c.args.round) c.state-1.given.1 ∙ pick_no _ _ _ (ne_eqb _ _ c.if-at-round.false))
+returns-else-at-round c = sym (ap (says_in c.args.round) c.in-Taken.is ∙ pick_no _ _ _ (ne_eqb _ _ c.if-at-round.false))

@@ -1,4 +1,5 @@
 -- `voted` meets its contract, by whether the neighbour is heard. Assumes nothing.
+use Rattle.sets.specs.Tests.{◌and◌}
 use Rattle.terminal.proofs.choice.voted.Goals as goal
 
 pub has-requires : goal.has-requires
