@@ -1,5 +1,6 @@
 // One line's frame. A line is hexadecimal digits, two a byte, the high one first.
 #![tactic(auto)]
+
 ghost use Rattle.std.specs.Prelude.{◌≡◌, true, ℕ, ◌+◌, ◌<◌, length, get_or};
 ghost use Rattle.lines.specs.Bytes.{byte_at, well_formed};
 ghost use Rattle.lines.specs.Frames.{pair_at, triple_at, head_of, link_of, group_of, fault_set_of, start_of, later_of, message_of, channel_of, kind_of, known_frame, frame_of};

@@ -1,6 +1,5 @@
 use Prim.Native.Nat.{ℕ, ◌+◌, ◌%◌, ◌<◌}
 use mathlib.Core.Path.{◌≡◌, refl, sym, subst, ◌∙◌}
-use mathlib.Core.Logic.{⊎_elim}
 use mathlib.Core.List.{List}
 use native.Mathlib.Omega.{arith}
 use lib.ListN.{length}
@@ -10,14 +9,21 @@ use Rattle.digits.proofs.Laws.{out_after_in, digit_yes, digit_no}
 use Rattle.lines.specs.Bytes.{well_formed}
 use Rattle.lines.proofs.ByteLaws.{digits_turn, digits_stop, digits_end, said, Held, start_held, grown_held, kept_held, end_held}
 use Rattle.lines.proofs.bytes_of.Goals as goal
+use Rattle.lines.proofs.bytes_of.Goals.{then-at-lt-MOST, else-at-lt-MOST}
 
 pub returns-then-line-lt1 : goal.returns-then-line-lt1
 unfolding well_formed
-returns-then-line-lt1 c = (sym (and_no_l _ _ (lt-leb 1 (length c.args.line.now) c.if-line-lt1.true)), λ h. clash h refl)
+returns-then-line-lt1 c = record {
+  whole = sym (and_no_l _ _ (lt-leb 1 (length c.args.line.now) c.if-line-lt1.true));
+  bytes = λ h. clash h refl;
+}
 
 pub returns-then-line-eq1 : goal.returns-then-line-eq1
 unfolding well_formed
-returns-then-line-eq1 c = (sym (and_no_r _ _ (and_no_l _ _ (ne_eqb (length c.args.line.now % 2) 0 (λ z. omega arith)))), λ h. clash h refl)
+returns-then-line-eq1 c = record {
+  whole = sym (and_no_r _ _ (and_no_l _ _ (ne_eqb (length c.args.line.now % 2) 0 (λ z. omega arith))));
+  bytes = λ h. clash h refl;
+}
 
 pub loop-i-init : goal.loop-i-init
 loop-i-init c = (omega arith, refl, start_held _)
@@ -35,16 +41,20 @@ loop-i-preserved c =
     let Next : List ℕ → Type 0 = Held line (l.i + 1) in (
       omega arith,
       l.invariant.1 ∙ digits_turn _ _ c.loop-i-test.true (digit_yes _ _ read),
-      ⊎_elim (λ w. subst Next (sym w.1) (grown_held line l.first l.i _ l.invariant.2 w.0.taken (said line l.i _ read)))
-          (λ w. subst Next (sym w.1) (kept_held line l.first l.i l.invariant.2 w.0.left)) c.if-at-lt-MOST.branch,
+      elim c.if-at-lt-MOST.branch [
+        | then-at-lt-MOST w ↦ subst Next (sym w.first-is) (grown_held line l.first l.i _ l.invariant.2 w.if-at-lt-MOST.true (said line l.i _ read))
+        | else-at-lt-MOST w ↦ subst Next (sym w.first-is) (kept_held line l.first l.i l.invariant.2 w.if-at-lt-MOST.false)
+      ],
     )
 
 pub returns-in-Foreign : goal.returns-in-Foreign
 unfolding well_formed
 returns-in-Foreign c =
     let l = c.loop-i in
-    let none = l.invariant.1 ∙ digits_stop _ _ c.loop-i-test.true (digit_no _ (sym c.digit_of.ensures ∙ c.in-Foreign.is)) in
-    (sym (and_no_r _ _ (and_no_r _ _ none)), λ h. clash h refl)
+    let none = l.invariant.1 ∙ digits_stop _ _ c.loop-i-test.true (digit_no _ (sym c.digit_of.ensures ∙ c.in-Foreign.is)) in record {
+      whole = sym (and_no_r _ _ (and_no_r _ _ none));
+      bytes = λ h. clash h refl;
+    }
 
 pub returns : goal.returns
 unfolding well_formed
@@ -52,7 +62,7 @@ returns c =
     let line = c.args.line.now in
     let l = c.loop-i in
     let even : length line % 2 ≡ 0 = omega arith in
-    let end : l.i ≡ length line = omega arith in (
-      sym (and_i _ _ (le-leb 1 (length line) (omega arith)) (and_i _ _ (eq-eqb (length line % 2) 0 even) (l.invariant.1 ∙ digits_end _ _ c.loop-i-test.false))),
-      λ h. end_held line l.first l.i l.invariant.2 end even,
-    )
+    let end : l.i ≡ length line = omega arith in record {
+      whole = sym (and_i _ _ (le-leb 1 (length line) (omega arith)) (and_i _ _ (eq-eqb (length line % 2) 0 even) (l.invariant.1 ∙ digits_end _ _ c.loop-i-test.false)));
+      bytes = λ h. end_held line l.first l.i l.invariant.2 end even;
+    }

@@ -28,7 +28,7 @@ returns-then-n-le-MOST c =
     let read = c.bytes_of-read in
     let room : length read.result.first ≡ 8 = search rules in
     let whole = c.if-read.true in
-    c.known_frame.ensures ∙ frame_short _ _ read.result.first room (sym read.ensures.0 ∙ whole) c.if-n-le-MOST.true (read.ensures.1 whole)
+    c.known_frame.ensures ∙ frame_short _ _ read.result.first room (sym read.ensures.whole ∙ whole) c.if-n-le-MOST.true (read.ensures.bytes whole)
 
 pub returns-then-read : goal.returns-then-read
 returns-then-read c = sym (frame_long _ _ (sym c.bytes_of-read.ensures.whole ∙ c.if-read.true) c.if-n-le-MOST.false)

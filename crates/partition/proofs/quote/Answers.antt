@@ -4,4 +4,7 @@ use Rattle.partition.proofs.quote.Goals as goal
 
 pub returns : goal.returns
 unfolding quote_of
-returns c = (c.judge_within.ensures.answer, c.judge_within.ensures.accepted)
+returns c = record {
+      answer = c.judge_within.ensures.answer;
+      accepted = c.judge_within.ensures.accepted;
+    }

@@ -9,7 +9,10 @@ use Rattle.wording.proofs.Lengths.{sentence_short}
 use Rattle.wording.proofs.sentence.Goals as goal
 
 pub returns-then-number-ne0 : goal.returns-then-number-ne0
-returns-then-number-ne0 c = let a = c.args in let e = c.cause-number.ensures in (e, c.empty.ensures ∙ sym (composed_none a.n a.f a.l a.r (λ z. c.if-number-ne0.true (e ∙ z))))
+returns-then-number-ne0 c = let a = c.args in let e = c.cause-number.ensures in record {
+      cause = e;
+      sentence = c.empty.ensures ∙ sym (composed_none a.n a.f a.l a.r (λ z. c.if-number-ne0.true (e ∙ z)));
+    }
 
 pub opened-requires : goal.opened-requires
 opened-requires c = let a = c.args in let s = sound a.n a.f a.l a.r (sym c.cause-number.ensures ∙ c.if-number-ne0.false) in (s.twenty, s.f_below)
@@ -19,4 +22,7 @@ closed-requires c = let a = c.args in let s = sound a.n a.f a.l a.r (sym c.cause
 
 pub returns : goal.returns
 unfolding sentence
-returns c = let a = c.args in let z = sym c.cause-number.ensures ∙ c.if-number-ne0.false in let h = sentence_short a.n a.f a.l a.r z in (sym z, whole refl (then _ (opening a.n a.f) (closing a.n a.r) c.opened.ensures c.closed.ensures) (omega arith) ∙ sym (composed_is a.n a.f a.l a.r z))
+returns c = let a = c.args in let z = sym c.cause-number.ensures ∙ c.if-number-ne0.false in let h = sentence_short a.n a.f a.l a.r z in record {
+      cause = sym z;
+      sentence = whole refl (then _ (opening a.n a.f) (closing a.n a.r) c.opened.ensures c.closed.ensures) (omega arith) ∙ sym (composed_is a.n a.f a.l a.r z);
+    }

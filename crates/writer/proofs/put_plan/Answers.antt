@@ -22,7 +22,13 @@ pub put_head-requires : goal.put_head-requires
 put_head-requires c = let a = c.args in let s = sound a.p c.requires in let low = byte_low a.p.bound.kind a.p.n s.twenty s.f_below in let t = s.twenty in let b = s.source_below in (omega arith, omega arith, omega arith, low)
 
 pub returns-then-len-out : goal.returns-then-len-out
-returns-then-len-out c = let a = c.args in (counted _ _ _ _ _ c.links_len-groups_at.ensures c.listed.ensures c.answer-written.ensures, done a.p a.out.now _ _ _ c.links_len-groups_at.result c.listed.result c.links_len-groups_at.ensures c.listed.ensures c.if-len-out.true c.put_head.ensures c.put_links.ensures c.put_groups.ensures)
+returns-then-len-out c = let a = c.args in record {
+      value = counted _ _ _ _ _ c.links_len-groups_at.ensures c.listed.ensures c.answer-written.ensures;
+      out_after = done a.p a.out.now _ _ _ c.links_len-groups_at.result c.listed.result c.links_len-groups_at.ensures c.listed.ensures c.if-len-out.true c.put_head.ensures c.put_links.ensures c.put_groups.ensures;
+    }
 
 pub returns-else-len-out : goal.returns-else-len-out
-returns-else-len-out c = (counted _ _ _ _ _ c.links_len-groups_at.ensures c.listed.ensures c.answer-written.ensures, short c.args.p _ _ _ c.links_len-groups_at.ensures c.listed.ensures c.if-len-out.false)
+returns-else-len-out c = record {
+      value = counted _ _ _ _ _ c.links_len-groups_at.ensures c.listed.ensures c.answer-written.ensures;
+      out_after = short c.args.p _ _ _ c.links_len-groups_at.ensures c.listed.ensures c.if-len-out.false;
+    }

@@ -15,13 +15,15 @@ copy-requires c = let t = c.args.self in
 pub returns-then-n-out : goal.returns-then-n-out
 unfolding held
 returns-then-n-out c = let e = c.count-n.ensures in
-    let t = c.args.self in (
-      counted _ _ _ _ _ e c.answer-w.ensures,
-      c.copy.ensures ∙ put_front t.bytes _ t.len _ e c.if-n-out.true,
-    )
+    let t = c.args.self in record {
+      value = counted _ _ _ _ _ e c.answer-w.ensures;
+      out_after = c.copy.ensures ∙ put_front t.bytes _ t.len _ e c.if-n-out.true;
+    }
 
 pub returns-else-n-out : goal.returns-else-n-out
 returns-else-n-out c = let e = c.count-n.ensures in
     let a = c.args in
-    let k : length a.out.now < length (held a.self) = omega arith in
-    (counted _ _ _ _ _ e c.answer-w.ensures, sym (put_short _ _ k))
+    let k : length a.out.now < length (held a.self) = omega arith in record {
+      value = counted _ _ _ _ _ e c.answer-w.ensures;
+      out_after = sym (put_short _ _ k);
+    }
