@@ -1,6 +1,7 @@
 // Hexadecimal digits by the table of characters (ISO 646): sixteen cases in, sixteen cases out, and
 // no arithmetic on characters.
 #![tactic(auto)]
+
 ghost use Rattle.std.specs.Prelude.{◌≡◌};
 ghost use Rattle.digits.specs.Digits.{digit_of, character_of};
 

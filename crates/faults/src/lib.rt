@@ -1,6 +1,7 @@
 // Whether a set of terminals can be the liars' of a plan: one answer for the run, the reader and the
 // witness check.
 #![tactic(auto)]
+
 ghost use Rattle.std.specs.Prelude.{◌≡◌, not, ℕ, ◌<◌, ◌^◌, get_or};
 ghost use Rattle.sets.specs.Tests.{◌and◌, ◌implies◌};
 ghost use Rattle.sets.specs.Sets.{mem, all, some, mask};

@@ -1,6 +1,7 @@
 // The step for C, by value, and the office's notice to its own board. include/terminal.h has the same in
 // C's words.
 #![tactic(auto)]
+
 ghost use Rattle.std.specs.Prelude.{◌≡◌, eqb, leb, get_or};
 ghost use Rattle.sets.specs.Tests.{◌or◌, pick};
 ghost use Rattle.quorum.specs.Notice.{notice_of};

@@ -1,6 +1,7 @@
 // Hexadecimal lines: the readers of plan files, new ones, those of the archive, of the quoting desk, of
 // margins and of drawings, and of run files.
 #![tactic(auto)]
+
 mod deaf;
 mod ends;
 mod told;

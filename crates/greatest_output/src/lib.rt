@@ -1,5 +1,6 @@
 // What `greatest` prints: from a plan file's bytes to the greatest bound in decimal, or `none`.
 #![tactic(auto)]
+
 ghost use Rattle.std.specs.Prelude.{◌≡◌, ◌≤◌, ◌<◌, length};
 ghost use Rattle.tolerance.specs.Greatest.{drawing_of, none, up_to, height};
 ghost use Rattle.tolerance.specs.Answer.{told};

@@ -1,5 +1,6 @@
 // What `margins` prints: from a plan file's bytes to a line for each terminal and the line of counts.
 #![tactic(auto)]
+
 mod counting;
 mod table;
 

@@ -1,5 +1,6 @@
 // What the programs' texts share: the line that refuses a file, and the answer on a file.
 #![tactic(auto)]
+
 ghost use Rattle.std.specs.Prelude.{◌≡◌, length};
 ghost use Rattle.text.specs.Texts.{held, put_into};
 ghost use Rattle.output.specs.OnFile.{refusal_line, on_line, answer_on};

@@ -1,5 +1,6 @@
 // The verdict on a plan, the check of a witness that anybody proposes, and how far each terminal is from trouble.
 #![tactic(auto)]
+
 mod bound;
 mod branch;
 mod check;

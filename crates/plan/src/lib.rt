@@ -1,5 +1,6 @@
 // The plan of a site: who hears whom, who issues the notice, and who may be bad together.
 #![tactic(auto)]
+
 ghost use Rattle.std.specs.Prelude.{◌≡◌, get_or};
 ghost use Rattle.sets.specs.Sets.{all};
 ghost use Rattle.plan.specs.Plan.{number_of, row_sound, cause_of, too_many};

@@ -1,6 +1,7 @@
 // The numbers of a plan and of a run, what a terminal may hear, who may be bad together, and what a notice
 // is: causes 4, 5, 9, 16 and 17 have one test each.
 #![tactic(auto)]
+
 ghost use Rattle.std.specs.Prelude.{◌≡◌, eqb, ltb, get_or};
 ghost use Rattle.sets.specs.Tests.{◌implies◌, pick};
 ghost use Rattle.sets.specs.Sets.{mem, all, some};

@@ -2,6 +2,7 @@
 // A call is its kind, the length of the list that it lends, the length of the rest, both in two
 // bytes, high byte first, and the rest.
 #![tactic(auto)]
+
 mod calls;
 mod drawn;
 mod judged;

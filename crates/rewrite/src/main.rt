@@ -1,6 +1,7 @@
 // Reads a plan file from standard input, to its end or one byte past the largest file, and writes
 // the plan anew to standard output: the head, then the links by sender, then by hearer, then the groups.
 #![tactic(auto)]
+
 fn main() {
     let mut file = [0u8; 24577];
     let n = io::read_full(0, &mut file);

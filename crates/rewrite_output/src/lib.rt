@@ -1,5 +1,6 @@
 // What `rewrite` prints: from a plan file's bytes, as the archive opens it, to the plan's canonical text.
 #![tactic(auto)]
+
 ghost use Rattle.std.specs.Prelude.{◌≡◌, length};
 ghost use Rattle.text.specs.Texts.{put_into};
 ghost use Rattle.frames.specs.Reading.{archive_reading, file_read};

@@ -1,6 +1,7 @@
 // Reads a run file from standard input, to its end or one byte past the largest file, and writes
 // the terminals' lines to standard output.
 #![tactic(auto)]
+
 fn main() {
     let mut file = [0u8; 24577];
     let n = io::read_full(0, &mut file);

@@ -1,5 +1,6 @@
 // What `run` prints: from a run file's bytes to a line for each terminal.
 #![tactic(auto)]
+
 ghost use Rattle.std.specs.Prelude.{◌≡◌, true, false, ◌≤◌, length, get_or, take};
 ghost use Rattle.sets.specs.Tables.{table};
 ghost use Rattle.quorum.specs.Notice.{layout_of};

@@ -1,6 +1,7 @@
 // What `sentence` prints, from a plan file's bytes to the fail in a sentence, and what `heard` prints, from n and a
 // sentence to the verdict's line.
 #![tactic(auto)]
+
 mod entry;
 
 ghost use Rattle.std.specs.Prelude.{◌≡◌, length};

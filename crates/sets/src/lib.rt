@@ -1,6 +1,7 @@
 // Sets of terminals as u32 masks: bit i stands for terminal i. Every function takes any arguments;
 // a terminal from 32 up is in no set.
 #![tactic(auto)]
+
 ghost use Rattle.std.specs.Prelude.{◌≡◌, min};
 ghost use Rattle.sets.specs.Sets.{mem, within, singleton, with, without, outside, is_partition};
 

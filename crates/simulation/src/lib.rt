@@ -1,5 +1,6 @@
 // The run of a site against scripted liars, with a word for each hearer or on a shared channel.
 #![tactic(auto)]
+
 mod channel;
 mod playing;
 

@@ -1,6 +1,7 @@
 // One terminal: its record, the step that plays one round of it, and what its office issues. All that the
 // firmware ships.
 #![tactic(auto)]
+
 pub mod channel;
 mod choice;
 mod choosing;

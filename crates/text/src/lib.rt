@@ -1,6 +1,7 @@
 // Text out: bytes as hexadecimal digits and in decimal, a text that is put together by value, and a text put into a
 // lent list once it is whole.
 #![tactic(auto)]
+
 ghost use Rattle.std.specs.Prelude.{◌≡◌, [], ◌∷◌, ◌≤◌, ◌/◌, ◌%◌, length};
 ghost use Rattle.std.proofs.Math.Seq.{paste};
 ghost use Rattle.digits.specs.Digits.{character_of};

@@ -1,5 +1,6 @@
 // The greatest bound for which a drawing passes, from its links alone.
 #![tactic(auto)]
+
 ghost use Rattle.std.specs.Prelude.{◌≡◌, ◌<◌};
 ghost use Rattle.plan.specs.Plan.{cause_of};
 ghost use Rattle.tolerance.specs.Greatest.{with_bound, passes_with, greatest, height};

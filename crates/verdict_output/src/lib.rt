@@ -1,5 +1,6 @@
 // What `verdict`, `archive` and `quote` print: from a plan file's bytes to the verdict's line.
 #![tactic(auto)]
+
 ghost use Rattle.std.specs.Prelude.{◌≡◌, ◌%◌, ◌<◌, length};
 ghost use Rattle.partition.specs.Answer.{answered};
 ghost use Rattle.text.specs.Texts.{held, put_into};

@@ -1,5 +1,6 @@
 // The fail in a sentence, for the phone: composed of the sets, and read back.
 #![tactic(auto)]
+
 mod ear;
 mod names;
 

@@ -7,6 +7,6 @@ use Rattle.output.proofs.put.Goals as goal
 pub returns : goal.returns
 unfolding answer_on
 returns c = record {
-      value = c.on_line.ensures ∙ ap (on_line c.args.read.line) c.put.ensures.value;
-      out_after = c.put.ensures.out_after;
-    }
+  value = c.on_line.ensures ∙ ap (on_line c.args.read.line) c.put.ensures.value;
+  out_after = c.put.ensures.out_after;
+}

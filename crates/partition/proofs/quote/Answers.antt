@@ -5,6 +5,6 @@ use Rattle.partition.proofs.quote.Goals as goal
 pub returns : goal.returns
 unfolding quote_of
 returns c = record {
-      answer = c.judge_within.ensures.answer;
-      accepted = c.judge_within.ensures.accepted;
-    }
+  answer = c.judge_within.ensures.answer;
+  accepted = c.judge_within.ensures.accepted;
+}

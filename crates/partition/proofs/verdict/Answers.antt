@@ -5,6 +5,6 @@ use Rattle.partition.proofs.verdict.Goals as goal
 pub returns : goal.returns
 unfolding answer_of
 returns c = record {
-      answer = c.judge_within.ensures.answer;
-      accepted = c.judge_within.ensures.accepted;
-    }
+  answer = c.judge_within.ensures.answer;
+  accepted = c.judge_within.ensures.accepted;
+}

@@ -10,9 +10,9 @@ use Rattle.wording.proofs.sentence.Goals as goal
 
 pub returns-then-number-ne0 : goal.returns-then-number-ne0
 returns-then-number-ne0 c = let a = c.args in let e = c.cause-number.ensures in record {
-      cause = e;
-      sentence = c.empty.ensures ∙ sym (composed_none a.n a.f a.l a.r (λ z. c.if-number-ne0.true (e ∙ z)));
-    }
+  cause = e;
+  sentence = c.empty.ensures ∙ sym (composed_none a.n a.f a.l a.r (λ z. c.if-number-ne0.true (e ∙ z)));
+}
 
 pub opened-requires : goal.opened-requires
 opened-requires c = let a = c.args in let s = sound a.n a.f a.l a.r (sym c.cause-number.ensures ∙ c.if-number-ne0.false) in (s.twenty, s.f_below)
@@ -23,6 +23,6 @@ closed-requires c = let a = c.args in let s = sound a.n a.f a.l a.r (sym c.cause
 pub returns : goal.returns
 unfolding sentence
 returns c = let a = c.args in let z = sym c.cause-number.ensures ∙ c.if-number-ne0.false in let h = sentence_short a.n a.f a.l a.r z in record {
-      cause = sym z;
-      sentence = whole refl (then _ (opening a.n a.f) (closing a.n a.r) c.opened.ensures c.closed.ensures) (omega arith) ∙ sym (composed_is a.n a.f a.l a.r z);
-    }
+  cause = sym z;
+  sentence = whole refl (then _ (opening a.n a.f) (closing a.n a.r) c.opened.ensures c.closed.ensures) (omega arith) ∙ sym (composed_is a.n a.f a.l a.r z);
+}

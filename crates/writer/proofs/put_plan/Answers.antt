@@ -23,12 +23,12 @@ put_head-requires c = let a = c.args in let s = sound a.p c.requires in let low 
 
 pub returns-then-len-out : goal.returns-then-len-out
 returns-then-len-out c = let a = c.args in record {
-      value = counted _ _ _ _ _ c.links_len-groups_at.ensures c.listed.ensures c.answer-written.ensures;
-      out_after = done a.p a.out.now _ _ _ c.links_len-groups_at.result c.listed.result c.links_len-groups_at.ensures c.listed.ensures c.if-len-out.true c.put_head.ensures c.put_links.ensures c.put_groups.ensures;
-    }
+  value = counted _ _ _ _ _ c.links_len-groups_at.ensures c.listed.ensures c.answer-written.ensures;
+  out_after = done a.p a.out.now _ _ _ c.links_len-groups_at.result c.listed.result c.links_len-groups_at.ensures c.listed.ensures c.if-len-out.true c.put_head.ensures c.put_links.ensures c.put_groups.ensures;
+}
 
 pub returns-else-len-out : goal.returns-else-len-out
 returns-else-len-out c = record {
-      value = counted _ _ _ _ _ c.links_len-groups_at.ensures c.listed.ensures c.answer-written.ensures;
-      out_after = short c.args.p _ _ _ c.links_len-groups_at.ensures c.listed.ensures c.if-len-out.false;
-    }
+  value = counted _ _ _ _ _ c.links_len-groups_at.ensures c.listed.ensures c.answer-written.ensures;
+  out_after = short c.args.p _ _ _ c.links_len-groups_at.ensures c.listed.ensures c.if-len-out.false;
+}
