@@ -39,7 +39,7 @@ use Rattle.propagation.proofs.Safety.{Safe, state_cases, not_both, safe, source_
 use Rattle.propagation.proofs.Demand3.{demand3}
 use Rattle.propagation.proofs.SharedRounds.{shared_word, shared_start_lem, shared_next, shared_good, shared_bad, shared_small}
 
-module _ (p : Plan) (checked : plan.causeOf p ≡ 0) (faulty : ℕ) (fault : is_shared_fault_set p faulty ≡ true) (value default : ℕ) (script : SharedScript)
+module _ (p : Plan) (checked : plan.cause_of p ≡ 0) (faulty : ℕ) (fault : is_shared_fault_set p faulty ≡ true) (value default : ℕ) (script : SharedScript)
     (layouts : Layouts value default script) where
   abbrev whole : Sound p
   whole = sound p checked
@@ -380,7 +380,7 @@ module _ (p : Plan) (checked : plan.causeOf p ≡ 0) (faulty : ℕ) (fault : is_
       let a = (demand3 p checked).last h office rises others trusts (to_all script) 0 r b (omega arith) (quiet r) (g.0, beside_good b g.1) in
       (a.0, (alike r b g.0 g.1).state ∙ a.1)
 
-pub agreement : (p : Plan) → plan.causeOf p ≡ 0 → Agreement p
+pub agreement : (p : Plan) → plan.cause_of p ≡ 0 → Agreement p
 unfolding carried
 agreement p checked = record {
   as_trusted = λ faulty f value default script ls. shared_as_trusted p checked faulty f value default script ls;

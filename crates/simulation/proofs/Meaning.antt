@@ -37,7 +37,7 @@ use Rattle.simulation.specs.declared.Turn.{Turn}
 use Rattle.simulation.proofs.Walk.{At, placed_on, walk_list, walk_twenty}
 use Rattle.simulation.specs.Turns.{heard_in, issued_in, record_of, Played, played_after, first_turn, Ready}
 
-module _ (p : Plan) (checked : plan.causeOf p ≡ 0) (faulty first : ℕ) (later words : List ℕ) (up : Rising (office_of first later))
+module _ (p : Plan) (checked : plan.cause_of p ≡ 0) (faulty first : ℕ) (later words : List ℕ) (up : Rising (office_of first later))
     (fault : is_fault_set p faulty ≡ true) where
   abbrev office : Office
   office = office_of first later

@@ -37,7 +37,7 @@ use Rattle.simulation.specs.declared.Turn.{Turn}
 use Rattle.simulation.specs.Turns.{shared_in, shared_record_of, Played, played_after, first_turn, Ready}
 use Rattle.simulation.proofs.Walk.{At, placed_on, walk_list, walk_twenty}
 
-module _ (p : Plan) (checked : plan.causeOf p ≡ 0) (faulty value default : ℕ) (words : List ℕ) (fault : is_shared_fault_set p faulty ≡ true)
+module _ (p : Plan) (checked : plan.cause_of p ≡ 0) (faulty value default : ℕ) (words : List ℕ) (fault : is_shared_fault_set p faulty ≡ true)
     (layouts : Layouts value default (shared_script_of p.n words)) where
   abbrev script : SharedScript
   script = shared_script_of p.n words
