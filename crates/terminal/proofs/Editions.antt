@@ -5,17 +5,16 @@ use mathlib.Core.Path.{◌≡◌, refl, sym, ap, ◌∙◌, subst, fun_ext}
 use mathlib.Core.Logic.{◌⊎◌, inl, inr, ⊎_elim}
 use mathlib.Core.Bool.{Bool, true, false, not}
 use mathlib.Core.List.{List, [], map}
-use native.Mathlib.Nat.{le_of_suc-le-suc}
 use native.Mathlib.Numerals.{add-one}
 use native.Mathlib.Omega.{arith}
 use mir.Val.{Fits}
 use mir.Syntax.{w32}
 use lib.Bits.{bit_and}
 use lib.Dec.{eqb, ltb}
-use borrow.Author.Tests.{eq-eqb, ne_eqb, eqb-true, lt-ltb, le-ltb, ltb-true, ltb-false}
+use borrow.Author.Tests.{eq-eqb, ne_eqb, eqb-true, lt-ltb, le-ltb, ltb-true}
 use Rattle.sets.specs.Tests.{◌and◌, pick}
-use Rattle.sets.specs.Sets.{mem, mask}
-use Rattle.sets.proofs.Bools.{clash, decide, no_by, same_test, and_l, and_r, and_i, and_yes, and_no_l, and_no_r, not_i, not_e, not_yes, pick_yes, pick_no, pick_case}
+use Rattle.sets.specs.Sets.{mem}
+use Rattle.sets.proofs.Bools.{clash, decide, no_by, and_l, and_r, and_i, and_yes, and_no_l, and_no_r, not_i, not_yes, pick_yes, pick_no, pick_case}
 use Rattle.sets.proofs.Laws.{equal_or_not, below_or_not, mem_mask, mask_lt, mem_below}
 use Rattle.sets.proofs.Masks.{mem_and, mem_not}
 use Rattle.quorum.specs.declared.Bound.{Bound}
@@ -23,12 +22,12 @@ use Rattle.quorum.specs.Quorum.{enough}
 use Rattle.quorum.proofs.Laws.{enough_mono}
 use Rattle.terminal.specs.declared.Note.{Note}
 use Rattle.terminal.specs.declared.choosing.Best.{Best}
-use Rattle.terminal.specs.Rule.{Spoken, spoken_by, in_edition, among, values_of, has_noted, certified, first_of, lesser, least, least_of, candidate, least_from, choice, layout_in, qualifying, highest, newest}
+use Rattle.terminal.specs.Rule.{Spoken, in_edition, among, values_of, has_noted, certified, first_of, lesser, least, least_of, candidate, least_from, choice, layout_in, qualifying, highest}
 use Rattle.terminal.specs.Shown.{note_of, values_in, spoken_in}
 use Rattle.terminal.specs.Votes.{speakers_in, above_in}
 use Rattle.terminal.proofs.Values.{in_own, in_other}
 use Rattle.terminal.proofs.Notes.{choice_why}
-use Rattle.terminal.proofs.Newest.{edition_values, highest_ge, highest_from}
+use Rattle.terminal.proofs.Newest.{edition_values, highest_ge}
 use Rattle.terminal.proofs.Shown.{view_values, view_spoken}
 use Rattle.terminal.proofs.Search.{below_enough, enough_same}
 

@@ -2,23 +2,22 @@
 use Prim.Native.Nat.{ℕ, zero, suc, ◌≤◌, ◌<◌, max}
 use mathlib.Core.Path.{◌≡◌, refl, sym, ap, ◌∙◌, subst}
 use mathlib.Core.Logic.{◌⊎◌, inl, inr, ⊎_elim}
-use mathlib.Core.Bool.{Bool, true, false, not}
+use mathlib.Core.Bool.{true, false, not}
 use mathlib.Core.List.{List, [], map}
 use native.Mathlib.Nat.{le_of_suc-le-suc, not-suc-le-zero, zero-lt-suc}
 use native.Mathlib.Omega.{arith}
 use lib.Dec.{eqb, ltb}
 use lib.ListN.{get_or, get_or-map}
-use borrow.Author.Tests.{eq-eqb, ne_eqb, eqb-true, eqb-false, lt-ltb, ltb-true}
-use Rattle.sets.specs.Tests.{◌and◌, pick}
+use borrow.Author.Tests.{eq-eqb, ne_eqb, eqb-false, lt-ltb, ltb-true}
+use Rattle.sets.specs.Tests.{◌and◌}
 use Rattle.sets.specs.Sets.{mem}
 use Rattle.sets.proofs.Bools.{clash, and_l, and_r, and_i, not_i, not_e, pick_yes, pick_no, pick_case}
-use Rattle.sets.proofs.Laws.{equal_or_not}
 use Rattle.quorum.specs.declared.Bound.{Bound}
 use Rattle.quorum.specs.Quorum.{enough}
 use Rattle.quorum.specs.Notice.{notice_of, edition_of, layout_of, silent}
 use Rattle.quorum.proofs.Notices.{said_edition, said_layout, said_i, edition_notice, layout_notice}
 use Rattle.quorum.proofs.Laws.{enough_mono}
-use Rattle.terminal.specs.Rule.{Spoken, nothing_said, View, spoken_by, in_edition, among, holds, values_of, has_noted, certified, first_of, choice, layout_in, qualifying, highest, newest, chosen}
+use Rattle.terminal.specs.Rule.{Spoken, nothing_said, View, spoken_by, in_edition, among, holds, values_of, has_noted, certified, choice, layout_in, qualifying, highest, newest, chosen}
 use Rattle.terminal.proofs.Values.{in_by, in_among, first_some}
 use Rattle.terminal.proofs.Notes.{has_i, has_layout, has_among, certified_by, choice_why, choice_none_source, choice_none_certified}
 

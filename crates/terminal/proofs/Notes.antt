@@ -9,7 +9,7 @@ use native.Mathlib.Omega.{arith}
 use lib.Dec.{eqb}
 use lib.ListN.{length, replicate}
 use borrow.Author.Tests.{eq-eqb, ne_eqb, eqb-true}
-use Rattle.sets.specs.Tests.{◌and◌, ◌or◌}
+use Rattle.sets.specs.Tests.{◌and◌}
 use Rattle.sets.specs.Sets.{mem, all}
 use Rattle.sets.proofs.Bools.{clash, decide, no_by, and_l, and_r, and_i, or_l, or_r, or_e, not_i, not_e, pick_yes, pick_no, pick_case}
 use Rattle.sets.proofs.Laws.{equal_or_not, all_at, all_not}

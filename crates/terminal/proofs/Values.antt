@@ -2,14 +2,14 @@
 use Prim.Native.Nat.{ℕ, zero, suc, ◌+◌, ◌≤◌, ◌<◌}
 use mathlib.Core.Path.{◌≡◌, refl, sym, ap, ◌∙◌, subst}
 use mathlib.Core.Logic.{◌⊎◌, inl, inr, ⊎_elim}
-use mathlib.Core.Bool.{Bool, true, false, not}
+use mathlib.Core.Bool.{Bool, true, false}
 use mathlib.Core.List.{List, [], ◌∷◌, ◌++◌}
 use native.Mathlib.Nat.{not-suc-le-zero, le_of_suc-le-suc}
 use native.Mathlib.Omega.{arith}
-use lib.Dec.{eqb, leb}
+use lib.Dec.{eqb}
 use lib.ListN.{length, get_or, length-append}
 use borrow.Author.Tests.{eq-eqb, ne_eqb, eqb-true, le-leb, leb-true}
-use Rattle.sets.specs.Tests.{◌and◌, ◌or◌}
+use Rattle.sets.specs.Tests.{◌or◌}
 use Rattle.sets.proofs.Bools.{and_i, and_l, and_no_l, and_r, clash, decide, not_e, not_i, or_e, or_l, or_no, or_r, pick_no, pick_yes, pick_case}
 use Rattle.sets.proofs.Laws.{equal_or_not}
 use Rattle.quorum.specs.Notice.{edition_of, layout_of, silent}

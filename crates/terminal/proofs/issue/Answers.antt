@@ -9,4 +9,4 @@ pub returns-in-Accepted : goal.returns-in-Accepted
 returns-in-Accepted c = let e = ap number_of (sym c.in-Accepted.is) ∙ c.issue_cause-outcome.ensures in (e, issue_accepted _ _ e)
 
 pub returns : goal.returns
-returns c = let e = c.issue_cause-outcome.ensures in (e, issue_refused _ _ _ e (refused c.issue_cause-outcome.result c.in_default.in_default-own.keys2))
+returns c = let e = c.issue_cause-outcome.ensures in (e, issue_refused _ _ _ e (refused c.issue_cause-outcome.result c.in_default.not-Accepted))

@@ -1,7 +1,7 @@
 -- `play` meets its contract: what is raised, noted and, but for the source, decided, one after the other, is the rule's step. Assumes nothing.
-use Prim.Native.Nat.{◌+◌}
+use Prim.Native.Nat.{ℕ, ◌+◌}
 use mathlib.Core.Path.{◌≡◌, sym, ap, ◌∙◌, subst}
-use mathlib.Core.List.{map}
+use mathlib.Core.List.{List, map}
 use native.Mathlib.Omega.{arith}
 use lib.ListN.{get_or}
 use Rattle.sets.specs.Sets.{mem}
@@ -25,35 +25,36 @@ note-heard_all-requires c =
     )
 
 -- the record that has noted
-raised : (c : goal.After-note-heard_all) → let a = c.args in
-    c.note-heard_all.result ≡ record {
-      state = a.before.state;
-      round = a.before.round + 1;
-      notes = notes_over (λ j. mem j a.heard) a.before.notes (noted a.n (λ j. mem j a.heard) (λ j. get_or a.said.now j 0) (map spoken_in a.before.notes));
+raised : (n heard : ℕ) (said : List ℕ) (before up x : Record)
+    → up ≡ record { state = before.state; round = before.round + 1; notes = before.notes }
+    → x ≡ record { state = up.state; round = up.round; notes = notes_over (λ j. mem j heard) up.notes (noted n (λ j. mem j heard) (λ j. get_or said j 0) (map spoken_in up.notes)) }
+    → x ≡ record {
+      state = before.state;
+      round = before.round + 1;
+      notes = notes_over (λ j. mem j heard) before.notes (noted n (λ j. mem j heard) (λ j. get_or said j 0) (map spoken_in before.notes));
     }
-raised c =
-    let a = c.args in
-    c.note-heard_all.ensures
+raised n heard said before up x e h =
+    h
     ∙ ap
     (λ (y : Record).
     record {
       state = y.state;
       round = y.round;
-      notes = notes_over (λ j. mem j a.heard) y.notes (noted a.n (λ j. mem j a.heard) (λ j. get_or a.said.now j 0) (map spoken_in y.notes));
+      notes = notes_over (λ j. mem j heard) y.notes (noted n (λ j. mem j heard) (λ j. get_or said j 0) (map spoken_in y.notes));
     })
-    c.advance.ensures
+    e
 
 pub returns-then-own-source : goal.returns-then-own-source
 returns-then-own-source c =
     let a = c.args in
     let p = c.requires in
-    source_shown a.n a.source a.bound a.own a.heard (λ j. get_or a.said.now j 0) a.before p.4 p.5 c.if-own-source.true c.note-heard_all.result (raised c.before)
+    source_shown a.n a.source a.bound a.own a.heard (λ j. get_or a.said.now j 0) a.before p.4 p.5 c.if-own-source.true c.note-heard_all.result (raised a.n a.heard a.said.now a.before c.advance.result c.note-heard_all.result c.advance.ensures c.note-heard_all.ensures)
 
 pub decide-requires : goal.decide-requires
 decide-requires c =
     let a = c.args in
     let p = c.requires in
-    let q = ap (λ (r : Record). r.notes) (raised c.before) in (
+    let q = ap (λ (r : Record). r.notes) (raised a.n a.heard a.said.now a.before c.advance.result c.note-heard_all.result c.advance.ensures c.note-heard_all.ensures) in (
       p.0,
       p.1,
       subst Whole (sym q) (over_whole _ _ _ p.4),
@@ -73,4 +74,4 @@ returns c =
       round = x.round;
       notes = x.notes;
     })
-    (raised c.before.before))
+    (raised a.n a.heard a.said.now a.before c.advance.result c.note-heard_all.result c.advance.ensures c.note-heard_all.ensures))

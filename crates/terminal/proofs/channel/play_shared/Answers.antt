@@ -6,7 +6,10 @@ use native.Mathlib.Omega.{arith}
 use lib.ListN.{length, get_or, take}
 use lib.Seq.{length-take-le}
 use Rattle.sets.specs.Sets.{mem}
+use Rattle.sets.specs.Tables.{table}
 use Rattle.sets.proofs.Tables.{table_length}
+use Rattle.quorum.specs.declared.Bound.{Bound}
+use Rattle.terminal.specs.declared.Record.{Record}
 use Rattle.quorum.specs.Notice.{notice_of, first_edition}
 use Rattle.terminal.specs.declared.State.TheVariants.{Taken}
 use Rattle.terminal.specs.Rule.{step}
@@ -32,15 +35,15 @@ play-stepped-requires c =
     (p.0, p.1, omega arith, p.3, p.4, p.5)
 
 -- what the step leaves
-stepped : (c : goal.After-play-stepped)
-    → let a = c.args in
-    c.play-stepped.result ≡ shown_over (λ j. mem j a.heard) a.before (step a.n a.source a.bound a.own a.heard (λ j. first_edition (get_or a.said.now j 0)) (view_of a.before))
-stepped c =
-    let a = c.args in
-    let p = c.requires in
-    c.play-stepped.ensures
-    ∙ ap (λ (l : List ℕ). shown_over (λ j. mem j a.heard) a.before (step a.n a.source a.bound a.own a.heard (λ j. get_or (take a.n l) j 0) (view_of a.before))) c.notices-all.ensures
-    ∙ ap (λ (f : ℕ → ℕ). shown_over (λ j. mem j a.heard) a.before (step a.n a.source a.bound a.own a.heard f (view_of a.before))) (notices_said a.n p.0 a.said.now p.2)
+stepped : (n source : ℕ) (bound : Bound) (own heard : ℕ) (before : Record) (said all : List ℕ) (x : Record)
+    → n ≤ 20 → length said ≡ n
+    → all ≡ table 20 (λ j. first_edition (get_or said j 0))
+    → x ≡ shown_over (λ j. mem j heard) before (step n source bound own heard (λ j. get_or (take n all) j 0) (view_of before))
+    → x ≡ shown_over (λ j. mem j heard) before (step n source bound own heard (λ j. first_edition (get_or said j 0)) (view_of before))
+stepped n source bound own heard before said all x small long e h =
+    h
+    ∙ ap (λ (l : List ℕ). shown_over (λ j. mem j heard) before (step n source bound own heard (λ j. get_or (take n l) j 0) (view_of before))) e
+    ∙ ap (λ (f : ℕ → ℕ). shown_over (λ j. mem j heard) before (step n source bound own heard f (view_of before))) (notices_said n small said long)
 
 pub bounds-said-source : goal.bounds-said-source
 bounds-said-source c = let p = c.requires in let e = p.2 in let l = p.1 in omega arith
@@ -51,7 +54,7 @@ returns-then-first_hearing c =
     let x = c.play-stepped.result in
     c.taken_first.ensures
     ∙ ap (λ (w : ℕ). record { state = Taken x.round (notice_of 1 w); round = x.round; notes = x.notes }) c.word_or.ensures
-    ∙ first_shown a.n a.source a.bound a.own a.heard a.default a.before (λ j. get_or a.said.now j 0) x (stepped c.before.before.before.before.before.before)
+    ∙ first_shown a.n a.source a.bound a.own a.heard a.default a.before (λ j. get_or a.said.now j 0) x (stepped a.n a.source a.bound a.own a.heard a.before a.said.now c.notices-all.result x c.requires.0 c.requires.2 c.notices-all.ensures c.play-stepped.ensures)
     (ap (first_hearing a.before.state a.before.round) (sym c.member.ensures)
     ∙ sym c.first_hearing.ensures ∙ c.if-first_hearing.true)
 
@@ -59,6 +62,6 @@ pub returns : goal.returns
 returns c =
     let a = c.args in
     let x = c.play-stepped.result in
-    else_shown a.n a.source a.bound a.own a.heard a.default a.before (λ j. get_or a.said.now j 0) x (stepped c.before.before.before)
+    else_shown a.n a.source a.bound a.own a.heard a.default a.before (λ j. get_or a.said.now j 0) x (stepped a.n a.source a.bound a.own a.heard a.before a.said.now c.notices-all.result x c.requires.0 c.requires.2 c.notices-all.ensures c.play-stepped.ensures)
     (ap (first_hearing a.before.state a.before.round) (sym c.member.ensures)
     ∙ sym c.first_hearing.ensures ∙ c.if-first_hearing.false)

@@ -1,10 +1,11 @@
 -- `choice` meets its contract: the code asks for the source's first value first, as the rule does; both ways past it end at the least that is certified.
 -- Assumes nothing.
 use mathlib.Core.Path.{sym, ◌∙◌}
-use mathlib.Core.Logic.{inl, inr, ⊎_elim}
+use mathlib.Core.Logic.{inl, inr}
 use lib.Bits.{bit_or}
 use Rattle.sets.specs.Sets.{mem}
 use Rattle.terminal.proofs.Search.{direct_yes, direct_no}
+use Rattle.terminal.proofs.choice.choice.Goals.{then-member+else-word-ne0, else-member}
 use Rattle.terminal.proofs.choice.choice.Goals as goal
 
 pub returns-then-word-ne0 : goal.returns-then-word-ne0
@@ -23,4 +24,7 @@ returns c =
     let same = sym (λ i. mem a.source (bit_or (e.0 i) (e.1 i))) in
     c.least_certified.ensures
     ∙ direct_no a.n a.bound a.heard a.notes p.0 p.2 c.first_values-first.result.values e.2 a.source p.1
-    (⊎_elim (λ w. inl (same ∙ sym c.member.ensures ∙ w.0.taken, w.1.left)) (λ w. inr (same ∙ sym c.member.ensures ∙ w.left)) c.if-member.branch)
+    (elim c.if-member.branch [
+      | then-member+else-word-ne0 w ↦ inl (same ∙ sym c.member.ensures ∙ w.if-member.true, w.if-word-ne0.false)
+      | else-member w ↦ inr (same ∙ sym c.member.ensures ∙ w.if-member.false)
+    ])

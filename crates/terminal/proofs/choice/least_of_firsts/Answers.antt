@@ -37,4 +37,4 @@ returns c =
     let a = c.args in
     let l = c.loop-j in
     let e : l.j ≡ a.n = omega arith in
-    l.invariant.1.least-is ∙ ap (λ (k : ℕ). least k (from_first a.n a.bound a.notes a.first.values a.first.single a.first.fickle)) e
+    l.invariant.1.least_is ∙ ap (λ (k : ℕ). least k (from_first a.n a.bound a.notes a.first.values a.first.single a.first.fickle)) e

@@ -53,4 +53,4 @@ returns c =
     let a = c.args in
     let l = c.loop-j in
     let e : l.j ≡ a.n = omega arith in
-    (l.invariant.1.highest-is ∙ ap (λ (k : ℕ). highest k (qualifying a.n a.source a.bound a.heard (map spoken_in a.notes) a.held)) e, l.invariant.1.layout_is)
+    (l.invariant.1.highest_is ∙ ap (λ (k : ℕ). highest k (qualifying a.n a.source a.bound a.heard (map spoken_in a.notes) a.held)) e, l.invariant.1.layout_is)
