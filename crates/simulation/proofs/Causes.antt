@@ -29,8 +29,8 @@ use Rattle.quorum.proofs.Words.{start_parts}
 use Rattle.simulation.specs.contracts.Outcome.{the_type}
 
 -- an outcome other than Played has a number that is not 0
-pub not_played : (o : Outcome) → OneOf (1 ∷ 2 ∷ 3 ∷ 4 ∷ 5 ∷ 6 ∷ 7 ∷ 8 ∷ []) (tag_of the_type o) → eqb (number_of o) 0 ≡ false
-not_played Played h = absurd (miss (1 ∷ 2 ∷ 3 ∷ 4 ∷ 5 ∷ 6 ∷ 7 ∷ 8 ∷ []) 0 tt h)
+pub not_played : (o : Outcome) → (o ≡ Played → ⊥) → eqb (number_of o) 0 ≡ false
+not_played Played h = absurd (h refl)
 not_played WrongRange h = refl
 not_played WrongLink h = refl
 not_played WrongGroups h = refl

@@ -10,6 +10,7 @@ use native.Mathlib.Omega.{arith}
 use lib.Dec.{ltb}
 use lib.ListN.{length, get_or, set, replicate, length-set, length-replicate, get_or-replicate}
 use lib.Seq.{ext_get_or, get_or-set_same, get_or-set_other}
+use Rattle.std.proofs.lemmas.List.{get_or_default}
 use borrow.Author.Count.{below_more}
 use borrow.Author.Tests.{lt-ltb, le-ltb}
 use Rattle.sets.specs.Tables.{table}
@@ -43,6 +44,17 @@ pub played_length : (make : Maker) (s : Played) (k : ℕ) → length (played_aft
 unfolding played_after play_one
 played_length make s zero = refl
 played_length make s (suc k) = length-set (played_after make s k).records _ _ ∙ played_length make s k
+
+-- the same where the record was read with any default, since its place lies within the list
+pub turn_read : (make : Maker) (s₀ : Played) (k n : ℕ) (t : Turn) (records : List Record) (made : Made) (d : Record)
+    → ((k : ℕ) → k < n → Ready (played_after make s₀ k).turn (length s₀.records)) → k < n
+    → ◌≡◌ {A = Played} (record { turn = t; records = records }) (played_after make s₀ k) → made ≡ made_of make t (get_or records t.at d)
+    → ◌≡◌ {A = Played} (record { turn = made.turn; records = set records t.at made.after }) (played_after make s₀ (k + 1))
+turn_read make s₀ k n t records made d ready l e q =
+    let same : length records ≡ length s₀.records = ap (λ (s : Played). length s.records) e ∙ played_length make s₀ k in
+    let turn : t.at ≡ (played_after make s₀ k).turn.at = ap (λ (s : Played). s.turn.at) e in
+    let room : t.at < length records = omega (arith, same, turn, (ready k l).place) in
+    turn_on make s₀ k t records made e (q ∙ ap (made_of make t) (get_or_default records t.at d nothing_heard room))
 
 -- `here r b` is the record of terminal b after r rounds
 module _ (p : Plan) (faulty first : ℕ) (later : List ℕ) (default : ℕ) (here : ℕ → ℕ → Record) where

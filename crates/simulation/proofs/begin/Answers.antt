@@ -17,4 +17,4 @@ returns-in-Played c = let z = sym c.first_cause-outcome.ensures ∙ ap number_of
     (sym z, c.first_turn-turn.ensures, turns_played _ _ _ _ _ _ _ z)
 
 pub returns : goal.returns
-returns c = (c.first_cause-outcome.ensures, c.first_turn-turn.ensures, turns_refused _ _ _ _ _ _ _ _ c.first_cause-outcome.ensures (not_played c.first_cause-outcome.result c.in_default.in_default-own.keys2))
+returns c = (c.first_cause-outcome.ensures, c.first_turn-turn.ensures, turns_refused _ _ _ _ _ _ _ _ c.first_cause-outcome.ensures (not_played c.first_cause-outcome.result c.in_default.not-Played))

@@ -21,4 +21,4 @@ returns-in-Played c =
 
 pub returns : goal.returns
 returns c =
-    (c.shared_cause-outcome.ensures, c.shared_turn-turn.ensures, shared_turns_refused _ _ _ _ _ _ _ _ c.shared_cause-outcome.ensures (not_played c.shared_cause-outcome.result c.in_default.in_default-own.keys2))
+    (c.shared_cause-outcome.ensures, c.shared_turn-turn.ensures, shared_turns_refused _ _ _ _ _ _ _ _ c.shared_cause-outcome.ensures (not_played c.shared_cause-outcome.result c.in_default.not-Played))

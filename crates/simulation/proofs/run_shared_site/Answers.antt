@@ -14,4 +14,4 @@ returns c =
     let b = c.begin_shared-b.ensures in
     let f = c.ranges in
     let left = c.play_shared_array.ensures ∙ shared_array_left _ _ _ _ _ _ f.value.fits f.default.fits _ _ b.1 b.2 _ c.start.ensures in
-    (b.0, (left, λ h. shared_array_promised _ _ _ _ _ _ f.value.fits f.default.fits (sym b.0 ∙ h) _ left))
+    record { outcome = b.0; records_after = left; agreement = λ h. shared_array_promised _ _ _ _ _ _ f.value.fits f.default.fits (sym b.0 ∙ h) _ left }

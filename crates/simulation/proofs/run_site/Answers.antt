@@ -9,4 +9,4 @@ play_array-requires c = let b = c.begin-b.ensures in array_ready _ _ _ _ _ _ _ _
 pub returns : goal.returns
 returns c = let b = c.begin-b.ensures in
     let left = c.play_array.ensures ∙ array_left _ _ _ _ _ _ _ _ b.1 b.2 _ c.start.ensures in
-    (b.0, (left, λ h. array_promised _ _ _ _ _ _ (sym b.0 ∙ h) _ left))
+    record { outcome = b.0; records_after = left; demand3 = λ h. array_promised _ _ _ _ _ _ (sym b.0 ∙ h) _ left }
