@@ -2,7 +2,7 @@
 use Prim.Native.Nat.{ℕ, zero, suc, ◌+◌, ◌-◌, ◌≤◌, ◌<◌}
 use mathlib.Core.Path.{◌≡◌, refl, sym, ap, ◌∙◌}
 use mathlib.Core.Logic.{⊎_elim}
-use mathlib.Core.Bool.{true, false, not}
+use mathlib.Core.Bool.{true, false}
 use mathlib.Core.List.{List}
 use native.Mathlib.Omega.{arith}
 use lib.Dec.{ltb}
@@ -12,7 +12,7 @@ use Rattle.sets.specs.Tests.{◌and◌}
 use Rattle.sets.specs.Sets.{mem}
 use Rattle.sets.proofs.Bools.{clash, and_l, and_r, and_i, not_i, not_e, same_test}
 use Rattle.sets.proofs.Laws.{below_or_not, mem_zero, mem_mask, count_mono}
-use Rattle.plan.specs.Plan.{heard_by, hears}
+use Rattle.plan.specs.Plan.{heard_by}
 use Rattle.plan.specs.Deaf.{is_deaf, deaf_set}
 use Rattle.closure.specs.Margin.{has_margin}
 use Rattle.closure.proofs.Witness.{pass_by}

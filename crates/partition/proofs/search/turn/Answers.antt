@@ -15,5 +15,4 @@ overflow_cast-f c =
 
 pub returns-in-Most : goal.returns-in-Most
 returns-in-Most c =
-    let e = c.before.before.before.before.before.before in
-    swept_at_once _ (sound _ e.requires.0) _ _ _ e.ranges.wall.fits e.requires.1 (c.over.ensures ∙ over_hearing _ _ _ _ c.in-Most.is)
+    swept_at_once _ (sound _ c.requires.0) _ _ _ c.ranges.wall.fits c.requires.1 (c.over.ensures ∙ over_hearing _ _ _ _ c.in-Most.is)

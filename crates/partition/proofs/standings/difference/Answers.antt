@@ -20,4 +20,4 @@ pub overflow_sub-result : goal.overflow_sub-result
 overflow_sub-result c = subst (SFits w32) (sym (read c)) (difference_fits c.args.heard (c.args.f + 1) c.requires.1 (few c))
 
 pub returns : goal.returns
-returns c = to_z-of_z (sub-result c) ∙ read c
+returns c = to_z-of_z (overflow_sub-result c) ∙ read c

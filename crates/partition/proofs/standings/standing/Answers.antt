@@ -1,6 +1,7 @@
 -- The plan tells which it is. Assumes nothing.
 use mathlib.Core.Path.{sym, ◌∙◌}
 use native.Mathlib.Omega.{arith}
+use mir.Syntax.{w32}
 use mir.Facts.{to_z-of_z}
 use Rattle.plan.proofs.Laws.{sound}
 use Rattle.partition.proofs.Rows.{direct_mem}
@@ -20,4 +21,4 @@ pub difference-margin-requires : goal.difference-margin-requires
 difference-margin-requires c = let g = c.requires in let k = c.if-p-b.false in let z = c.if-b-p.false in let s = sound _ g.0 in let e = g.3 k (has_margin_lem _ _ k z (sym (direct_mem _ s _ _ g.2 k) ∙ sym c.member.ensures ∙ c.if-member.false)) in let t = s.twenty in let l = s.f_below _ g.1 in (omega arith, omega (arith, fewest_few c.args.p c.args.b))
 
 pub returns : goal.returns
-returns c = let g = c.requires in let k = c.if-p-b.false in let z = c.if-b-p.false in let s = sound _ g.0 in let h = sym (direct_mem _ s _ _ g.2 k) ∙ sym c.member.ensures ∙ c.if-member.false in stands_margin _ _ k z h _ (margin_by _ _ _ _ _ g.1 (g.3 k (has_margin_lem _ _ k z h)) (to_z-of_z (record { sfits = c.difference-margin.type_inv }) ∙ c.difference-margin.ensures))
+returns c = let g = c.requires in let k = c.if-p-b.false in let z = c.if-b-p.false in let s = sound _ g.0 in let h = sym (direct_mem _ s _ _ g.2 k) ∙ sym c.member.ensures ∙ c.if-member.false in stands_margin _ _ k z h _ (margin_by _ _ _ _ _ g.1 (g.3 k (has_margin_lem _ _ k z h)) (to_z-of_z {w = w32} (record { sfits = c.difference-margin.type_inv }) ∙ c.difference-margin.ensures))
