@@ -1,9 +1,10 @@
 use mathlib.Core.Path.{refl, sym, ap, ◌∙◌}
-use mathlib.Core.Logic.{⊎_elim, inl, inr}
+use mathlib.Core.Logic.{inl, inr}
 use lib.ListN.{length}
 use lib.Seq.{sets}
 use Rattle.writer.proofs.WriteLaws.{links_none, room_here, put_turn}
 use native.Mathlib.Omega.{arith}
+use Rattle.writer.proofs.put_links.Goals.{then-linked, else-linked}
 use Rattle.writer.proofs.put_links.Goals as goal
 
 pub loop-k-init : goal.loop-k-init
@@ -16,7 +17,7 @@ pub overflow_add-at : goal.overflow_add-at
 overflow_add-at c = let room = room_here c.args.p c.loop-k.k c.loop-k-test.true c.linked.result c.linked.ensures c.loop-k.at (length c.loop-k.out) c.if-linked.true c.loop-k.invariant.2 in omega arith
 
 pub loop-k-preserved : goal.loop-k-preserved
-loop-k-preserved c = put_turn c.args.p c.loop-k.k c.loop-k-test.true c.linked.result c.linked.ensures c.args.out.now c.loop-k.out c.if-linked.out c.loop-k.at c.if-linked.at (⊎_elim (λ w. inl (w.0.taken, w.5 ∙ w.2.ensures, w.6)) (λ w. inr (w.0.left, w.1, w.2)) c.if-linked.branch) c.loop-k.invariant
+loop-k-preserved c = put_turn c.args.p c.loop-k.k c.loop-k-test.true c.linked.result c.linked.ensures c.args.out.now c.loop-k.out c.if-linked.out c.loop-k.at c.if-linked.at (elim c.if-linked.branch [ then-linked w ↦ inl (w.if-linked.true, w.out-is ∙ w.put_link.ensures, w.at-is) | else-linked w ↦ inr (w.if-linked.false, w.out-is, w.at-is) ]) c.loop-k.invariant
 
 pub shape_of-out : goal.shape_of-out
 shape_of-out c = c.loop-k.invariant.1

@@ -1,7 +1,6 @@
 use Prim.Native.Nat.{ℕ, ◌≤◌}
 use mathlib.Core.Path.{sym, subst}
 use native.Mathlib.Omega.{arith}
-use Rattle.quorum.specs.Quorum.{listed}
 use Rattle.plan.proofs.Laws.{sound}
 use Rattle.writer.proofs.Lines.{links_length}
 use Rattle.writer.proofs.Laws.{sound_listed}
