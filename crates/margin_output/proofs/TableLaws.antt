@@ -149,7 +149,7 @@ module _ (m : ℤ) (small : mag m ≤ 20) where
       go (negsuc v) h = omega arith
 
   read_back : to_z w32 (of_z w32 m) ≡ m
-  read_back = to_z-of_z (record { sfits = lt_of_le_of_lt small (lit< tt) })
+  read_back = to_z-of_z {w = w32} (record { sfits = omega arith })
 
   pub signed_below : lt_z m (pos 0) ≡ true → 45 ∷ decimal (nat_abs m) ≡ signed m
   unfolding signed

@@ -167,7 +167,7 @@ module _ (file : List ℕ) (h : (run_reading file).number ≡ 0) where
 pub rounds_left_out : (file : List ℕ) → RoundsLeftOut file (run_text file)
 rounds_left_out file = record {
   rounds = λ l. (started l).1;
-  none-waits = λ l n passed. enough_rounds file l.0 passed (omega (arith, (started l).1)) (run_no_later file l.0 n);
+  none_waits = λ l n passed. enough_rounds file l.0 passed (omega (arith, (started l).1)) (run_no_later file l.0 n);
 }
   where
     started : (l : LeavesRoundsOut file) → Started l.1.0 l.1.1 l.1.2 Left (run_reading file).progress

@@ -172,7 +172,7 @@ run_playable file h apart =
       twenty = (sound (run_reading file).progress.plan a.plan_sound).twenty;
       forty = a.rounds_within;
       bad_set = a.bad_set apart;
-      in-range = a.starts_sound;
+      in_range = a.starts_sound;
       rises = and_i _ _ (not_i (ne_eqb (edition_of (run_reading file).progress.notice) 0 a.some_edition)) a.rises_played;
     }
 
@@ -188,7 +188,7 @@ run_shared_playable file h shared =
       twenty = (sound (run_reading file).progress.plan a.plan_sound).twenty;
       forty = a.rounds_within;
       bad_set = a.shared_bad_set shared;
-      in-range = a.starts_sound;
+      in_range = a.starts_sound;
       some_default = some_default (run_reading file).progress shared;
       default_small = a.default_small;
     }

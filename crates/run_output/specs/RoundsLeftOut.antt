@@ -29,4 +29,4 @@ none_waits (line ∷ rest) = not (eqb (state_said line) 0) and none_waits rest
 -- n - 1 rounds are played, and where the plan passes and the office issues nothing later, no line of what is printed says that a terminal waits
 pub record RoundsLeftOut (file printed : List ℕ) : Type 0 where
   pub rounds : LeavesRoundsOut file → (run_reading file).progress.rounds ≡ (run_reading file).progress.plan.n - 1
-  pub none_waits_lem : LeavesRoundsOut file → NoLater run_kinds (lines_from [] file) → (verdict (run_reading file).progress.plan).passed ≡ true → none_waits (lines_from [] printed) ≡ true
+  pub none_waits : LeavesRoundsOut file → NoLater run_kinds (lines_from [] file) → (verdict (run_reading file).progress.plan).passed ≡ true → none_waits (lines_from [] printed) ≡ true

@@ -79,7 +79,7 @@ pub record SharedPlayable (p : Progress) : Type 0 where
   pub twenty : p.plan.n ≤ 20
   pub forty : p.rounds ≤ 40
   pub bad_set : shared_fault_cause_of p.plan p.faulty ≡ 0
-  pub in_range_lem : start_sound (layout_of p.notice) p.rounds ≡ true
+  pub in_range : start_sound (layout_of p.notice) p.rounds ≡ true
   pub some_default : p.default ≡ 0 → ⊥
   pub default_small : p.default < 65536
 
@@ -87,5 +87,5 @@ pub record Playable (p : Progress) (later : List ℕ) : Type 0 where
   pub twenty : p.plan.n ≤ 20
   pub forty : p.rounds ≤ 40
   pub bad_set : fault_cause_of p.plan p.faulty ≡ 0
-  pub in_range_lem : start_sound (layout_of p.notice) p.rounds ≡ true
+  pub in_range : start_sound (layout_of p.notice) p.rounds ≡ true
   pub rises : office_sound p.notice (take p.rounds later) ≡ true

@@ -14,4 +14,5 @@ pub returns : goal.returns
 unfolding greatest_text greatest_on
 returns c = let e = c.read_drawing-read.ensures in
     let g = c.greatest_bound-g.ensures ∙ ap greatest_of c.drawing_of.ensures in
-    put_as _ _ _ _ _ _ _ e (c.of_drawing.ensures ∙ ap (λ (t : Told). text_on c.read_drawing-read.result (greatest_answer t)) g ∙ ap greatest_on e) c.put.ensures.value c.put.ensures.out_after
+    let p = put_as _ _ _ _ _ _ _ e (c.of_drawing.ensures ∙ ap (λ (t : Told). text_on c.read_drawing-read.result (greatest_answer t)) g ∙ ap greatest_on e) c.put.ensures.value c.put.ensures.out_after in
+    record { value = p.0; out_after = p.1 }

@@ -10,4 +10,5 @@ of_plan-requires c = c.margins-sheet.ensures
 pub returns : goal.returns
 unfolding margins_text
 returns c = let e = c.read_margins-read.ensures in
-    put_as _ _ _ _ _ _ _ e (c.of_plan.ensures ∙ ap margins_on e) c.put.ensures.value c.put.ensures.out_after
+    let p = put_as _ _ _ _ _ _ _ e (c.of_plan.ensures ∙ ap margins_on e) c.put.ensures.value c.put.ensures.out_after in
+    record { value = p.0; out_after = p.1 }

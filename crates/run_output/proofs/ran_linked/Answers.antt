@@ -6,21 +6,16 @@ use Rattle.run_output.proofs.SiteLaws.{square_small, end_within, rounds_within, 
 use Rattle.run_output.proofs.ran_linked.Goals as goal
 
 pub overflow_mul-end : goal.overflow_mul-end
-overflow_mul-end c = let k = c.before.before.before.before in
-    record { fits = omega (arith, square_small k.args.p k.args.words.now k.args.later.now k.requires.0 k.requires.1 k.requires.2) }
+overflow_mul-end c = record { fits = omega (arith, square_small c.args.p c.args.words.now c.args.later.now c.requires.0 c.requires.1 c.requires.2) }
 
 pub overflow_mul-end-2 : goal.overflow_mul-end-2
-overflow_mul-end-2 c = let k = c.before.before.before.before in
-    record { fits = omega (arith, end_within k.args.p k.args.words.now k.args.later.now k.requires.0 k.requires.1 k.requires.2, k.requires.1) }
+overflow_mul-end-2 c = record { fits = omega (arith, end_within c.args.p c.args.words.now c.args.later.now c.requires.0 c.requires.1 c.requires.2, c.requires.1) }
 
 pub slice_bounds-run_site-end : goal.slice_bounds-run_site-end
-slice_bounds-run_site-end c = let k = c.before.before.before.before.before in
-    sym (length-take-le _ k.args.later.now (rounds_within k.args.p k.args.words.now k.args.later.now k.requires.0 k.requires.1 k.requires.2))
+slice_bounds-run_site-end c = sym (length-take-le _ c.args.later.now (rounds_within c.args.p c.args.words.now c.args.later.now c.requires.0 c.requires.1 c.requires.2))
 
 pub slice_bounds-run_site-end-2 : goal.slice_bounds-run_site-end-2
-slice_bounds-run_site-end-2 c = let k = c.before.before.before.before.before.before in
-    sym (length-take-le _ k.args.words.now (end_within k.args.p k.args.words.now k.args.later.now k.requires.0 k.requires.1 k.requires.2))
+slice_bounds-run_site-end-2 c = sym (length-take-le _ c.args.words.now (end_within c.args.p c.args.words.now c.args.later.now c.requires.0 c.requires.1 c.requires.2))
 
 pub returns : goal.returns
-returns c = let k = c.before.before.before.before.before.before.before.before.before in
-    c.of_site.ensures ∙ ran_lines k.args.p k.args.words.now k.args.later.now k.requires.0 k.requires.1 k.requires.2 _ c.run_site-ran.ensures.records_after.0
+returns c = c.of_site.ensures ∙ ran_lines c.args.p c.args.words.now c.args.later.now c.requires.0 c.requires.1 c.requires.2 _ c.run_site-ran.ensures.records_after

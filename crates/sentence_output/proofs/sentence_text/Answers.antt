@@ -11,4 +11,6 @@ of_plan-requires c = answer_composes _ _ c.verdict-j.ensures.answer
 
 pub returns : goal.returns
 unfolding answer_of sentence_text
-returns c = let e = c.read_plan-read.ensures in put_as _ _ _ _ _ _ _ e (sentence_is _ _ _ _ e c.verdict-j.ensures.answer c.of_plan.ensures) c.put.ensures.value c.put.ensures.out_after
+returns c = let e = c.read_plan-read.ensures in
+    let p = put_as _ _ _ _ _ _ _ e (sentence_is _ _ _ _ e c.verdict-j.ensures.answer c.of_plan.ensures) c.put.ensures.value c.put.ensures.out_after in
+    record { value = p.0; out_after = p.1 }

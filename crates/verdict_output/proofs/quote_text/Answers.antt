@@ -13,4 +13,5 @@ of_plan-requires c = answer_small most_quoted _ c.quote-j.result c.quote-j.ensur
 pub returns : goal.returns
 unfolding quote_of quote_text
 returns c = let e = c.read_quote-read.ensures in
-    put_as _ _ _ _ _ _ _ e (verdict_is most_quoted _ _ _ _ e c.quote-j.ensures.answer c.of_plan.ensures) c.put.ensures.value c.put.ensures.out_after
+    let p = put_as _ _ _ _ _ _ _ e (verdict_is most_quoted _ _ _ _ e c.quote-j.ensures.answer c.of_plan.ensures) c.put.ensures.value c.put.ensures.out_after in
+    record { value = p.0; out_after = p.1 }

@@ -13,4 +13,5 @@ of_plan-requires c = answer_small most_terminals _ c.verdict-j.result c.verdict-
 pub returns : goal.returns
 unfolding answer_of verdict_text
 returns c = let e = c.read_plan-read.ensures in
-    put_as _ _ _ _ _ _ _ e (verdict_is most_terminals _ _ _ _ e c.verdict-j.ensures.answer c.of_plan.ensures) c.put.ensures.value c.put.ensures.out_after
+    let p = put_as _ _ _ _ _ _ _ e (verdict_is most_terminals _ _ _ _ e c.verdict-j.ensures.answer c.of_plan.ensures) c.put.ensures.value c.put.ensures.out_after in
+    record { value = p.0; out_after = p.1 }
