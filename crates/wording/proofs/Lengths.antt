@@ -10,7 +10,6 @@ use lib.Dec.{eqb}
 use lib.ListN.{length, length-append}
 use lib.Pow.{pow_pos}
 use borrow.Author.Tests.{eqb-true}
-use Rattle.sets.specs.Tests.{◌and◌}
 use Rattle.sets.specs.Sets.{bit, mem, size, within, is_partition}
 use Rattle.sets.proofs.Bools.{clash, decide, and_r, pick_case}
 use Rattle.sets.proofs.Laws.{below_or_not, mem_zero, count_cong, all_at, subset_fewer}

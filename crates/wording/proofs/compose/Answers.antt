@@ -8,6 +8,6 @@ use Rattle.wording.proofs.compose.Goals as goal
 
 pub returns : goal.returns
 returns c = let s = c.sentence-s.ensures in let out = c.args.out.now in record {
-  value = c.put.ensures.value ∙ ap₂ (λ (k : ℕ) (l : List ℕ). written_of k (length l) (length out)) s.0 s.1;
-  out_after = c.put.ensures.out_after ∙ ap (λ (l : List ℕ). put_into l out) s.1;
+  value = c.put.ensures.value ∙ ap₂ (λ (k : ℕ) (l : List ℕ). written_of k (length l) (length out)) s.cause s.sentence;
+  out_after = c.put.ensures.out_after ∙ ap (λ (l : List ℕ). put_into l out) s.sentence;
 }
