@@ -21,7 +21,7 @@ pub(crate) fn lent_of(outcome: Outcome, records: [Record; 5]) -> Lent {
     }
 }
 
-// The one function that lends records; it is proved by hand, so it does nothing else.
+// The one function that lends records; it does nothing else.
 fn lend(
     p: Plan,
     faulty: u32,

@@ -3,7 +3,7 @@ use Rattle.std.proofs.Common.{◌≡◌, ◌-◌, ◌≤◌, length}
 use Rattle.replay.proofs.say.note.Given as goal
 
 abbrev pub invariant-loop-i : goal.invariant-loop-i
-invariant-loop-i l = (l.i ≤ l.one) × (length l.line ≡ length l.at)
+invariant-loop-i l = (l.i ≤ l.places) × (length l.line ≡ length l.initial.line)
 
 abbrev pub decreases-loop-i : goal.decreases-loop-i
-decreases-loop-i l = l.one - l.i
+decreases-loop-i l = l.places - l.i
