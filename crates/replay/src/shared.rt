@@ -82,7 +82,7 @@ pub(crate) fn site(count: usize, body: &[u8], line: &mut [u8]) -> usize {
     0
 }
 
-// The one function that lends records; it is proved by hand, so it does nothing else.
+// The one function that lends records; it does nothing else.
 fn lend(
     p: Plan,
     faulty: u32,
