@@ -5,7 +5,6 @@ use mathlib.Core.Logic.{⊎_elim}
 use mathlib.Core.Bool.{true, false}
 use native.Mathlib.Omega.{arith}
 use borrow.Author.Tests.{eqb-true, eq-eqb}
-use Rattle.sets.specs.Tests.{◌and◌}
 use Rattle.sets.specs.Sets.{mem, size}
 use Rattle.sets.proofs.Bools.{clash, and_l, and_r, and_no_l, not_e, no_by}
 use Rattle.sets.proofs.Laws.{mask_lt, mem_mask, mem_below, mem_zero, some_member, count_none}

@@ -9,8 +9,8 @@ use native.Mathlib.Omega.{arith}
 use borrow.Author.Tests.{ltb-true, lt-ltb, le-ltb, eqb-true}
 use lib.Dec.{eqb, ltb}
 use lib.Pow.{pow_pos}
-use Rattle.sets.specs.Tests.{◌and◌, ◌implies◌, pick}
-use Rattle.sets.specs.Sets.{mem, count, all, some, within}
+use Rattle.sets.specs.Tests.{◌implies◌, pick}
+use Rattle.sets.specs.Sets.{mem, count, all, within}
 use Rattle.sets.proofs.Bools.{clash, decide, no_by, and_r, and_i, not_i, not_yes, not_e, implies_i, implies_e, implies_no, pick_yes, pick_no}
 use Rattle.sets.proofs.Laws.{mem_zero, count_mono, count_none, count_width, all_at, all_i, some_i, some_at, some_cong, all_width}
 use Rattle.quorum.specs.declared.BoundKind.{BoundKind}

@@ -1,16 +1,15 @@
 -- A notice and its halves, and what the office issues later. Assumes nothing.
-use Prim.Native.Nat.{ℕ, ◌+◌, ◌*◌, ◌/◌, ◌%◌, ◌≤◌, ◌<◌}
-use mathlib.Core.Path.{◌≡◌, refl, sym, ap, ◌∙◌, subst}
+use Prim.Native.Nat.{ℕ, ◌+◌, ◌%◌, ◌≤◌, ◌<◌}
+use mathlib.Core.Path.{◌≡◌, refl, sym, ap, ◌∙◌}
 use mathlib.Core.Bool.{true, false}
-use mathlib.Core.List.{List, [], ◌∷◌}
+use mathlib.Core.List.{List, ◌∷◌}
 use native.Mathlib.Numerals.{add-one}
 use native.Mathlib.Omega.{arith}
-use lib.Dec.{eqb, ltb}
+use lib.Dec.{eqb}
 use lib.ListN.{length, get_or, drop}
 use lib.Seq.{drop-cons}
-use borrow.Author.Tests.{eq-eqb, ne_eqb, eqb-true, eqb-false, lt-ltb, le-ltb, ltb-true}
-use Rattle.sets.specs.Tests.{◌and◌, ◌or◌, pick}
-use Rattle.sets.proofs.Bools.{clash, decide, or_l, or_r, or_no, no_by, and_yes, and_no_l, and_l, and_r, pick_yes, pick_no, pick_case}
+use borrow.Author.Tests.{eq-eqb, ne_eqb, eqb-true, lt-ltb, le-ltb}
+use Rattle.sets.proofs.Bools.{clash, or_l, or_r, or_no, and_yes, and_no_l, pick_yes, pick_no, pick_case}
 use Rattle.quorum.specs.Notice.{notice_of, edition_of, layout_of, silent, first_edition, rising}
 
 -- ---- the halves

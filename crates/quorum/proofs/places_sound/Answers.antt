@@ -1,5 +1,4 @@
 use mathlib.Core.Path.{◌≡◌, sym, ◌∙◌}
-use mathlib.Core.Bool.{true}
 use native.Mathlib.Omega.{arith}
 use Rattle.sets.proofs.Laws.{all_i, all_no, all_next}
 use Rattle.quorum.proofs.places_sound.Goals as goal

@@ -4,7 +4,7 @@ use mathlib.Core.Path.{sym, ap, ◌∙◌}
 use borrow.Author.Tests.{eq-eqb, ne_eqb}
 use lib.Dec.{eqb}
 use Rattle.sets.proofs.Bools.{or_l, or_none}
-use Rattle.quorum.specs.Notice.{edition_of, layout_of, silent}
+use Rattle.quorum.specs.Notice.{silent}
 use Rattle.quorum.proofs.silent.Goals as goal
 
 pub returns-then-edition_of-eq0 : goal.returns-then-edition_of-eq0
