@@ -1,7 +1,7 @@
 /* One weighbridge terminal: its record, the step that plays one round of it, what it says, and how the source's
  * terminal takes a later notice of its office.
  *
- * The functions are in libfirmware.a ('rt staticlib firmware'), for x86-64 with the System V calling
+ * The functions are in libfirmware.a ('rt lib' in crates/firmware_c), for x86-64 with the System V calling
  * convention. They are proved: for any bytes that are handed in they end, touch no memory but their
  * arguments, and answer as the words below say. They use no heap and no function from outside. Records and
  * answers go by value, so a step has several of them on the stack: under 19 KiB in all, and under 23 KiB on a

@@ -28,8 +28,14 @@ fn progress(proved: u8) -> String {
     format!("hulmayek: {proved} of 2 crates proved, {ALL}\n")
 }
 
+/// What rt was called for: each program in the folder of its crate.
+fn rt_calls(copy: &Copy, programs: &str) -> String {
+    let call = |name| format!("{}/crates/{name}: run\n", copy.place.display());
+    programs.split_whitespace().map(call).collect()
+}
+
 fn rt_call(copy: &Copy) -> String {
-    format!("{}: check verdict\n", copy.place.display())
+    rt_calls(copy, "verdict")
 }
 
 fn missing_tools(checks: &mut Checks, copy: &Copy) {
@@ -65,7 +71,8 @@ fn first_use(checks: &mut Checks, copy: &Copy) {
     let said = progress(0) + &progress(2) + SITE;
     checks.ends("first use", &done, 0, ANSWER, &said);
     let log = read(&copy.place.join("target/hulmayek/rt.log"));
-    checks.has_line("rt's words are in the log", &log, "rt: low proved (0 s)");
+    let said = "fn verdict::main: proved";
+    checks.has_line("rt's words are in the log", &log, said);
     let calls = rt_call(copy) + "cargo build --release --offline\n";
     checks.same("each was called once", &calls, &copy.calls());
     let done = copy.call(&["verdict", "-"]);
@@ -123,10 +130,7 @@ const EACH_WORD: [(&str, &str); 26] = [
 fn each_word(checks: &mut Checks, copy: &Copy) {
     for (word, programs) in EACH_WORD {
         let done = copy.call(&[word, "-"]);
-        let wanted = match programs {
-            "" => String::new(),
-            names => format!("{}: check {names}\n", copy.place.display()),
-        };
+        let wanted = rt_calls(copy, programs);
         checks.same(&format!("{word} has proved"), &wanted, &copy.calls());
         let answer = format!("{word} -\ngiven\n");
         checks.same(&format!("{word} answers"), &answer, &done.out);
@@ -139,7 +143,7 @@ fn each_word(checks: &mut Checks, copy: &Copy) {
 /// A word that may ask several programs has all of them, and of one that is gone each word that asks
 /// it builds it again.
 fn several_words(checks: &mut Checks, copy: &Copy) {
-    let call = |programs: &str| format!("{}: check {programs}\n", copy.place.display());
+    let call = |programs: &str| rt_calls(copy, programs);
     let table = [
         ("rewrite", "archive", call("verdict archive run rewrite")),
         ("run", "archive", String::new()),
@@ -348,7 +352,7 @@ fn not_proved(checks: &mut Checks, copy: &Copy) {
         let done = copy.call(&["verdict", "-"]);
         let log = copy.place.join("target/hulmayek/rt.log");
         let why = format!(
-            "hulmayek: not proved, so there is no program to ask: {} has what 'rt check' said\n",
+            "hulmayek: not proved, so there is no program to ask: {} has what 'rt run' said\n",
             log.display()
         );
         checks.ends(
@@ -358,7 +362,10 @@ fn not_proved(checks: &mut Checks, copy: &Copy) {
             "",
             &(progress(0) + &why),
         );
-        checks.has_line("and so it does", &read(&log), "rt: low NOT PROVED");
+        let said = "rt: the library low did not build, so nothing above it was checked";
+        checks.has_line("and so it does", &read(&log), said);
+        let program = copy.place.join("target/bin/verdict");
+        checks.holds("and there is none", !program.exists());
     }
     copy.remove("broken");
     let done = copy.call(&["verdict", "-"]);
