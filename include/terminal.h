@@ -1,10 +1,11 @@
 /* One weighbridge terminal: its record, the step that plays one round of it, what it says, and how the source's
  * terminal takes a later notice of its office.
  *
- * The functions are in libfirmware.a ('rt lib' in crates/firmware_c), for x86-64 with the System V calling
+ * The functions are in libfirmware.a ('bash tools/archive'), for x86-64 with the System V calling
  * convention. They are proved: for any bytes that are handed in they end, touch no memory but their
- * arguments, and answer as the words below say. They use no heap and no function from outside. Records and
- * answers go by value, so a step has several of them on the stack: under 19 KiB in all, and under 23 KiB on a
+ * arguments, and answer as the words below say. They use no heap and no function from outside; their long copies
+ * and fills are by a memcpy and a memset inside the archive, which no proof covers (tools/memory.c). Records and
+ * answers go by value, so a step has several of them on the stack: under 30 KiB in all, and under 32 KiB on a
  * shared channel, measured. The caller's compiler may copy them by a call of memcpy, as clang does: a board
  * without a C library then has to supply that, for its own code and not for the archive.
  *
