@@ -195,8 +195,8 @@ fn notes_apart(notes: [Note; 20]) -> [Note; 20]
     ]
 }
 
-// An answer again, note by note. All notes at once the compiler would copy by a call of memcpy, and the
-// archive must need nothing from outside, which tests/firmware/run looks at.
+// An answer again, note by note: fewer copies of all notes at once, which the compiler makes by a call
+// of memcpy. The archive has one of its own (tools/memory.c), since it must need nothing from outside.
 fn apart(number: u8, kept: BoardRecord) -> BoardAnswer
     ensures { result ≡ record { number = number; after = kept } }
 {
