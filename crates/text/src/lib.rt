@@ -2,8 +2,7 @@
 // lent list once it is whole.
 #![tactic(auto)]
 
-ghost use Rattle.std.specs.Prelude.{◌≡◌, [], ◌∷◌, ◌≤◌, ◌/◌, ◌%◌, length};
-ghost use Rattle.std.proofs.Math.Seq.{paste};
+ghost use Rattle.std.specs.Prelude.{◌≡◌, [], ◌∷◌, ◌/◌, ◌%◌, length};
 ghost use Rattle.digits.specs.Digits.{character_of};
 ghost use Rattle.text.specs.Digits.{hex_byte, hex_pair, hex_triple, decimal};
 ghost use Rattle.text.specs.Texts.{held, joined, written_of, put_into};
@@ -44,10 +43,7 @@ pub fn answer(number: u8, len: usize, room: usize) -> Written
     ensures { result ≡ written_of number len room }
 {
     if len <= room {
-        return Written {
-            number: number,
-            len: len,
-        };
+        return Written { number, len };
     }
     if number == 0 {
         return Written { number: 12, len: 0 };
@@ -55,18 +51,6 @@ pub fn answer(number: u8, len: usize, room: usize) -> Written
     Written {
         number: number,
         len: 0,
-    }
-}
-
-// The first n bytes of one list over the first n of another.
-fn copy(from: &[u8], n: usize, to: &mut [u8])
-    requires { (n ≤ length from.now) × (n ≤ length to.old) }
-    ensures { to.new ≡ paste to.old 0 from.now n }
-{
-    let mut i = 0;
-    while i < n {
-        to[i] = from[i];
-        i += 1;
     }
 }
 
@@ -85,10 +69,9 @@ impl Text {
     pub fn raw(mut self, b: u8) -> Text
         ensures { held result ≡ joined (held self) (b ∷ []) }
     {
-        let at = self.len;
-        if at < ROOM {
-            self.bytes[at] = b;
-            self.len = at + 1;
+        if self.len < ROOM {
+            self.bytes[self.len] = b;
+            self.len += 1;
         }
         self
     }
@@ -135,10 +118,8 @@ impl Text {
         ensures { held result ≡ joined (held self) bytes.now }
     {
         let mut t = self;
-        let mut i = 0;
-        while i < bytes.len() {
-            t = t.raw(bytes[i]);
-            i += 1;
+        for b in bytes {
+            t = t.raw(*b);
         }
         t
     }
@@ -147,39 +128,21 @@ impl Text {
     pub fn begins(self, bytes: &[u8]) -> bool
         ensures { result ≡ begins (held self) bytes.now }
     {
-        let own = self.bytes;
-        let n = self.count();
-        if bytes.len() < n {
-            return false;
-        }
-        let mut i = 0;
-        while i < n {
-            if own[i] != bytes[i] {
-                return false;
-            }
-            i += 1;
-        }
-        true
+        bytes.starts_with(self.held())
     }
 
     // It holds just these bytes.
     pub fn is(self, bytes: &[u8]) -> bool
         ensures { result ≡ same (held self) bytes.now }
     {
-        if self.count() == bytes.len() {
-            return self.begins(bytes);
-        }
-        false
+        self.held() == bytes
     }
 
-    // How many bytes it holds.
-    fn count(self) -> usize
-        ensures { result ≡ length (held self) }
+    // The bytes that it holds; where its length is past its room, all of them.
+    fn held(&self) -> &[u8]
+        ensures { result.now ≡ held self.now }
     {
-        if self.len < ROOM {
-            return self.len;
-        }
-        ROOM
+        &self.bytes[..self.len.min(ROOM)]
     }
 
     // The text at the front of the list, if it has room.
@@ -187,11 +150,10 @@ impl Text {
         ensures value { result ≡ written_of number (length (held self)) (length out.old) }
         ensures out_after { out.new ≡ put_into (held self) out.old }
     {
-        let n = self.count();
-        let w = answer(number, n, out.len());
-        if n <= out.len() {
-            let bytes = self.bytes;
-            copy(&bytes, n, out);
+        let held = self.held();
+        let w = answer(number, held.len(), out.len());
+        if held.len() <= out.len() {
+            out[..held.len()].copy_from_slice(held);
         }
         w
     }
