@@ -1,4 +1,3 @@
-use Prim.Native.Nat.{◌≤◌, ◌-◌}
 use mathlib.Core.Path.{◌≡◌}
 use mathlib.Core.Bool.{not}
 use lib.ListN.{get_or}
@@ -8,7 +7,4 @@ use Rattle.faults.proofs.fitting_none.Given as goal
 
 abbrev pub invariant-loop-b : goal.invariant-loop-b
 invariant-loop-b l =
-    (l.b ≤ 20) × (l.found ≡ mask l.b (λ i. not (some 16 (λ k. all 32 (λ j. not (mem j (get_or l.rows i 0) and mem j (get_or l.others k 0)))))))
-
-abbrev pub decreases-loop-b : goal.decreases-loop-b
-decreases-loop-b l = 20 - l.b
+    l.found ≡ mask l.b (λ i. not (some 16 (λ k. all 32 (λ j. not (mem j (get_or l.rows i 0) and mem j (get_or l.others k 0))))))

@@ -15,20 +15,16 @@ use Rattle.faults.specs.Rows.{over}
 use native.Mathlib.Omega.{arith}
 use Rattle.faults.proofs.over.Goals as goal
 
--- The loop's invariant: the mask so far is that of the rows passed. Assumes nothing.
-
 pub loop-b-init : goal.loop-b-init
 unfolding mask
-loop-b-init c = (omega arith, refl)
+loop-b-init c = refl
 
 pub loop-b-preserved : goal.loop-b-preserved
-loop-b-preserved c = (
-  omega arith,
-  (let row : Fits w32 (get_or c.args.rows c.loop-b.b 0) = search rules in
-      next_bit _ _ _ _ (omega arith) c.loop-b.invariant.1 (byte_bit (ltb c.args.f (ones (bit_and (get_or c.args.rows c.loop-b.b 0) c.args.a))) ∙ ap (λ (m : ℕ). bit (ltb c.args.f m)) (ones_and 32 _ _ row.fits))),
-)
+loop-b-preserved c =
+    let row : Fits w32 (get_or c.args.rows c.loop-b.b 0) = search rules in
+    next_bit _ _ _ _ (omega arith) c.loop-b.invariant (byte_bit (ltb c.args.f (ones (bit_and (get_or c.args.rows c.loop-b.b 0) c.args.a))) ∙ ap (λ (m : ℕ). bit (ltb c.args.f m)) (ones_and 32 _ _ row.fits))
 
 pub returns : goal.returns
 unfolding over
 returns c = let e : c.loop-b.b ≡ 20 = omega arith in
-    c.loop-b.invariant.1 ∙ ap (λ (k : ℕ). mask k (λ i. ltb c.args.f (count 32 (λ j. mem j (get_or c.args.rows i 0) and mem j c.args.a)))) e
+    c.loop-b.invariant ∙ ap (λ (k : ℕ). mask k (λ i. ltb c.args.f (count 32 (λ j. mem j (get_or c.args.rows i 0) and mem j c.args.a)))) e

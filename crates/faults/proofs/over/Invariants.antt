@@ -1,4 +1,3 @@
-use Prim.Native.Nat.{◌≤◌, ◌-◌}
 use mathlib.Core.Path.{◌≡◌}
 use lib.Dec.{ltb}
 use lib.ListN.{get_or}
@@ -7,7 +6,4 @@ use Rattle.sets.specs.Sets.{mem, mask, count}
 use Rattle.faults.proofs.over.Given as goal
 
 abbrev pub invariant-loop-b : goal.invariant-loop-b
-invariant-loop-b l = (l.b ≤ 20) × (l.found ≡ mask l.b (λ i. ltb l.f (count 32 (λ j. mem j (get_or l.rows i 0) and mem j l.a))))
-
-abbrev pub decreases-loop-b : goal.decreases-loop-b
-decreases-loop-b l = 20 - l.b
+invariant-loop-b l = l.found ≡ mask l.b (λ i. ltb l.f (count 32 (λ j. mem j (get_or l.rows i 0) and mem j l.a)))
