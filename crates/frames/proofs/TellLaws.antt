@@ -8,6 +8,7 @@ use native.Mathlib.Omega.{arith}
 use lib.Dec.{eqb, ltb, leb}
 use lib.ListN.{get_or}
 use borrow.Author.Tests.{eq-eqb, ne_eqb, lt-ltb, le-ltb, le-leb, lt-leb, leb-true, ltb-true}
+use Rattle.std.specs.Prelude.{Option}
 use Rattle.sets.specs.Tests.{◌or◌, pick}
 use Rattle.sets.specs.Causes.{◌gives◌, first_cause, given}
 use Rattle.sets.specs.Sets.{mem}
@@ -24,8 +25,6 @@ use Rattle.plan.specs.Plan.{hears}
 use Rattle.faults.specs.Check.{fault_cause_of, shared_fault_cause_of}
 use Rattle.lines.specs.declared.Form.{Form}
 use Rattle.lines.specs.declared.Form.TheVariants.{New}
-use Rattle.lines.specs.declared.Rounds.{Rounds}
-use Rattle.lines.specs.declared.Rounds.TheVariants.{Left}
 use Rattle.lines.specs.declared.Frame.{Frame}
 use Rattle.lines.specs.declared.Frame.TheVariants.{Foreign, Unknown, Head, Link, Group, Channel, FaultSet, Start, Later, Message, Broadcast}
 use Rattle.frames.specs.declared.Stage.TheVariants.{Nothing, Links, Grouped, Shared, Faults, Started, Words}
@@ -224,12 +223,8 @@ module _ (p : Progress) (s : ℕ) where
 
 -- ---- a start
 
--- one that gives no rounds
-pub rounds_left : (n played : ℕ) (rounds : Rounds) → rounds ≡ Left → played ≡ n - 1 → played ≡ rounds_of n rounds
-rounds_left n played rounds e h = h ∙ sym (ap (rounds_of n) e)
-
 -- what is known after one, by the notice and the rounds that it was found to mean
-pub start_next : (p : Progress) (form : Form) (edition layout : ℕ) (rounds : Rounds) (notice played : ℕ) → notice ≡ notice_of edition layout
+pub start_next : (p : Progress) (form : Form) (edition layout : ℕ) (rounds : Option ℕ) (notice played : ℕ) → notice ≡ notice_of edition layout
     → played ≡ rounds_of p.plan.n rounds
     → record { stage = Started; plan = p.plan; faulty = p.faulty; form = form; notice = notice; rounds = played; issued = 0; edition = edition; default = p.default }
     ≡ after p (Start form edition layout rounds)
@@ -247,7 +242,7 @@ start_next p form edition layout rounds notice played e d i = record {
 }
 
 -- the tests in their order
-module _ (p : Progress) (form : Form) (edition layout : ℕ) (rounds : Rounds) (barred : Bool) (v : barred ≡ has_edition form) where
+module _ (p : Progress) (form : Form) (edition layout : ℕ) (rounds : Option ℕ) (barred : Bool) (v : barred ≡ has_edition form) where
   pub start_other : wrong_form p form barred ≡ true → start_cause p form edition layout rounds ≡ 2
   unfolding start_cause
   start_other o = cause_here _ _ _ (sym (ap (wrong_form p form) v) ∙ o)

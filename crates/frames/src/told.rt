@@ -12,7 +12,7 @@ use super::{
     Heads, Progress, Stage, has_edition, in_plan, is_at, is_shared, is_started, planned, unstarted,
     wrong_form,
 };
-use lines::{Form, Frame, Rounds};
+use lines::{Form, Frame};
 use plan::Plan;
 use quorum::{Bound, BoundKind};
 
@@ -280,23 +280,15 @@ fn fault_set(p: Progress, s: u32) -> Told
 
 // The rounds of a start frame on n terminals: n - 1 where they are left out. Before the head n is 0,
 // and a start is refused whatever it means.
-fn rounds_of(n: usize, rounds: Rounds) -> u8
+fn rounds_of(n: usize, rounds: Option<u8>) -> u8
     requires { n ≤ most_terminals }
     ensures { result ≡ rounds_of n rounds }
 {
-    match rounds {
-        Rounds::Given(r) => r,
-        Rounds::Left => {
-            if n < 1 {
-                return 0;
-            }
-            (n - 1) as u8
-        }
-    }
+    rounds.unwrap_or(n.saturating_sub(1) as u8)
 }
 
 // The cause that refuses a start, 0 for none.
-fn start_cause(p: Progress, form: Form, edition: u16, layout: u16, rounds: Rounds) -> u8
+fn start_cause(p: Progress, form: Form, edition: u16, layout: u16, rounds: Option<u8>) -> u8
     requires { p.plan.n ≤ most_terminals }
     ensures { result ≡ start_cause p form edition layout rounds }
 {
@@ -316,7 +308,7 @@ fn start_cause(p: Progress, form: Form, edition: u16, layout: u16, rounds: Round
     3
 }
 
-fn start(p: Progress, form: Form, edition: u16, layout: u16, rounds: Rounds) -> Told
+fn start(p: Progress, form: Form, edition: u16, layout: u16, rounds: Option<u8>) -> Told
     requires { p.plan.n ≤ most_terminals }
     ensures { (result.cause ≡ start_cause p form edition layout rounds) × (result.cause ≡ 0 → result.progress ≡ after p (Start form edition layout rounds)) }
 {
