@@ -8,9 +8,9 @@ ghost use Rattle.terminal.specs.declared.State.TheVariants.{Taken};
 ghost use Rattle.terminal.specs.Shown.{Whole, view_of, shown_over};
 ghost use Rattle.terminal.specs.Votes.{HaveRoom};
 ghost use Rattle.terminal.specs.Answer.{number_of};
-ghost use Rattle.terminal.specs.Channel.{first_hearing, word_or, shared_step};
+ghost use Rattle.terminal.specs.Channel.{first_hearing, word_or, shared_step, shared_cause_of};
 
-use super::{Outcome, Record, State, number, play};
+use super::{Record, State, StepError, play, record_cause, site_cause};
 use quorum::Bound;
 
 // What terminal j said, as a notice; silence past the list's end.
@@ -97,23 +97,23 @@ pub(crate) fn play_shared(
     stepped
 }
 
-// The first cause that applies, from that of a step: a default that is 0 comes after the site's causes and
-// before those of the record and the list.
-pub(crate) fn with_nine(found: Outcome, default: u16) -> Outcome
-    ensures { number_of result ≡ pick (eqb (number_of found) 4 or eqb (number_of found) 5 or eqb (number_of found) 17) (number_of found) (pick (eqb default 0) 9 (number_of found)) }
+// The first cause that applies: a default that is 0 comes after the site's causes and before those of the
+// record and the list.
+pub(crate) fn first_cause(
+    n: usize,
+    source: usize,
+    bound: Bound,
+    own: usize,
+    heard: u32,
+    default: u16,
+    before: Record,
+    words: usize,
+) -> Result<(), StepError>
+    ensures { (number_of result ≡ shared_cause_of n source bound own heard default before words) × (number_of result ≡ 0 → Whole before.notes) }
 {
-    let cause = number(found);
-    if cause == 4 {
-        return found;
-    }
-    if cause == 5 {
-        return found;
-    }
-    if cause == 17 {
-        return found;
-    }
+    site_cause(n, source, bound, own, heard)?;
     if default == 0 {
-        return Outcome::WrongLayout;
+        return Err(StepError::WrongLayout);
     }
-    found
+    record_cause(n, source, own, heard, before, words)
 }

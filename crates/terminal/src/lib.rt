@@ -11,7 +11,7 @@ ghost use Rattle.sets.specs.Tests.{◌and◌, ◌implies◌};
 ghost use Rattle.sets.specs.Sets.{mem};
 ghost use Rattle.terminal.specs.Rule.{start, source_start, among, in_edition, is_new, with_new, noted, held_by, chosen, taking, step};
 ghost use Rattle.terminal.specs.Shown.{values_in, spoken_in, Whole, view_of, written_over, no_note, notes_over, shown_over, shown, says};
-ghost use Rattle.terminal.specs.Votes.{HavePlaces, HaveRoom};
+ghost use Rattle.terminal.specs.Votes.{HavePlaces, HaveRoom, site_cause_of, record_cause_of};
 ghost use Rattle.terminal.specs.Answer.{number_of, state_sound, counts_sound, record_sound, cause_of, record_after, issue_cause, record_issued};
 ghost use Rattle.terminal.specs.Channel.{shared_cause_of, shared_record_after};
 
@@ -44,9 +44,9 @@ pub struct Record {
     pub notes: [Note; 20],
 }
 
-#[derive(Clone, Copy)]
-pub enum Outcome {
-    Accepted,
+// Why a step, or a later notice of the office, is refused.
+#[derive(Clone, Copy, Debug, PartialEq, Eq)]
+pub enum StepError {
     WrongRange,
     WrongLink,
     WrongGroups,
@@ -57,25 +57,25 @@ pub enum Outcome {
 }
 
 // The documents' number of the outcome, 0 where nothing is refused.
-pub fn number(o: Outcome) -> u8
-    ensures { result ≡ number_of o }
+pub fn number(outcome: Result<(), StepError>) -> u8
+    ensures { result ≡ number_of outcome }
 {
-    match o {
-        Outcome::Accepted => 0,
-        Outcome::WrongRange => 4,
-        Outcome::WrongLink => 5,
-        Outcome::WrongGroups => 17,
-        Outcome::WrongLayout => 9,
-        Outcome::WrongEdition => 16,
-        Outcome::WrongLength => 12,
-        Outcome::WrongRecord => 13,
+    match outcome {
+        Ok(()) => 0,
+        Err(StepError::WrongRange) => 4,
+        Err(StepError::WrongLink) => 5,
+        Err(StepError::WrongGroups) => 17,
+        Err(StepError::WrongLayout) => 9,
+        Err(StepError::WrongEdition) => 16,
+        Err(StepError::WrongLength) => 12,
+        Err(StepError::WrongRecord) => 13,
     }
 }
 
 // The record after the step; where it is refused, the record that went in.
 #[derive(Clone, Copy)]
 pub struct Stepped {
-    pub outcome: Outcome,
+    pub outcome: Result<(), StepError>,
     pub after: Record,
 }
 
@@ -316,7 +316,50 @@ fn record_sound(n: usize, source: usize, own: usize, heard: u32, before: Record)
     false
 }
 
-// The first cause that applies. A record that cannot be stepped comes before a wrong length.
+// The first cause that the site gives.
+pub(crate) fn site_cause(
+    n: usize,
+    source: usize,
+    bound: Bound,
+    own: usize,
+    heard: u32,
+) -> Result<(), StepError>
+    ensures { number_of result ≡ site_cause_of n source bound own heard }
+{
+    if !quorum::in_range(n, source, bound.kind) {
+        return Err(StepError::WrongRange);
+    }
+    if !quorum::others(n, own, heard) {
+        return Err(StepError::WrongLink);
+    }
+    if !quorum::groups_sound(n, source, bound) {
+        return Err(StepError::WrongGroups);
+    }
+    Ok(())
+}
+
+// The first cause that the record and the list give. A record that cannot be stepped comes before a wrong
+// length.
+pub(crate) fn record_cause(
+    n: usize,
+    source: usize,
+    own: usize,
+    heard: u32,
+    before: Record,
+    words: usize,
+) -> Result<(), StepError>
+    ensures { (number_of result ≡ record_cause_of n source own heard before words) × (number_of result ≡ 0 → Whole before.notes) }
+{
+    if !record_sound(n, source, own, heard, before) {
+        return Err(StepError::WrongRecord);
+    }
+    if words != n {
+        return Err(StepError::WrongLength);
+    }
+    Ok(())
+}
+
+// The first cause that applies.
 fn first_cause(
     n: usize,
     source: usize,
@@ -325,26 +368,11 @@ fn first_cause(
     heard: u32,
     before: Record,
     words: usize,
-) -> Outcome
+) -> Result<(), StepError>
     ensures { (number_of result ≡ cause_of n source bound own heard before words) × (number_of result ≡ 0 → Whole before.notes) }
 {
-    let kind = bound.kind;
-    if quorum::in_range(n, source, kind) {
-        if quorum::others(n, own, heard) {
-            if quorum::groups_sound(n, source, bound) {
-                if record_sound(n, source, own, heard, before) {
-                    if words == n {
-                        return Outcome::Accepted;
-                    }
-                    return Outcome::WrongLength;
-                }
-                return Outcome::WrongRecord;
-            }
-            return Outcome::WrongGroups;
-        }
-        return Outcome::WrongLink;
-    }
-    Outcome::WrongRange
+    site_cause(n, source, bound, own, heard)?;
+    record_cause(n, source, own, heard, before, words)
 }
 
 // The round of a record that can be stepped. It is raised first: a take keeps the raised number. The
@@ -382,16 +410,11 @@ pub fn step(
     ensures { (number_of result.outcome ≡ cause_of n source bound own heard before (length said.now)) × (result.after ≡ record_after n source bound own heard before said.now) }
 {
     let outcome = first_cause(n, source, bound, own, heard, before, said.len());
-    if let Outcome::Accepted = outcome {
-        return Stepped {
-            outcome: Outcome::Accepted,
-            after: play(n, source, bound, own, heard, before, said),
-        };
-    }
-    Stepped {
-        outcome: outcome,
-        after: before,
-    }
+    let after = match outcome {
+        Ok(()) => play(n, source, bound, own, heard, before, said),
+        Err(_) => before,
+    };
+    Stepped { outcome, after }
 }
 
 // The same on a shared channel, where the source may be bad too: said[j] is the layout that terminal j said
@@ -409,18 +432,13 @@ pub fn shared_step(
 ) -> Stepped
     ensures { (number_of result.outcome ≡ shared_cause_of n source bound own heard default before (length said.now)) × (result.after ≡ shared_record_after n source bound own heard default before said.now) }
 {
-    let found = first_cause(n, source, bound, own, heard, before, said.len());
-    let outcome = channel::with_nine(found, default);
-    if let Outcome::Accepted = outcome {
-        return Stepped {
-            outcome: Outcome::Accepted,
-            after: channel::play_shared(n, source, bound, own, heard, default, before, said),
-        };
-    }
-    Stepped {
-        outcome: outcome,
-        after: before,
-    }
+    let words = said.len();
+    let outcome = channel::first_cause(n, source, bound, own, heard, default, before, words);
+    let after = match outcome {
+        Ok(()) => channel::play_shared(n, source, bound, own, heard, default, before, said),
+        Err(_) => before,
+    };
+    Stepped { outcome, after }
 }
 
 // The record is that of an office's terminal, at most at round 40.
@@ -436,20 +454,19 @@ fn office_sound(before: Record) -> bool
 }
 
 // The first cause that refuses a later notice.
-fn issue_cause(before: Record, notice: u32) -> Outcome
+fn issue_cause(before: Record, notice: u32) -> Result<(), StepError>
     ensures { number_of result ≡ issue_cause before notice }
 {
-    let state = before.state;
     if quorum::layout_of(notice) == 0 {
-        return Outcome::WrongLayout;
+        return Err(StepError::WrongLayout);
     }
-    if held(state) < quorum::edition_of(notice) {
-        if office_sound(before) {
-            return Outcome::Accepted;
-        }
-        return Outcome::WrongRecord;
+    if quorum::edition_of(notice) <= held(before.state) {
+        return Err(StepError::WrongEdition);
     }
-    Outcome::WrongEdition
+    if !office_sound(before) {
+        return Err(StepError::WrongRecord);
+    }
+    Ok(())
 }
 
 // The source takes a later notice of its office, in the round that its record shows. A refused one
@@ -458,22 +475,14 @@ pub fn issue(before: Record, notice: u32) -> Stepped
     ensures { (number_of result.outcome ≡ issue_cause before notice) × (result.after ≡ record_issued before notice) }
 {
     let outcome = issue_cause(before, notice);
-    let round = before.round;
-    let notes = before.notes;
-    if let Outcome::Accepted = outcome {
-        return Stepped {
-            outcome: Outcome::Accepted,
-            after: Record {
-                state: State::Taken(round, notice),
-                round: round,
-                notes: notes,
-            },
-        };
-    }
-    Stepped {
-        outcome: outcome,
-        after: before,
-    }
+    let after = match outcome {
+        Ok(()) => Record {
+            state: State::Taken(before.round, notice),
+            ..before
+        },
+        Err(_) => before,
+    };
+    Stepped { outcome, after }
 }
 
 // What the terminal says in the round after the one that its record shows: its notice if it took in
