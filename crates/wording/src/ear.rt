@@ -100,10 +100,8 @@ pub(crate) fn heard(text: &[u8]) -> Ear
         f: 0,
         r: 0,
     };
-    let mut i = 0;
-    while i < text.len() {
-        e = after_byte(e, text[i]);
-        i += 1;
+    for byte in text {
+        e = after_byte(e, *byte);
     }
     e
 }
