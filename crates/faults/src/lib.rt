@@ -53,12 +53,7 @@ pub fn number(c: Result<(), FaultSetError>) -> u8
 pub fn over(rows: [u32; 20], f: u32, a: u32) -> u32
     ensures { result ≡ over rows f a }
 {
-    let mut found: u32 = 0;
-    for b in 0..20 {
-        let more = (f < u32::count_ones(rows[b] & a)) as u32;
-        found = found | (more << b);
-    }
-    found
+    sets::those(20, |b| f < u32::count_ones(rows[b] & a))
 }
 
 // The members of a outside each group.
@@ -88,12 +83,7 @@ fn fitting_none(rows: [u32; 20], groups: [u32; 16], a: u32) -> u32
     ensures { result ≡ mask 20 (λ b. not (some 16 (λ i. all 32 (λ j. (mem j (get_or rows b 0) and mem j a) implies mem j (get_or groups i 0))))) }
 {
     let others = outside_groups(groups, a);
-    let mut found: u32 = 0;
-    for b in 0..20 {
-        let more = meets_all(others, rows[b]) as u32;
-        found = found | (more << b);
-    }
-    found
+    sets::those(20, |b| meets_all(others, rows[b]))
 }
 
 // The terminals that hear enough members of a.

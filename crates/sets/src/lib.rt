@@ -2,7 +2,7 @@
 // a terminal from 32 up is in no set.
 #![tactic(auto)]
 
-ghost use Rattle.std.specs.Prelude.{◌≡◌, min};
+ghost use Rattle.std.specs.Prelude.{◌≡◌, ℕ, ◌<◌, ◌^◌, min};
 ghost use Rattle.sets.specs.Sets.{mem, within, singleton, with, without, outside, is_partition};
 
 pub fn member(s: u32, i: usize) -> bool
@@ -53,6 +53,21 @@ pub fn outside(n: usize, a: u32, b: u32) -> u32
         return ((1u32 << n) - 1) & !(a | b);
     }
     !(a | b)
+}
+
+// The terminals below n that pass the test, up to 32 of them. No terminal is passed over by a branch, so that the
+// compiler can look at several at once.
+pub fn those<F: Fn(usize) -> bool>(n: usize, test: F) -> u32
+    requires { (j : ℕ) → j < n → F.pre test j }
+    ensures below { result < 2 ^ min n 32 }
+    ensures tested { (j : ℕ) → j < min n 32 → F.post test j (mem j result) }
+{
+    let mut found: u32 = 0;
+    for j in 0..n.min(32) {
+        let one = test(j) as u32;
+        found = found | (one << j);
+    }
+    found
 }
 
 // Each terminal below n is in one of three sets, and nobody else is.

@@ -1,30 +1,23 @@
-use mir.Val.{Fits}
-use mir.Syntax.{w32}
-use borrow.Author.Rules.{rules}
-use mathlib.Core.Path.{refl}
-use Prim.Native.Nat.{ℕ}
+use Prim.Native.Nat.{ℕ, ◌<◌}
 use mathlib.Core.Path.{◌≡◌, ap, ◌∙◌}
 use lib.Bits.{bit_and}
 use lib.Count.{ones}
 use lib.Dec.{ltb}
 use lib.ListN.{get_or}
-use Rattle.sets.specs.Tests.{◌and◌}
-use Rattle.sets.specs.Sets.{bit, mem, mask, count}
-use Rattle.sets.proofs.Masks.{ones_and, next_bit, byte_bit}
+use mir.Val.{Fits}
+use mir.Syntax.{w32}
+use borrow.Author.Rules.{rules}
+use Rattle.sets.specs.Sets.{mem}
+use Rattle.sets.proofs.Laws.{mask_of}
+use Rattle.sets.proofs.Masks.{ones_and}
 use Rattle.faults.specs.Rows.{over}
-use native.Mathlib.Omega.{arith}
 use Rattle.faults.proofs.over.Goals as goal
-
-pub loop-b-init : goal.loop-b-init
-unfolding mask
-loop-b-init c = refl
-
-pub loop-b-preserved : goal.loop-b-preserved
-loop-b-preserved c =
-    let row : Fits w32 (get_or c.args.rows c.loop-b.b 0) = search rules in
-    next_bit _ _ _ _ (omega arith) c.loop-b.invariant (byte_bit (ltb c.args.f (ones (bit_and (get_or c.args.rows c.loop-b.b 0) c.args.a))) ∙ ap (λ (m : ℕ). bit (ltb c.args.f m)) (ones_and 32 _ _ row.fits))
 
 pub returns : goal.returns
 unfolding over
-returns c = let e : c.loop-b.b ≡ 20 = omega arith in
-    c.loop-b.invariant ∙ ap (λ (k : ℕ). mask k (λ i. ltb c.args.f (count 32 (λ j. mem j (get_or c.args.rows i 0) and mem j c.args.a)))) e
+returns c =
+    let a = c.args in
+    let heard : (b : ℕ) → b < 20 → mem b c.those.result ≡ ltb a.f (ones (bit_and (get_or a.rows b 0) a.a)) =
+    λ b k. let t = c.those.ensures.tested b k in search rules in
+    mask_of 20 c.those.result _ c.those.ensures.below
+    (λ b k. let row : Fits w32 (get_or a.rows b 0) = search rules in heard b k ∙ ap (ltb a.f) (ones_and 32 _ _ row.fits))
