@@ -3,7 +3,7 @@
 
 ghost use Rattle.std.specs.Prelude.{◌≡◌, length};
 ghost use Rattle.text.specs.Texts.{held, put_into};
-ghost use Rattle.output.specs.OnFile.{refusal_line, on_line, answer_on};
+ghost use Rattle.output.specs.OnFile.{refusal_line, text_on, on_line, answer_on};
 
 use frames::FileRead;
 use text::Text;
@@ -23,7 +23,7 @@ pub fn on_line(line: u16, w: text::Written) -> Written
 {
     Written {
         number: w.number,
-        line: line,
+        line,
         len: w.len,
     }
 }
@@ -33,6 +33,16 @@ pub fn refusal(number: u8, line: u16) -> Text
     ensures { held result ≡ refusal_line number line }
 {
     text::empty().byte(255).byte(number).pair(line).raw(10)
+}
+
+// The text on a file: what is said where it is accepted, or why it is refused.
+pub fn text_on(read: FileRead, said: Text) -> Text
+    ensures { held result ≡ text_on read (held said) }
+{
+    if read.number != 0 {
+        return refusal(read.number, read.line);
+    }
+    said
 }
 
 // The text on a file at the front of the list, if it has room.
