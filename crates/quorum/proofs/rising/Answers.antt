@@ -6,19 +6,10 @@ use Rattle.quorum.specs.Notice.{rising}
 use Rattle.quorum.proofs.Notices.{rising_past, rising_next, rising_ends}
 use Rattle.quorum.proofs.rising.Goals as goal
 
-pub loop-notice-init : goal.loop-notice-init
-loop-notice-init c = refl
-
-pub silent-requires : goal.silent-requires
-silent-requires c = Prim.tt
-
 pub loop-notice-preserved-then-silent : goal.loop-notice-preserved-then-silent
 loop-notice-preserved-then-silent c =
     let l = c.loop-notice in
     sym (rising_past l.last l.notice-index _ c.loop-notice-test.true (sym c.silent.ensures ∙ c.if-silent.true)) ∙ l.invariant
-
-pub edition_of-edition-requires : goal.edition_of-edition-requires
-edition_of-edition-requires c = Prim.tt
 
 pub returns-then-edition-last : goal.returns-then-edition-last
 returns-then-edition-last c =
