@@ -15,8 +15,7 @@ pub(crate) fn settled(p: Plan, f: u32, out: u32, known: u32) -> u32
 {
     let mut s = known;
     loop {
-        let rows = p.rows;
-        let next = s | faults::over(rows, f, s & out) | faults::over(rows, 2 * f, s);
+        let next = s | faults::over(p.rows, f, s & out) | faults::over(p.rows, 2 * f, s);
         if next == s {
             return s;
         }
@@ -29,13 +28,9 @@ pub(crate) fn heard(rows: [u32; 20], s: u32) -> u32
     ensures { Heard rows s result }
 {
     let mut found: u32 = 0;
-    let mut b: usize = 0;
-    while b < 20 {
+    for b in 0..20 {
         if sets::member(s, b) {
-            found = found | rows[b];
-            b += 1;
-        } else {
-            b += 1;
+            found |= rows[b];
         }
     }
     found

@@ -24,8 +24,7 @@ pub(crate) fn defeats(p: Plan, hearers: u32, s: u32) -> bool
     requires { (cause_of p ≡ 0) × (hearers ≡ direct p.rows p.source) × (is_fault_set p s ≡ true) }
     ensures { result ≡ defeats p s }
 {
-    let l = search::reach(p, hearers, s);
-    search::outside(p.n, s, l) != 0
+    search::outside(p.n, s, search::reach(p, hearers, s)) != 0
 }
 
 // The highest terminal of s.
@@ -57,18 +56,15 @@ pub(crate) fn widest(rows: [u32; 20], s: u32) -> u32
     let mut fours: u32 = 0;
     let mut eights: u32 = 0;
     let mut sixteens: u32 = 0;
-    let mut b: usize = 0;
-    while b < 20 {
-        let one = rows[b];
+    for one in rows {
         let two = ones & one;
         let four = twos & two;
         let eight = fours & four;
-        sixteens = sixteens | (eights & eight);
-        eights = eights ^ eight;
-        fours = fours ^ four;
-        twos = twos ^ two;
-        ones = ones ^ one;
-        b += 1;
+        sixteens |= eights & eight;
+        eights ^= eight;
+        fours ^= four;
+        twos ^= two;
+        ones ^= one;
     }
     let many = narrowed(narrowed(s, sixteens), eights);
     narrowed(narrowed(narrowed(many, fours), twos), ones)
@@ -89,14 +85,13 @@ fn hopeless(p: Plan, f: u32, inn: u32, known: u32, rest: u32, best: u32) -> bool
     requires { (cause_of p ≡ 0) × (p.bound.kind ≡ Most f) × (inn < 2 ^ p.n) × (known < 2 ^ p.n) × (rest ≡ outside p.n inn known) }
     ensures { result ≡ true → Hopeless p inn known best }
 {
-    let rows = p.rows;
     let more = (inn < best & 1048575) as u32;
     let need = f + (best >> 20) + more;
     let own = u32::count_ones(inn);
     if need <= own {
         return true;
     }
-    rest & !faults::over(rows, need - own - 1, known & !inn) == 0
+    rest & !faults::over(p.rows, need - own - 1, known & !inn) == 0
 }
 
 // The lesser of best and the part's least key, where inn itself does not defeat the plan: first the
@@ -115,8 +110,7 @@ fn split(p: Plan, f: u32, hearers: u32, inn: u32, out: u32, known: u32, best: u3
     if free == 0 {
         return best;
     }
-    let rows = p.rows;
-    let b = chosen(rows, bound::heard(rows, rest) & sure, free);
+    let b = chosen(p.rows, bound::heard(p.rows, rest) & sure, free);
     let first = split(p, f, hearers, inn, sets::with(out, b), sure, best);
     inside(p, f, hearers, sets::with(inn, b), out, sure, first)
 }

@@ -20,24 +20,17 @@ fn cut_off(p: Plan, l: u32, r: u32) -> bool
     requires { cause_of p ≡ 0 }
     ensures { result ≡ all p.n (λ b. mem b r implies (not (hears p b p.source) and not (hears_enough p b l))) }
 {
-    let rows = p.rows;
-    let bound = p.bound;
-    let hearers = faults::over(rows, 0, sets::singleton(p.source));
-    (hearers | faults::hearing(rows, bound, l)) & r == 0
+    let hearers = faults::over(p.rows, 0, sets::singleton(p.source));
+    (hearers | faults::hearing(p.rows, p.bound, l)) & r == 0
 }
 
 pub(crate) fn accepts(p: Plan, f: u32, l: u32, r: u32) -> bool
     requires { cause_of p ≡ 0 }
     ensures { result ≡ accepts p f l r }
 {
-    if sets::is_partition(p.n, f, l, r) {
-        if sets::member(l, p.source) {
-            if r != 0 {
-                if is_fault_set(p, f) {
-                    return cut_off(p, l, r);
-                }
-            }
-        }
-    }
-    false
+    sets::is_partition(p.n, f, l, r)
+        && sets::member(l, p.source)
+        && r != 0
+        && is_fault_set(p, f)
+        && cut_off(p, l, r)
 }

@@ -33,11 +33,10 @@ fn still_hopeful(p: Plan, hearers: u32, all: u32, hopeful: u32) -> u32
     let mut rest = hopeful;
     while rest != 0 {
         let b = branch::highest(rest);
-        if reaches(p, hearers, all, b) {
-            rest = rest & !sets::singleton(b);
-        } else {
+        if !reaches(p, hearers, all, b) {
             return rest;
         }
+        rest &= !sets::singleton(b);
     }
     0
 }
@@ -48,10 +47,8 @@ fn with_one(p: Plan, hearers: u32, bad: u32, free: u32, c: usize, b: usize) -> u
     ensures { result < 2 ^ p.n }
 {
     let more = sets::with(bad, c);
-    if sets::member(free, c) {
-        if reaches(p, hearers, more, b) {
-            return more;
-        }
+    if sets::member(free, c) && reaches(p, hearers, more, b) {
+        return more;
     }
     bad
 }
@@ -62,10 +59,8 @@ fn decisive(p: Plan, hearers: u32, inn: u32, free: u32, b: usize) -> u32
     requires { (cause_of p ≡ 0) × (hearers ≡ direct p.rows p.source) × (inn < 2 ^ p.n) }
 {
     let mut bad = inn;
-    let mut c: usize = 0;
-    while c < p.n {
+    for c in 0..p.n {
         bad = with_one(p, hearers, bad, free, c, b);
-        c += 1;
     }
     free & !bad
 }
@@ -85,12 +80,10 @@ fn part_of_earlier(groups: [u32; 16], i: usize, s: u32) -> bool
     requires { i ≤ 16 }
     ensures { result ≡ true → (j : ℕ) × (j < i) × Inside s (get_or groups j 0) }
 {
-    let mut j: usize = 0;
-    while j < i {
+    for j in 0..i {
         if s & !groups[j] == 0 {
             return true;
         }
-        j += 1;
     }
     false
 }
@@ -120,9 +113,7 @@ fn split(
     if free == 0 {
         return best;
     }
-    let bound = p.bound;
-    let groups = bound.groups;
-    if part_of_earlier(groups, i, inn | free) {
+    if part_of_earlier(p.bound.groups, i, inn | free) {
         return best;
     }
     let left = still_hopeful(p, hearers, inn | free, hopeful);
@@ -166,13 +157,9 @@ fn of_all(p: Plan, hearers: u32, best: u32) -> u32
     requires { (cause_of p ≡ 0) × (hearers ≡ direct p.rows p.source) × ((count : ℕ) × (p.bound.kind ≡ Groups count)) }
     ensures { Least p Any best result }
 {
-    let bound = p.bound;
-    let groups = bound.groups;
     let mut least = best;
-    let mut i: usize = 0;
-    while i < 16 {
-        least = of_group(p, hearers, i, groups[i], least);
-        i += 1;
+    for i in 0..16 {
+        least = of_group(p, hearers, i, p.bound.groups[i], least);
     }
     least
 }

@@ -16,10 +16,8 @@ fn lesser(row: u32, sought: bool, l: u32, before: u32) -> u32
     ensures { result ≡ lesser row sought l before }
 {
     let now = u32::count_ones(row & l);
-    if sought {
-        if now < before {
-            return now;
-        }
+    if sought && now < before {
+        return now;
     }
     before
 }
@@ -29,11 +27,8 @@ fn lowered(rows: [u32; 20], sought: u32, l: u32, before: [u32; 20]) -> [u32; 20]
     ensures { (b : ℕ) → b < 20 → get_or result b 0 ≡ lesser (get_or rows b 0) (mem b sought) l (get_or before b 0) }
 {
     let mut after = [0u32; 20];
-    let mut b: usize = 0;
-    while b < 20 {
-        let now = lesser(rows[b], sets::member(sought, b), l, before[b]);
-        after[b] = now;
-        b += 1;
+    for b in 0..20 {
+        after[b] = lesser(rows[b], sets::member(sought, b), l, before[b]);
     }
     after
 }
@@ -45,12 +40,7 @@ fn surely(row: u32, f: u32, out: u32, sure: u32) -> u32
 {
     let all = u32::count_ones(row & sure);
     let good = u32::count_ones(row & (sure & out));
-    if f < all {
-        if good < all - f {
-            return all - f;
-        }
-    }
-    good
+    good.max(all.saturating_sub(f))
 }
 
 // The terminals that a set of the part may bring below what was found for them.
@@ -58,11 +48,9 @@ fn hopeful(rows: [u32; 20], f: u32, out: u32, sure: u32, counts: [u32; 20]) -> u
     ensures { result ≡ hopeful rows f out sure counts }
 {
     let mut some: u32 = 0;
-    let mut b: usize = 0;
-    while b < 20 {
+    for b in 0..20 {
         let more = (surely(rows[b], f, out, sure) < counts[b]) as u32;
-        some = some | (more << b);
-        b += 1;
+        some |= more << b;
     }
     some
 }
@@ -75,21 +63,16 @@ fn barred(p: Plan, f: u32, inn: u32, out: u32) -> u32
     if f == 0 {
         return out;
     }
-    let rows = p.rows;
-    let full = out & faults::over(rows, f - 1, inn);
-    out | (bound::heard(rows, full) & search::outside(p.n, inn, out))
+    let full = out & faults::over(p.rows, f - 1, inn);
+    out | (bound::heard(p.rows, full) & search::outside(p.n, inn, out))
 }
 
 // The rows of the terminals of s; the others are empty.
 fn rows_of(rows: [u32; 20], s: u32) -> [u32; 20] {
     let mut some = [0u32; 20];
-    let mut b: usize = 0;
-    while b < 20 {
+    for b in 0..20 {
         if sets::member(s, b) {
             some[b] = rows[b];
-            b += 1;
-        } else {
-            b += 1;
         }
     }
     some
@@ -125,8 +108,7 @@ fn split(
 {
     let shut = barred(p, f, inn, out);
     let sure = bound::settled(p, f, shut, known);
-    let rows = p.rows;
-    let left = sought & hopeful(rows, f, shut, sure, counts);
+    let left = sought & hopeful(p.rows, f, shut, sure, counts);
     let free = search::outside(p.n, inn, shut);
     if left == 0 {
         return counts;
@@ -134,7 +116,7 @@ fn split(
     if free == 0 {
         return counts;
     }
-    let b = chosen(rows, search::outside(p.n, inn, sure), sure, left, free);
+    let b = chosen(p.rows, search::outside(p.n, inn, sure), sure, left, free);
     let first = inside(p, f, hearers, sets::with(inn, b), shut, sure, left, counts);
     split(p, f, hearers, inn, sets::with(shut, b), sure, left, first)
 }
@@ -158,10 +140,9 @@ fn inside(
     if all & out != 0 {
         return counts;
     }
-    let rows = p.rows;
     let good = sought & !all;
     let l = search::reach(p, hearers, all);
-    let now = lowered(rows, good, l, counts);
+    let now = lowered(p.rows, good, l, counts);
     split(p, f, hearers, all, out, known | all, good, now)
 }
 

@@ -11,37 +11,20 @@ use super::{branch, groups};
 use plan::Plan;
 use quorum::BoundKind;
 
-// The best set so far: members above 20 for none.
-#[derive(Clone, Copy)]
-pub(crate) struct Best {
-    pub members: usize,
-    pub set: u32,
-}
-
-// The set with b, if b joins it.
-fn joined(l: u32, b: usize, joins: bool) -> u32
-    ensures { result ≡ pick joins (with 32 l b) l }
-{
-    if joins {
-        return sets::with(l, b);
-    }
-    l
-}
-
 // A turn by groups: of those outside l and the wall, one after the other, whoever hears enough that are in
 // by then. To look at these alone saves more than to compare many at once.
 fn sweep(p: Plan, l: u32, wall: u32) -> u32
     requires { (cause_of p ≡ 0) × (l < 2 ^ p.n) }
     ensures { Swept p wall l result }
 {
-    let rows = p.rows;
     let mut r = l;
     let mut rest = outside(p.n, wall, l);
     while rest != 0 {
         let b = branch::highest(rest);
-        let bound = p.bound;
-        r = joined(r, b, quorum::enough(bound, rows[b] & r));
-        rest = rest & !sets::singleton(b);
+        if quorum::enough(p.bound, p.rows[b] & r) {
+            r = sets::with(r, b);
+        }
+        rest &= !sets::singleton(b);
     }
     r
 }
@@ -51,11 +34,8 @@ fn turn(p: Plan, l: u32, wall: u32) -> u32
     requires { (cause_of p ≡ 0) × (l < 2 ^ p.n) }
     ensures { Swept p wall l result }
 {
-    let rows = p.rows;
-    let bound = p.bound;
-    let kind = bound.kind;
-    match kind {
-        BoundKind::Most(f) => l | (faults::over(rows, f as u32, l) & !wall),
+    match p.bound.kind {
+        BoundKind::Most(f) => l | (faults::over(p.rows, f as u32, l) & !wall),
         BoundKind::Groups(_) => sweep(p, l, wall),
     }
 }
@@ -99,9 +79,7 @@ fn least(p: Plan, hearers: u32) -> u32
     requires { (cause_of p ≡ 0) × (hearers ≡ direct p.rows p.source) }
     ensures { Least p Any 22020096 result }
 {
-    let bound = p.bound;
-    let kind = bound.kind;
-    match kind {
+    match p.bound.kind {
         BoundKind::Most(f) => {
             let source = sets::singleton(p.source);
             branch::inside(p, f as u32, hearers, 0, source, source | hearers, 22020096)
@@ -111,13 +89,13 @@ fn least(p: Plan, hearers: u32) -> u32
 }
 
 // The least of all sets that defeat the plan.
-pub(crate) fn search(p: Plan, hearers: u32) -> Best
+pub(crate) fn search(p: Plan, hearers: u32) -> Option<u32>
     requires { (cause_of p ≡ 0) × (hearers ≡ direct p.rows p.source) }
-    ensures { StandsFor p.n result (best_below p (2 ^ p.n)) }
+    ensures { StandsFor result (best_below p (2 ^ p.n)) }
 {
     let best = least(p, hearers);
-    Best {
-        members: (best >> 20) as usize,
-        set: best & 1048575,
+    if best < 22020096 {
+        return Some(best & 1048575);
     }
+    None
 }

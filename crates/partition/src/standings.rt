@@ -6,24 +6,16 @@ ghost use Rattle.quorum.specs.declared.BoundKind.TheVariants.{Most};
 ghost use Rattle.plan.specs.Plan.{cause_of};
 ghost use Rattle.closure.specs.Margin.{fewest, has_margin};
 ghost use Rattle.partition.specs.Search.{direct};
-ghost use Rattle.partition.specs.Margins.{standing_of, place_of};
-ghost use Rattle.partition.specs.declared.Outcome.TheVariants.{Known};
+ghost use Rattle.partition.specs.Margins.{standing_of};
 
-use super::{Outcome, Place, Sheet, Standing, margin};
+use super::{Standing, margin};
 use plan::Plan;
 
 // No place lists a group.
 pub(crate) fn no_groups(groups: [u32; 16]) -> bool
     ensures { result ≡ all 16 (λ i. eqb (get_or groups i 0) 0) }
 {
-    let mut i: usize = 0;
-    while i < 16 {
-        if groups[i] != 0 {
-            return false;
-        }
-        i += 1;
-    }
-    true
+    groups == [0u32; 16]
 }
 
 // May be negative: less than f + 1 are heard.
@@ -31,9 +23,8 @@ fn difference(f: u32, heard: u32) -> i32
     requires { (f < 20) × (heard ≤ 20) }
     ensures { result ≡ pos heard -ℤ pos (f + 1) }
 {
-    let has = heard as i32;
     let needs = (f + 1) as i32;
-    has - needs
+    heard as i32 - needs
 }
 
 fn standing(p: Plan, f: u32, hearers: u32, heard: u32, b: usize) -> Standing
@@ -49,29 +40,19 @@ fn standing(p: Plan, f: u32, hearers: u32, heard: u32, b: usize) -> Standing
     if sets::member(hearers, b) {
         return Standing::Direct;
     }
-    let margin = difference(f, heard);
-    Standing::Margin(margin)
+    Standing::Margin(difference(f, heard))
 }
 
-pub(crate) fn standings(p: Plan, f: u32) -> Sheet
+// places[b] is how terminal b stands.
+pub(crate) fn standings(p: Plan, f: u32) -> [Standing; 20]
     requires { (cause_of p ≡ 0) × (p.bound.kind ≡ Most f) }
-    ensures { result ≡ record { outcome = Known; places = table 20 (place_of p) } }
+    ensures { result ≡ table 20 (standing_of p) }
 {
-    let rows = p.rows;
-    let hearers = faults::over(rows, 0, sets::singleton(p.source));
+    let hearers = faults::over(p.rows, 0, sets::singleton(p.source));
     let fewest = margin::fewest(p, f, hearers);
-    let nobody = Place {
-        standing: Standing::Absent,
-    };
-    let mut places = [nobody; 20];
-    let mut b: usize = 0;
-    while b < 20 {
-        let at = standing(p, f, hearers, fewest[b], b);
-        places[b] = Place { standing: at };
-        b += 1;
+    let mut places = [Standing::Absent; 20];
+    for b in 0..20 {
+        places[b] = standing(p, f, hearers, fewest[b], b);
     }
-    Sheet {
-        outcome: Outcome::Known,
-        places: places,
-    }
+    places
 }

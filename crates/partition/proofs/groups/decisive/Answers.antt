@@ -1,5 +1,3 @@
-use native.Mathlib.Omega.{arith}
-use Rattle.plan.proofs.Laws.{sound}
 use Rattle.partition.proofs.groups.decisive.Goals as goal
 
 pub loop-c-init : goal.loop-c-init
@@ -7,9 +5,6 @@ loop-c-init c = c.requires.2
 
 pub with_one-bad-requires : goal.with_one-bad-requires
 with_one-bad-requires c = let g = c.requires in (g.0, g.1, c.loop-c.invariant, c.loop-c-test.true)
-
-pub overflow_add-c : goal.overflow_add-c
-overflow_add-c c = let t = (sound _ c.requires.0).twenty in omega arith
 
 pub loop-c-preserved : goal.loop-c-preserved
 loop-c-preserved c = c.with_one-bad.ensures

@@ -20,10 +20,10 @@ pub loop-rest-smaller : goal.loop-rest-smaller
 loop-rest-smaller c = let g = c.requires in let a = c.args in subst (λ (x : ℕ). count a.p.n (λ i. mem i x) < count a.p.n (λ i. mem i c.loop-rest.rest)) (sym (less_by c.loop-rest.rest c.highest-b.result _ c.singleton.ensures)) (hopeful_less _ (sound _ g.0) _ _ _ _ c.loop-rest.invariant c.highest-b.ensures)
 
 pub loop-rest-preserved : goal.loop-rest-preserved
-loop-rest-preserved c = let g = c.requires in let a = c.args in subst (Hopeful a.p a.all a.hopeful) (sym (less_by c.loop-rest.rest c.highest-b.result _ c.singleton.ensures)) (hopeful_next _ (sound _ g.0) _ _ _ _ c.loop-rest.invariant c.highest-b.ensures (sym c.reaches.ensures ∙ c.if-reaches.true))
+loop-rest-preserved c = let g = c.requires in let a = c.args in subst (Hopeful a.p a.all a.hopeful) (sym (less_by c.loop-rest.rest c.highest-b.result _ c.singleton.ensures)) (hopeful_next _ (sound _ g.0) _ _ _ _ c.loop-rest.invariant c.highest-b.ensures (sym c.reaches.ensures ∙ c.if-not-reaches.false))
 
-pub returns-else-reaches : goal.returns-else-reaches
-returns-else-reaches c = c.loop-rest.invariant
+pub returns-then-not-reaches : goal.returns-then-not-reaches
+returns-then-not-reaches c = c.loop-rest.invariant
 
 pub returns : goal.returns
 returns c = hopeful_none _ _ _ _ c.loop-rest.invariant c.loop-rest-test.false

@@ -8,10 +8,10 @@ use Rattle.partition.specs.Search.{lesser}
 use Rattle.partition.proofs.margin.lowered.Goals as goal
 
 pub loop-b-init : goal.loop-b-init
-loop-b-init c = (omega arith, refl, λ i h. absurd (omega arith))
+loop-b-init c = record { whole = refl; found = λ i h. absurd (omega arith) }
 
 pub loop-b-preserved : goal.loop-b-preserved
-loop-b-preserved c = let turn = c.loop-b in let a = c.args in (omega arith, length-set turn.after turn.b _ ∙ turn.invariant.1, filled_more (λ i. lesser (get_or a.rows i 0) (mem i a.sought) a.l (get_or a.before i 0)) turn.after turn.b _ (let e = turn.invariant.1 in omega arith) (c.lesser-now.ensures ∙ ap (λ (y : Bool). lesser (get_or a.rows turn.b 0) y a.l (get_or a.before turn.b 0)) c.member.ensures) turn.invariant.2)
+loop-b-preserved c = let turn = c.loop-b in let a = c.args in record { whole = length-set turn.after turn.b _ ∙ turn.invariant.whole; found = filled_more (λ i. lesser (get_or a.rows i 0) (mem i a.sought) a.l (get_or a.before i 0)) turn.after turn.b _ (let e = turn.invariant.whole in omega arith) (c.lesser.ensures ∙ ap (λ (y : Bool). lesser (get_or a.rows turn.b 0) y a.l (get_or a.before turn.b 0)) c.member.ensures) turn.invariant.found }
 
 pub returns : goal.returns
-returns c = let e : c.loop-b.b ≡ 20 = omega arith in λ i k. c.loop-b.invariant.2 i (omega arith)
+returns c = let e : c.loop-b.b ≡ 20 = omega arith in λ i k. c.loop-b.invariant.found i (omega arith)

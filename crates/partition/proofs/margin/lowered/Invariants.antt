@@ -1,5 +1,5 @@
 -- The counts so far are the lesser ones. Assumes nothing.
-use Prim.Native.Nat.{ℕ, ◌≤◌, ◌<◌, ◌-◌}
+use Prim.Native.Nat.{ℕ, ◌<◌}
 use mathlib.Core.Path.{◌≡◌}
 use lib.ListN.{length, get_or}
 use Rattle.sets.specs.Sets.{mem}
@@ -7,7 +7,7 @@ use Rattle.partition.specs.Search.{lesser}
 use Rattle.partition.proofs.margin.lowered.Given as goal
 
 abbrev pub invariant-loop-b : goal.invariant-loop-b
-invariant-loop-b l = (l.b ≤ 20) × (length l.after ≡ 20) × ((i : ℕ) → i < l.b → get_or l.after i 0 ≡ lesser (get_or l.rows i 0) (mem i l.sought) l.l (get_or l.before i 0))
-
-abbrev pub decreases-loop-b : goal.decreases-loop-b
-decreases-loop-b l = 20 - l.b
+invariant-loop-b l = record {
+  whole : length l.after ≡ 20;
+  found : (i : ℕ) → i < l.b → get_or l.after i 0 ≡ lesser (get_or l.rows i 0) (mem i l.sought) l.l (get_or l.before i 0);
+}

@@ -17,8 +17,8 @@ returns-then-b-p c = stands_source _ _ c.if-p-b.false c.if-b-p.true
 pub returns-then-member : goal.returns-then-member
 returns-then-member c = let g = c.requires in let k = c.if-p-b.false in stands_direct_lem _ _ k c.if-b-p.false (sym (direct_mem _ (sound _ g.0) _ _ g.2 k) ∙ sym c.member.ensures ∙ c.if-member.true)
 
-pub difference-margin-requires : goal.difference-margin-requires
-difference-margin-requires c = let g = c.requires in let k = c.if-p-b.false in let z = c.if-b-p.false in let s = sound _ g.0 in let e = g.3 k (has_margin_lem _ _ k z (sym (direct_mem _ s _ _ g.2 k) ∙ sym c.member.ensures ∙ c.if-member.false)) in let t = s.twenty in let l = s.f_below _ g.1 in (omega arith, omega (arith, fewest_few c.args.p c.args.b))
+pub difference-requires : goal.difference-requires
+difference-requires c = let g = c.requires in let k = c.if-p-b.false in let z = c.if-b-p.false in let s = sound _ g.0 in let e = g.3 k (has_margin_lem _ _ k z (sym (direct_mem _ s _ _ g.2 k) ∙ sym c.member.ensures ∙ c.if-member.false)) in let t = s.twenty in let l = s.f_below _ g.1 in (omega arith, omega (arith, fewest_few c.args.p c.args.b))
 
 pub returns : goal.returns
-returns c = let g = c.requires in let k = c.if-p-b.false in let z = c.if-b-p.false in let s = sound _ g.0 in let h = sym (direct_mem _ s _ _ g.2 k) ∙ sym c.member.ensures ∙ c.if-member.false in stands_margin _ _ k z h _ (margin_by _ _ _ _ _ g.1 (g.3 k (has_margin_lem _ _ k z h)) (to_z-of_z {w = w32} (record { sfits = c.difference-margin.type_inv }) ∙ c.difference-margin.ensures))
+returns c = let g = c.requires in let k = c.if-p-b.false in let z = c.if-b-p.false in let s = sound _ g.0 in let h = sym (direct_mem _ s _ _ g.2 k) ∙ sym c.member.ensures ∙ c.if-member.false in stands_margin _ _ k z h _ (margin_by _ _ _ _ _ g.1 (g.3 k (has_margin_lem _ _ k z h)) (to_z-of_z {w = w32} (record { sfits = c.difference.type_inv }) ∙ c.difference.ensures))

@@ -1,17 +1,19 @@
 -- The places so far are the plan's. Assumes nothing.
-use Prim.Native.Nat.{ℕ, ◌≤◌, ◌<◌, ◌-◌}
+use Prim.Native.Nat.{ℕ, ◌<◌}
 use mathlib.Core.Path.{◌≡◌}
 use mathlib.Core.Bool.{true}
 use lib.ListN.{length, get_or}
 use Rattle.closure.specs.Margin.{has_margin}
 use Rattle.closure.specs.Margin as theory
 use Rattle.partition.specs.Search.{direct}
-use Rattle.partition.specs.Margins.{place_of}
+use Rattle.partition.specs.Margins.{standing_of}
 use Rattle.partition.specs.declared.Standing.TheVariants.{Absent}
 use Rattle.partition.proofs.standings.standings.Given as goal
 
 abbrev pub invariant-loop-b : goal.invariant-loop-b
-invariant-loop-b l = (l.b ≤ 20) × (length l.places ≡ 20) × ((i : ℕ) → i < l.b → get_or l.places i (record { standing = Absent }) ≡ place_of l.p i) × (l.hearers ≡ direct l.p.rows l.p.source) × ((i : ℕ) → i < l.p.n → has_margin l.p i ≡ true → get_or l.fewest i 0 ≡ theory.fewest l.p i)
-
-abbrev pub decreases-loop-b : goal.decreases-loop-b
-decreases-loop-b l = 20 - l.b
+invariant-loop-b l = record {
+  whole : length l.places ≡ 20;
+  placed : (i : ℕ) → i < l.b → get_or l.places i Absent ≡ standing_of l.p i;
+  hearers_are : l.hearers ≡ direct l.p.rows l.p.source;
+  fewest_are : (i : ℕ) → i < l.p.n → has_margin l.p i ≡ true → get_or l.fewest i 0 ≡ theory.fewest l.p i;
+}
