@@ -9,9 +9,6 @@ use Rattle.sets.specs.Sets.{mem}
 use Rattle.sets.proofs.Masks.{next_member}
 use Rattle.sets.proofs.those.Goals as goal
 
-pub loop-j-init : goal.loop-j-init
-loop-j-init g c = (omega arith, λ k h. absurd (omega arith))
-
 pub loop-j-preserved : goal.loop-j-preserved
 loop-j-preserved g c =
     let l = c.loop-j in
