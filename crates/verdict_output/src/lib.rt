@@ -1,7 +1,7 @@
 // What `verdict`, `archive` and `quote` print: from a plan file's bytes to the verdict's line.
 #![tactic(auto)]
 
-ghost use Rattle.std.specs.Prelude.{◌≡◌, ◌%◌, ◌<◌, length};
+ghost use Rattle.std.specs.Prelude.{◌≡◌, ◌%◌, ◌<◌, Err, length};
 ghost use Rattle.partition.specs.Answer.{answered};
 ghost use Rattle.text.specs.Texts.{held, put_into};
 ghost use Rattle.frames.specs.Reading.{plan_reading, archive_reading, quote_reading, file_read};
@@ -10,7 +10,7 @@ ghost use Rattle.verdict_output.specs.Verdict.{verdict_line, answer_text, verdic
 
 use frames::FileRead;
 use output::Written;
-use partition::Judgement;
+use partition::{VerdictError, Witness};
 use text::Text;
 
 // 81: pass or fail, and the witness, of which three bytes a set are written.
@@ -26,30 +26,37 @@ pub fn line(failed: u8, f: u32, l: u32, r: u32) -> Text
         .raw(10)
 }
 
+// Why a record is no plan that its sender may send.
+pub fn number(e: VerdictError) -> u8
+    ensures { result ≡ (answered (Err e)).number }
+{
+    match e {
+        VerdictError::WrongRange => 4,
+        VerdictError::TooMany => 14,
+        VerdictError::WrongLink => 5,
+        VerdictError::WrongGroups => 17,
+    }
+}
+
 // The verdict's line, or the refusal of a record that is no plan.
-fn answer(j: Judgement) -> Text
+fn answer(j: Result<Option<Witness>, VerdictError>) -> Text
     requires { ((answered j).f < 16777216) × ((answered j).l < 16777216) × ((answered j).r < 16777216) }
     ensures { held result ≡ answer_text (answered j) }
 {
     match j {
-        Judgement::Pass => line(0, 0, 0, 0),
-        Judgement::Fail(w) => line(1, w.f, w.l, w.r),
-        Judgement::WrongRange => output::refusal(4, 0),
-        Judgement::TooMany => output::refusal(14, 0),
-        Judgement::WrongLink => output::refusal(5, 0),
-        Judgement::WrongGroups => output::refusal(17, 0),
+        Ok(None) => line(0, 0, 0, 0),
+        Ok(Some(w)) => line(1, w.f, w.l, w.r),
+        Err(e) => output::refusal(number(e), 0),
     }
 }
 
-// The one line on a plan file, by the judgement on its plan.
-fn of_plan(read: FileRead, j: Judgement) -> Text
+// The one line on a plan file, by the judgement on its plan, into the lent buffer.
+fn put(read: FileRead, j: Result<Option<Witness>, VerdictError>, out: &mut [u8]) -> Written
     requires { ((answered j).f < 16777216) × ((answered j).l < 16777216) × ((answered j).r < 16777216) }
-    ensures { held result ≡ text_on read (answer_text (answered j)) }
+    ensures value { result ≡ answer_on read (text_on read (answer_text (answered j))) (length out.old) }
+    ensures out_after { out.new ≡ put_into (text_on read (answer_text (answered j))) out.old }
 {
-    if read.number != 0 {
-        return output::refusal(read.number, read.line);
-    }
-    answer(j)
+    output::put(read, output::text_on(read, answer(j)), out)
 }
 
 // What `verdict` prints on a plan file, into the lent buffer.
@@ -58,8 +65,7 @@ pub fn verdict_text(text: &[u8], out: &mut [u8]) -> Written
     ensures out_after { out.new ≡ put_into (verdict_text text.now) out.old }
 {
     let read = frames::read_plan(text);
-    let j = partition::verdict(read.progress.plan);
-    output::put(read, of_plan(read, j), out)
+    put(read, partition::verdict(read.progress.plan), out)
 }
 
 // What `archive` prints on a plan file, whoever is deaf, into the lent buffer.
@@ -67,10 +73,8 @@ pub fn archive_text(text: &[u8], out: &mut [u8]) -> Written
     ensures value { result ≡ answer_on (file_read (archive_reading text.now)) (archive_text text.now) (length out.old) }
     ensures out_after { out.new ≡ put_into (archive_text text.now) out.old }
 {
-    let archived = frames::read_archive(text);
-    let read = archived.file;
-    let j = partition::verdict(read.progress.plan);
-    output::put(read, of_plan(read, j), out)
+    let read = frames::read_archive(text).file;
+    put(read, partition::verdict(read.progress.plan), out)
 }
 
 // What `quote` prints on a plan file, of at most twelve terminals, into the lent buffer.
@@ -79,6 +83,5 @@ pub fn quote_text(text: &[u8], out: &mut [u8]) -> Written
     ensures out_after { out.new ≡ put_into (quote_text text.now) out.old }
 {
     let read = frames::read_quote(text);
-    let j = partition::quote(read.progress.plan);
-    output::put(read, of_plan(read, j), out)
+    put(read, partition::quote(read.progress.plan), out)
 }
