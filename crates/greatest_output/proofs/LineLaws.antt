@@ -6,30 +6,40 @@ use native.Mathlib.Omega.{arith}
 use lib.ListN.{length-append}
 use borrow.Author.Tests.{eq-eqb, ne_eqb}
 use Rattle.sets.proofs.Bools.{pick_yes, pick_no}
-use Rattle.tolerance.specs.declared.Greatest.{Greatest}
-use Rattle.tolerance.specs.Greatest.{none, up_to}
-use Rattle.tolerance.specs.Answer.{told}
+use Rattle.std.specs.Prelude.{Option, Result, Err}
+use Rattle.tolerance.specs.declared.DrawingError.{DrawingError}
+use Rattle.tolerance.specs.declared.DrawingError.TheVariants.{WrongRange, WrongLink}
+use Rattle.tolerance.specs.Greatest.{drawing_of, up_to}
+use Rattle.tolerance.specs.Answer.{Told, told, greatest_of}
 use Rattle.text.specs.Digits.{decimal}
 use Rattle.text.specs.Texts.{joined}
 use Rattle.text.proofs.Laws.{then, whole, decimal_short}
-use Rattle.output.specs.OnFile.{refusal_line}
-use Rattle.greatest_output.specs.Greatest.{tolerance_line, greatest_answer}
+use Rattle.frames.specs.declared.FileRead.{FileRead}
+use Rattle.output.specs.OnFile.{refusal_line, text_on}
+use Rattle.greatest_output.specs.Greatest.{tolerance_line, greatest_answer, greatest_on}
 
 -- one part after the other, with room
-pub says_none : {a b c d e last : List ℕ} → a ≡ [] → b ≡ joined a (110 ∷ []) → c ≡ joined b (111 ∷ []) → d ≡ joined c (110 ∷ []) → e ≡ joined d (101 ∷ [])
-    → last ≡ joined e (10 ∷ []) → last ≡ tolerance_line none
-unfolding tolerance_line
-says_none z p q r s t = whole z (then _ _ (10 ∷ []) (then _ _ (101 ∷ []) (then _ _ (110 ∷ []) (then _ _ (111 ∷ []) p q) r) s) t) (omega arith)
-
 pub says_bound : (f : ℕ) {a b last : List ℕ} → a ≡ [] → b ≡ joined a (decimal f) → last ≡ joined b (10 ∷ []) → last ≡ tolerance_line (up_to f)
 unfolding tolerance_line
 says_bound f z p q = whole z (then _ (decimal f) (10 ∷ []) p q) (let h = decimal_short f in omega (arith, length-append (decimal f) (10 ∷ [])))
 
 -- the answer, by what is told
-pub says_found : (g x : Greatest) (last : List ℕ) → g ≡ x → (told x).number ≡ 0 → last ≡ tolerance_line (told x).passed → last ≡ greatest_answer (told g)
+pub says_found : (g x : Result (Option ℕ) DrawingError) (last : List ℕ) → g ≡ x → (told x).number ≡ 0 → last ≡ tolerance_line (told x).passed → last ≡ greatest_answer (told g)
 unfolding greatest_answer
-says_found g x last e z h = h ∙ sym (ap (λ (y : Greatest). greatest_answer (told y)) e ∙ pick_yes _ _ _ (eq-eqb (told x).number 0 z))
+says_found g x last e z h = h ∙ sym (ap (λ (y : Result (Option ℕ) DrawingError). greatest_answer (told y)) e ∙ pick_yes _ _ _ (eq-eqb (told x).number 0 z))
 
-pub says_refusal : (g x : Greatest) (last : List ℕ) → g ≡ x → ((told x).number ≡ 0 → ⊥) → last ≡ refusal_line (told x).number 0 → last ≡ greatest_answer (told g)
+some_number : (e : DrawingError) → (told (Err e)).number ≡ 0 → ⊥
+some_number WrongRange z = omega arith
+some_number WrongLink z = omega arith
+
+pub says_refusal : (g : Result (Option ℕ) DrawingError) (why : DrawingError) (last : List ℕ) → g ≡ Err why → last ≡ refusal_line (told (Err why)).number 0 → last ≡ greatest_answer (told g)
 unfolding greatest_answer
-says_refusal g x last e z h = h ∙ sym (ap (λ (y : Greatest). greatest_answer (told y)) e ∙ pick_no _ _ _ (ne_eqb (told x).number 0 z))
+says_refusal g why last e h =
+    h ∙ sym (ap (λ (y : Result (Option ℕ) DrawingError). greatest_answer (told y)) e ∙ pick_no _ _ _ (ne_eqb (told (Err why)).number 0 (some_number why)))
+
+-- by a file and an answer that were found to be these
+pub greatest_is : (read file : FileRead) (t : Told) (said last : List ℕ) → read ≡ file → t ≡ greatest_of (drawing_of read.progress.plan) → said ≡ greatest_answer t
+    → last ≡ text_on read said → last ≡ greatest_on file
+unfolding greatest_on
+greatest_is read file t said last e g s h =
+    h ∙ ap (text_on read) s ∙ ap (λ (x : Told). text_on read (greatest_answer x)) g ∙ ap greatest_on e
