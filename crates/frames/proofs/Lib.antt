@@ -12,6 +12,7 @@ pub mod Keeps
 mod Rising
 mod Issued
 pub mod Accepted
+mod Rules
 mod TellLaws
 mod LineLaws
 pub mod FileLaws

@@ -1,15 +1,18 @@
 // Hexadecimal lines: the readers of plan files, new ones, those of the archive, of the quoting desk, of
 // margins and of drawings, and of run files.
-#![tactic(auto)]
+#![tactic(auto, using(crate::proofs::Rules::tests), unfolding(plan::specs::Plan::heard_by, plan::specs::Deaf::is_deaf, plan::specs::Deaf::deaf_set, crate::specs::Reading::plan_reading, crate::specs::Reading::archive_reading, crate::specs::Reading::quote_reading, crate::specs::Reading::margins_reading, crate::specs::Reading::drawing_reading, crate::specs::Reading::is_at, crate::specs::Reading::in_plan, crate::specs::Reading::is_started, crate::specs::Reading::other_form, crate::specs::Reading::is_shared, crate::specs::Reading::wrong_form, crate::specs::Reading::ends_links, crate::specs::Reading::links_cause, crate::specs::Reading::end_cause))]
 
+mod cause;
 mod deaf;
 mod ends;
 mod told;
 
-ghost use Rattle.std.specs.Prelude.{◌≡◌, ◌+◌, ◌<◌, ◌≤◌, length};
-ghost use Rattle.frames.specs.Reading.{most_bytes, plan_kinds, stage_of, form_of, has_edition, is_at, in_plan, is_started, other_form, is_shared, wrong_form, unstarted, planned, nothing_read, both, nothing_said, refusal, reading, plan_reading, archive_reading, quote_reading, margins_reading, drawing_reading, file_read, archive_read, run_file, words_read, later_read};
-ghost use Rattle.frames.specs.Pass.{Going};
+ghost use Rattle.std.specs.Prelude.{◌≡◌, ◌+◌, ◌<◌, ◌≤◌, length, MatchResult};
+ghost use Rattle.frames.specs.Reading.{most_bytes, plan_kinds, has_edition, is_at, in_plan, is_started, other_form, is_shared, wrong_form, unstarted, planned, nothing_read, both, nothing_said, refusal, reading, plan_reading, archive_reading, quote_reading, margins_reading, drawing_reading, file_read, archive_read, run_file, words_read, later_read};
+ghost use Rattle.frames.specs.Causes.{number};
+ghost use Rattle.frames.specs.Pass.{Going, reading_of, answer};
 
+use cause::Cause;
 use lines::Form;
 use plan::Plan;
 use quorum::{Bound, BoundKind};
@@ -49,7 +52,7 @@ pub struct Reader {
 
 // How far a file was read: nothing; the head and perhaps links; groups too; the default layout of a
 // shared channel too; the fault set too; the start too and perhaps later notices; words too.
-#[derive(Clone, Copy)]
+#[derive(Clone, Copy, Debug, PartialEq, Eq)]
 pub enum Stage {
     Nothing,
     Links,
@@ -93,76 +96,37 @@ pub struct ArchiveRead {
     pub deaf: u32,
 }
 
-// The stages in their order.
-fn order(stage: Stage) -> u8
-    ensures { result ≡ stage_of stage }
-{
-    match stage {
-        Stage::Nothing => 0,
-        Stage::Links => 1,
-        Stage::Grouped => 2,
-        Stage::Shared => 3,
-        Stage::Faults => 4,
-        Stage::Started => 5,
-        Stage::Words => 6,
-    }
-}
-
-// The two forms as numbers.
-fn form_of(form: Form) -> u8
-    ensures { result ≡ form_of form }
-{
-    match form {
-        Form::Old => 0,
-        Form::New => 1,
-    }
-}
-
 pub(crate) fn is_at(stage: Stage, p: Progress) -> bool
     ensures { result ≡ is_at stage p }
 {
-    let now = p.stage;
-    order(now) == order(stage)
+    p.stage == stage
 }
 
 // After the head, and while nothing but links and groups has followed.
 pub(crate) fn in_plan(p: Progress) -> bool
     ensures { result ≡ in_plan p }
 {
-    if is_at(Stage::Links, p) {
-        return true;
-    }
-    is_at(Stage::Grouped, p)
+    is_at(Stage::Links, p) || is_at(Stage::Grouped, p)
 }
 
 // From the start on.
 pub(crate) fn is_started(p: Progress) -> bool
     ensures { result ≡ is_started p }
 {
-    if is_at(Stage::Started, p) {
-        return true;
-    }
-    is_at(Stage::Words, p)
+    is_at(Stage::Started, p) || is_at(Stage::Words, p)
 }
 
 // The start was of the other form.
 fn other_form(p: Progress, form: Form) -> bool
     ensures { result ≡ other_form p form }
 {
-    let known = p.form;
-    if is_started(p) {
-        return form_of(form) != form_of(known);
-    }
-    false
+    is_started(p) && form != p.form
 }
 
 pub(crate) fn has_edition(form: Form) -> bool
     ensures { result ≡ has_edition form }
 {
-    match form {
-        Form::Old => false,
-        Form::New => true,
-    }
+    form == Form::New
 }
 
 // One channel is shared by all: a default layout was given.
@@ -176,13 +140,7 @@ pub fn is_shared(p: Progress) -> bool
 pub(crate) fn wrong_form(p: Progress, form: Form, barred: bool) -> bool
     ensures { result ≡ wrong_form p form barred }
 {
-    if other_form(p, form) {
-        return true;
-    }
-    if is_shared(p) {
-        return barred;
-    }
-    false
+    other_form(p, form) || (is_shared(p) && barred)
 }
 
 // What is known before the start, on a channel with this default layout.
@@ -190,15 +148,15 @@ pub(crate) fn unstarted(stage: Stage, plan: Plan, faulty: u32, default: u16) -> 
     ensures { result ≡ unstarted stage plan faulty default }
 {
     Progress {
-        stage: stage,
-        plan: plan,
-        faulty: faulty,
+        stage,
+        plan,
+        faulty,
         form: Form::Old,
         notice: 0,
         rounds: 0,
         issued: 0,
         edition: 0,
-        default: default,
+        default,
     }
 }
 
@@ -209,9 +167,8 @@ pub(crate) fn planned(stage: Stage, plan: Plan, faulty: u32) -> Progress
     unstarted(stage, plan, faulty, 0)
 }
 
-// A refused file: its number and line, and only zeros beside them.
-fn refusal(number: u8, line: u16) -> FileRead
-    ensures { result ≡ record { number = number; line = line; progress = nothing_read } }
+fn nothing_read() -> Progress
+    ensures { result ≡ nothing_read }
 {
     let plan = Plan {
         n: 0,
@@ -222,21 +179,22 @@ fn refusal(number: u8, line: u16) -> FileRead
         },
         rows: [0u32; 20],
     };
-    FileRead {
-        number: number,
-        line: line,
-        progress: planned(Stage::Nothing, plan, 0),
-    }
+    planned(Stage::Nothing, plan, 0)
 }
 
-// Where the pass over a file's bytes stands: what is known, the line's number and its first byte; and
-// the cause that refused the line before, 0 for none. Where the links are refused the number is 0.
+// Where the pass over a file's bytes stands: what is known, the line's number and its first byte.
 #[derive(Clone, Copy)]
 struct Cursor {
     progress: Progress,
     line: u16,
     from: usize,
-    cause: u8,
+}
+
+// Why a file is refused, and its line: 0 for the whole file, as where the links are refused.
+#[derive(Clone, Copy)]
+struct Refusal {
+    cause: Cause,
+    line: u16,
 }
 
 // The byte at i: it ends a line, where the links may end too and whose frame is then told, or it is
@@ -248,92 +206,96 @@ fn pass(
     later: &mut [u32],
     at: Cursor,
     i: usize,
-) -> Cursor
+) -> Result<Cursor, Refusal>
     requires { Going reader text.now (both words.old later.old) at i × (i < length text.now) × (length text.now ≤ most_bytes) }
-    ensures going { result.cause ≡ 0 → Going reader text.now (both words.new later.new) result (i + 1) }
-    ensures refused { (result.cause ≡ 0 → ⊥) → reading reader text.now ≡ refusal result.cause result.line }
+    ensures { MatchResult result (λ next. Going reader text.now (both words.new later.new) next (i + 1)) (λ e. reading reader text.now ≡ refusal (number e.cause) e.line) }
 {
-    if text[i] == 10 {
-        let from = at.from;
-        let known = at.progress;
-        let frame = lines::frame_of(reader.kinds, &text[from..i]);
-        let end = ends::end_cause(reader, known, frame);
-        if end != 0 {
-            return Cursor {
-                progress: known,
-                line: 0,
-                from: from,
-                cause: end,
-            };
-        }
-        let told = told::tell(reader.heads, known, words, later, frame);
-        if told.cause != 0 {
-            return Cursor {
-                progress: known,
-                line: at.line,
-                from: from,
-                cause: told.cause,
-            };
-        }
-        let next = told.progress;
-        return Cursor {
-            progress: next,
+    if text[i] != 10 {
+        return Ok(at);
+    }
+    let frame = lines::frame_of(reader.kinds, &text[at.from..i]);
+    if let Err(cause) = ends::end_cause(reader, at.progress, frame) {
+        return Err(Refusal { cause, line: 0 });
+    }
+    match told::tell(reader.heads, at.progress, words, later, frame) {
+        Ok(progress) => Ok(Cursor {
+            progress,
             line: at.line + 1,
             from: i + 1,
-            cause: 0,
-        };
+        }),
+        Err(cause) => Err(Refusal {
+            cause,
+            line: at.line,
+        }),
     }
-    at
 }
 
 // The lines of a file of fitting length, from the first: each is told as its end is met.
-fn read_lines(reader: Reader, text: &[u8], words: &mut [u32], later: &mut [u32]) -> FileRead
+fn read_lines(
+    reader: Reader,
+    text: &[u8],
+    words: &mut [u32],
+    later: &mut [u32],
+) -> Result<Progress, Refusal>
     requires { (1 ≤ length text.now) × (length text.now ≤ most_bytes) × (both words.old later.old ≡ nothing_said) }
-    ensures { (result ≡ file_read (reading reader text.now)) × (result.number ≡ 0 → both words.new later.new ≡ (reading reader text.now).said) }
+    ensures { reading reader text.now ≡ reading_of result (both words.new later.new) }
 {
-    let nothing = refusal(0, 0);
-    let start = nothing.progress;
     let mut at = Cursor {
-        progress: start,
+        progress: nothing_read(),
         line: 1,
         from: 0,
-        cause: 0,
     };
-    let mut i = 0;
-    while i < text.len() {
-        at = pass(reader, text, words, later, at, i);
-        if at.cause != 0 {
-            return refusal(at.cause, at.line);
-        }
-        i += 1;
+    for i in 0..text.len() {
+        at = pass(reader, text, words, later, at, i)?;
     }
-    if at.from < i {
-        return refusal(1, at.line);
+    if at.from < text.len() {
+        return Err(Refusal {
+            cause: Cause::Foreign,
+            line: at.line,
+        });
     }
-    let end = ends::links_cause(reader, at.progress);
-    if end != 0 {
-        return refusal(end, 0);
-    }
-    let progress = at.progress;
-    FileRead {
-        number: 0,
-        line: 0,
-        progress: progress,
+    match ends::links_cause(reader, at.progress) {
+        Ok(()) => Ok(at.progress),
+        Err(cause) => Err(Refusal { cause, line: 0 }),
     }
 }
 
 // The file's own length is looked at first of all.
-fn read(reader: Reader, text: &[u8], words: &mut [u32], later: &mut [u32]) -> FileRead
+fn read(
+    reader: Reader,
+    text: &[u8],
+    words: &mut [u32],
+    later: &mut [u32],
+) -> Result<Progress, Refusal>
     requires { both words.old later.old ≡ nothing_said }
-    ensures { (result ≡ file_read (reading reader text.now)) × (result.number ≡ 0 → both words.new later.new ≡ (reading reader text.now).said) }
+    ensures { reading reader text.now ≡ reading_of result (both words.new later.new) }
 {
-    if text.len() < 1 {
-        return refusal(1, 0);
-    }
-    if MOST_BYTES < text.len() {
-        return refusal(1, 0);
+    if text.is_empty() || MOST_BYTES < text.len() {
+        return Err(Refusal {
+            cause: Cause::Foreign,
+            line: 0,
+        });
     }
     read_lines(reader, text, words, later)
+}
+
+// What a caller gets of a file. Of a refused one it is the number and the line, and only zeros beside
+// them.
+fn answer(file: Result<Progress, Refusal>) -> FileRead
+    ensures { result ≡ answer file }
+{
+    match file {
+        Ok(progress) => FileRead {
+            number: 0,
+            line: 0,
+            progress,
+        },
+        Err(refusal) => FileRead {
+            number: u8::from(refusal.cause),
+            line: refusal.line,
+            progress: nothing_read(),
+        },
+    }
 }
 
 // A plan file, by a reader that opens plans with a deaf terminal too or does not (`archive`), and takes
@@ -345,13 +307,10 @@ fn read_plan_file(archive: bool, most: u8, groups: bool, text: &[u8]) -> FileRea
     let mut later = [0u32; MOST_ROUNDS];
     let reader = Reader {
         kinds: PLAN_KINDS,
-        archive: archive,
-        heads: Heads {
-            most: most,
-            groups: groups,
-        },
+        archive,
+        heads: Heads { most, groups },
     };
-    read(reader, text, &mut words, &mut later)
+    answer(read(reader, text, &mut words, &mut later))
 }
 
 // The plan of a file with head, links and groups only, of which every terminal but the source hears
@@ -382,7 +341,7 @@ pub fn read_archive(text: &[u8]) -> ArchiveRead
 {
     let file = read_plan_file(true, MOST_TERMINALS, true, text);
     ArchiveRead {
-        file: file,
+        file,
         deaf: deaf::deaf_set(file.progress.plan),
     }
 }
@@ -394,22 +353,9 @@ pub fn read_drawing(text: &[u8]) -> FileRead
     read_plan_file(true, MOST_TERMINALS, false, text)
 }
 
-fn copy_notices(from: &[u32], to: &mut [u32])
-    requires { length from.now ≡ length to.old }
-    ensures { to.new ≡ from.now }
-{
-    let mut i = 0;
-    while i < to.len() {
-        to[i] = from[i];
-        i += 1;
-    }
-}
-
-// A run file: what it holds; the liars' words in the lent list of 16,000 places, of which those of a
-// shared channel need the first 800, and the office's later notices in that of 40, entry r - 1 being what
-// it issues in round r.
-pub fn read_run(text: &[u8], words: &mut [u32], later: &mut [u32]) -> FileRead
-    ensures value { result ≡ file_read (run_file text.now (length words.old) (length later.old)) }
+// A run file. Its words and later notices are put into the lists where these have their lengths.
+fn read_run_file(text: &[u8], words: &mut [u32], later: &mut [u32]) -> Result<Progress, Refusal>
+    ensures value { answer result ≡ file_read (run_file text.now (length words.old) (length later.old)) }
     ensures words_after { words.new ≡ words_read (run_file text.now (length words.old) (length later.old)) words.old }
     ensures later_after { later.new ≡ later_read (run_file text.now (length words.old) (length later.old)) later.old }
 {
@@ -423,19 +369,31 @@ pub fn read_run(text: &[u8], words: &mut [u32], later: &mut [u32]) -> FileRead
             groups: true,
         },
     };
-    let file = read(reader, text, &mut said, &mut issued);
-    if file.number != 0 {
-        return file;
+    let progress = read(reader, text, &mut said, &mut issued)?;
+    if !is_started(progress) {
+        return Err(Refusal {
+            cause: Cause::OutOfPlace,
+            line: 0,
+        });
     }
-    if is_started(file.progress) {
-        if words.len() == MOST_WORDS {
-            if later.len() == MOST_ROUNDS {
-                copy_notices(&said, words);
-                copy_notices(&issued, later);
-                return file;
-            }
-        }
-        return refusal(12, 0);
+    if words.len() != MOST_WORDS || later.len() != MOST_ROUNDS {
+        return Err(Refusal {
+            cause: Cause::WrongRoom,
+            line: 0,
+        });
     }
-    refusal(3, 0)
+    words.copy_from_slice(&said);
+    later.copy_from_slice(&issued);
+    Ok(progress)
+}
+
+// A run file: what it holds; the liars' words in the lent list of 16,000 places, of which those of a
+// shared channel need the first 800, and the office's later notices in that of 40, entry r - 1 being what
+// it issues in round r.
+pub fn read_run(text: &[u8], words: &mut [u32], later: &mut [u32]) -> FileRead
+    ensures value { result ≡ file_read (run_file text.now (length words.old) (length later.old)) }
+    ensures words_after { words.new ≡ words_read (run_file text.now (length words.old) (length later.old)) words.old }
+    ensures later_after { later.new ≡ later_read (run_file text.now (length words.old) (length later.old)) later.old }
+{
+    answer(read_run_file(text, words, later))
 }

@@ -1,0 +1,37 @@
+-- The causes for which a file is refused, as the code has them, by their numbers. Assumes nothing.
+use Rattle.std.specs.Prelude.{ℕ, Result, Ok, Err}
+use Rattle.faults.specs.declared.FaultSetError.{FaultSetError}
+use Rattle.faults.specs.declared.FaultSetError.TheVariants as fault
+use Rattle.frames.specs.declared.cause.Cause.{Cause}
+use Rattle.frames.specs.declared.cause.Cause.TheVariants.{Foreign, Unknown, OutOfPlace, WrongRange, WrongLink, LinkTwice, WrongMember, OverBound, WrongNotice, WrongWord, WordTwice, WrongRoom, TooMany, Deaf, WrongEdition, WrongGroups}
+
+abbrev pub number : Cause → ℕ
+number Foreign = 1
+number Unknown = 2
+number OutOfPlace = 3
+number WrongRange = 4
+number WrongLink = 5
+number LinkTwice = 6
+number WrongMember = 7
+number OverBound = 8
+number WrongNotice = 9
+number WrongWord = 10
+number WordTwice = 11
+number WrongRoom = 12
+number TooMany = 14
+number Deaf = 15
+number WrongEdition = 16
+number WrongGroups = 17
+
+-- the library's causes against a bad set
+abbrev pub of_set : FaultSetError → Cause
+of_set fault.WrongRange = WrongRange
+of_set fault.WrongLink = WrongLink
+of_set fault.WrongGroups = WrongGroups
+of_set fault.WrongMember = WrongMember
+of_set fault.OverBound = OverBound
+
+-- the number of what refuses, 0 where nothing does
+abbrev pub refused_by : {A : Type 0} → Result A Cause → ℕ
+refused_by (Ok a) = 0
+refused_by (Err cause) = number cause
