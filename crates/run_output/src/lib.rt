@@ -14,6 +14,7 @@ ghost use Rattle.run_output.specs.RoundsLeftOut.{RoundsLeftOut};
 use frames::{FileRead, Progress};
 use lines::Form;
 use output::Written;
+use std::array;
 use terminal::{Record, State};
 use text::Text;
 
@@ -62,12 +63,9 @@ fn of_site(form: Form, n: usize, faulty: u32, records: [Record; 20]) -> Text
     ensures { held result ≡ site_lines form n faulty (state_of records) }
 {
     let mut t = text::empty();
-    let mut b = 0;
-    while b < n {
-        let r = records[b];
-        let state = r.state;
-        t = with_terminal(t, form, b as u8, sets::member(faulty, b), state);
-        b += 1;
+    for b in 0..n {
+        let bad = sets::member(faulty, b);
+        t = with_terminal(t, form, b as u8, bad, records[b].state);
     }
     t
 }
@@ -77,13 +75,7 @@ fn layouts(words: &[u32]) -> [u16; 800]
     requires { length words.now ≡ 16000 }
     ensures { result ≡ table 800 (λ i. layout_of (get_or words.now i 0)) }
 {
-    let mut list = [0u16; 800];
-    let mut i = 0;
-    while i < 800 {
-        list[i] = quorum::layout_of(words[i]);
-        i += 1;
-    }
-    list
+    array::from_fn(|i| quorum::layout_of(words[i]))
 }
 
 // The lines of the run on a shared channel.
@@ -91,21 +83,17 @@ fn ran_shared(p: Progress, words: &[u32]) -> Text
     requires { SharedPlayable p × (length words.now ≡ 16000) }
     ensures { held result ≡ site_lines p.form p.plan.n p.faulty (state_shared p words.now) }
 {
-    let plan = p.plan;
-    let n = plan.n;
-    let end = (p.rounds as usize) * n;
+    let end = (p.rounds as usize) * p.plan.n;
     let list = layouts(words);
     let ran = simulation::run_shared_site(
-        plan,
+        p.plan,
         p.faulty,
         quorum::layout_of(p.notice),
         p.default,
         p.rounds,
         &list[..end],
     );
-    let records = ran.records;
-    let form = p.form;
-    of_site(form, n, p.faulty, records)
+    of_site(p.form, p.plan.n, p.faulty, ran.records)
 }
 
 // The lines of the run with a word for each hearer.
@@ -113,21 +101,17 @@ fn ran_linked(p: Progress, words: &[u32], later: &[u32]) -> Text
     requires { Playable p later.now × (length words.now ≡ 16000) × (length later.now ≡ 40) }
     ensures { held result ≡ site_lines p.form p.plan.n p.faulty (state_linked p (both words.now later.now)) }
 {
-    let plan = p.plan;
-    let n = plan.n;
     let rounds = p.rounds as usize;
-    let end = rounds * (n * n);
+    let end = rounds * (p.plan.n * p.plan.n);
     let ran = simulation::run_site(
-        plan,
+        p.plan,
         p.faulty,
         p.notice,
         &later[..rounds],
         p.rounds,
         &words[..end],
     );
-    let records = ran.records;
-    let form = p.form;
-    of_site(form, n, p.faulty, records)
+    of_site(p.form, p.plan.n, p.faulty, ran.records)
 }
 
 // The lines of the run that was asked for.
@@ -149,8 +133,7 @@ fn of_run(read: FileRead, words: &[u32], later: &[u32]) -> Text
     if read.number != 0 {
         return output::refusal(read.number, read.line);
     }
-    let p = read.progress;
-    ran(p, words, later)
+    ran(read.progress, words, later)
 }
 
 // What `run` prints on a run file, into the lent buffer.

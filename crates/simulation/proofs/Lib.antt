@@ -1,7 +1,7 @@
--- Bounds of places in the list of words (Places), the array that a closure makes (Filled), the traversal of turns (Walk), and that its records show those of the rules (Meaning). For callers: which calls are
--- accepted (Causes), and what an accepted one leaves (Promise).
+-- A bound of places in the list of words (Places), the traversal of turns (Walk), and that its records show those of the rules (Meaning). For callers: an array
+-- that a closure makes (Filled), which calls are accepted (Causes), and what an accepted one leaves (Promise).
 mod Places
-mod Filled
+pub mod Filled
 mod Walk
 mod Meaning
 mod SharedMeaning

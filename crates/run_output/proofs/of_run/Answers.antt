@@ -5,10 +5,5 @@ use Rattle.run_output.proofs.of_run.Goals as goal
 pub returns-then-read-ne0 : goal.returns-then-read-ne0
 returns-then-read-ne0 c = run_refused _ _ _ c.if-read-ne0.true c.refusal.ensures
 
-pub ran-requires : goal.ran-requires
-ran-requires c =
-    let p = c.requires in
-    (p.0 c.if-read-ne0.false, p.1 c.if-read-ne0.false, p.2, p.3)
-
 pub returns : goal.returns
 returns c = run_told _ _ _ c.if-read-ne0.false c.ran.ensures
