@@ -4,16 +4,15 @@
 mod counting;
 mod table;
 
-ghost use Rattle.std.specs.Prelude.{◌≡◌, length};
-ghost use Rattle.partition.specs.Margins.{told, margins_of};
+ghost use Rattle.std.specs.Prelude.{◌≡◌, Err, length};
+ghost use Rattle.partition.specs.Margins.{told};
 ghost use Rattle.text.specs.Texts.{held, put_into};
 ghost use Rattle.frames.specs.Reading.{margins_reading, file_read};
 ghost use Rattle.output.specs.OnFile.{answer_on};
-ghost use Rattle.margin_output.specs.Margins.{margins_answer, margins_on, margins_text};
+ghost use Rattle.margin_output.specs.Margins.{margins_answer, margins_text};
 
-use frames::FileRead;
 use output::Written;
-use partition::{Outcome, Sheet};
+use partition::MarginsError;
 use plan::Plan;
 use text::Text;
 
@@ -26,29 +25,24 @@ pub(crate) struct Tally {
     pub above: u8,
 }
 
-// The table of a plan, or the refusal of a record that is none with a bound f.
-fn answer(sheet: Sheet, p: Plan) -> Text
-    requires { told sheet ≡ margins_of p }
-    ensures { held result ≡ margins_answer p }
+// The number of a refusal.
+fn number(e: MarginsError) -> u8
+    ensures { result ≡ (told (Err e)).number }
 {
-    let places = sheet.places;
-    let outcome = sheet.outcome;
-    match outcome {
-        Outcome::Known => table::with_counts(table::lines(places), counting::counted(places)),
-        Outcome::WrongRange => output::refusal(4, 0),
-        Outcome::WrongLink => output::refusal(5, 0),
+    match e {
+        MarginsError::WrongRange => 4,
+        MarginsError::WrongLink => 5,
     }
 }
 
-// The table on a plan file.
-fn of_plan(read: FileRead, sheet: Sheet) -> Text
-    requires { told sheet ≡ margins_of read.progress.plan }
-    ensures { held result ≡ margins_on read }
+// The table of a plan, or the refusal of a record that is none with a bound f.
+fn answer(p: Plan) -> Text
+    ensures { held result ≡ margins_answer p }
 {
-    if read.number != 0 {
-        return output::refusal(read.number, read.line);
+    match partition::margins(p) {
+        Ok(places) => table::with_counts(table::lines(places), counting::counted(places)),
+        Err(e) => output::refusal(number(e), 0),
     }
-    answer(sheet, read.progress.plan)
 }
 
 // What `margins` prints on a plan file, into the lent buffer.
@@ -57,6 +51,6 @@ pub fn margins_text(text: &[u8], out: &mut [u8]) -> Written
     ensures out_after { out.new ≡ put_into (margins_text text.now) out.old }
 {
     let read = frames::read_margins(text);
-    let sheet = partition::margins(read.progress.plan);
-    output::put(read, of_plan(read, sheet), out)
+    let said = answer(read.progress.plan);
+    output::put(read, output::text_on(read, said), out)
 }
