@@ -18,14 +18,14 @@ returns-then-layout_of-eq0 c = sym (cause_here _ 9 _ (eq-eqb _ 0 (sym c.layout_o
 pub returns-then-edition_of-held : goal.returns-then-edition_of-held
 unfolding issue_cause
 returns-then-edition_of-held c =
-    let not_above : ltb (held_by c.args.before.state) (edition_of c.args.notice) ≡ false =
+    let not_above : ltb (held_by c.args.before.now.state) (edition_of c.args.notice) ≡ false =
     le-ltb _ _ (let h = c.held.ensures in let e = c.edition_of.ensures in let t = c.if-edition_of-held.true in omega arith) in
     sym (cause_later _ 9 _ (ne_eqb _ 0 (λ e. c.if-layout_of-eq0.false (c.layout_of.ensures ∙ e))) ∙ cause_here _ 16 _ (not_i not_above))
 
 pub returns-then-not-office_sound : goal.returns-then-not-office_sound
 unfolding issue_cause
 returns-then-not-office_sound c =
-    let above : ltb (held_by c.args.before.state) (edition_of c.args.notice) ≡ true =
+    let above : ltb (held_by c.args.before.now.state) (edition_of c.args.notice) ≡ true =
     lt-ltb _ _ (let h = c.held.ensures in let e = c.edition_of.ensures in let t = c.if-edition_of-held.false in omega arith) in
     sym (
     cause_later _ 9 _ (ne_eqb _ 0 (λ e. c.if-layout_of-eq0.false (c.layout_of.ensures ∙ e))) ∙ cause_later _ 16 _ (not_yes above)
@@ -35,7 +35,7 @@ returns-then-not-office_sound c =
 pub returns : goal.returns
 unfolding issue_cause
 returns c =
-    let above : ltb (held_by c.args.before.state) (edition_of c.args.notice) ≡ true =
+    let above : ltb (held_by c.args.before.now.state) (edition_of c.args.notice) ≡ true =
     lt-ltb _ _ (let h = c.held.ensures in let e = c.edition_of.ensures in let t = c.if-edition_of-held.false in omega arith) in
     sym (
     cause_later _ 9 _ (ne_eqb _ 0 (λ e. c.if-layout_of-eq0.false (c.layout_of.ensures ∙ e))) ∙ cause_later _ 16 _ (not_yes above)

@@ -17,7 +17,7 @@ unfolding least_from
 returns-then-member c =
     let a = c.args in
     c.least_of.ensures
-    ∙ ap (least_of (candidate a.n a.bound a.heard (map values_in a.notes))) (sym (view_values a.notes a.j))
+    ∙ ap (least_of (candidate a.n a.bound a.heard (map values_in a.notes.now))) (sym (view_values a.notes.now a.j))
     ∙ sym (pick_yes _ _ _ (sym c.member.ensures ∙ c.if-member.true))
 
 pub returns : goal.returns
