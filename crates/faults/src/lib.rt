@@ -2,7 +2,7 @@
 // witness check.
 #![tactic(auto)]
 
-ghost use Rattle.std.specs.Prelude.{◌≡◌, not, ℕ, ◌<◌, ◌^◌, get_or};
+ghost use Rattle.std.specs.Prelude.{◌≡◌, not, ℕ, ◌<◌, ◌^◌, get_or, Err};
 ghost use Rattle.sets.specs.Tests.{◌and◌, ◌implies◌};
 ghost use Rattle.sets.specs.Sets.{mem, all, some, mask};
 ghost use Rattle.plan.specs.Plan.{cause_of};
@@ -35,17 +35,28 @@ impl From<Unsound> for FaultSetError {
     }
 }
 
-// The documents' number of the answer, 0 where nothing is refused.
+// The documents' number.
+impl From<FaultSetError> for u8 {
+    ghost from_gives = { λ e n. n ≡ fault_number_of (Err e) };
+
+    fn from(e: FaultSetError) -> u8 {
+        match e {
+            FaultSetError::WrongRange => 4,
+            FaultSetError::WrongLink => 5,
+            FaultSetError::WrongGroups => 17,
+            FaultSetError::WrongMember => 7,
+            FaultSetError::OverBound => 8,
+        }
+    }
+}
+
+// The number of the answer, 0 where nothing is refused.
 pub fn number(c: Result<(), FaultSetError>) -> u8
     ensures { result ≡ fault_number_of c }
 {
     match c {
         Ok(()) => 0,
-        Err(FaultSetError::WrongRange) => 4,
-        Err(FaultSetError::WrongLink) => 5,
-        Err(FaultSetError::WrongGroups) => 17,
-        Err(FaultSetError::WrongMember) => 7,
-        Err(FaultSetError::OverBound) => 8,
+        Err(e) => u8::from(e),
     }
 }
 

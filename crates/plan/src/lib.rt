@@ -1,7 +1,7 @@
 // The plan of a site: who hears whom, who issues the notice, and who may be bad together.
 #![tactic(auto)]
 
-ghost use Rattle.std.specs.Prelude.{◌≡◌, get_or};
+ghost use Rattle.std.specs.Prelude.{◌≡◌, get_or, Err};
 ghost use Rattle.sets.specs.Sets.{all};
 ghost use Rattle.plan.specs.Plan.{number_of, row_sound, cause_of, too_many};
 
@@ -22,6 +22,19 @@ pub enum Unsound {
     WrongRange,
     WrongLink,
     WrongGroups,
+}
+
+// The documents' number.
+impl From<Unsound> for u8 {
+    ghost from_gives = { λ e n. n ≡ number_of (Err e) };
+
+    fn from(e: Unsound) -> u8 {
+        match e {
+            Unsound::WrongRange => 4,
+            Unsound::WrongLink => 5,
+            Unsound::WrongGroups => 17,
+        }
+    }
 }
 
 fn row_sound(n: usize, b: usize, row: u32) -> bool
