@@ -17,10 +17,5 @@ pub(crate) fn deaf_set(p: Plan) -> u32
     requires { p.n ≤ most_terminals }
     ensures { result ≡ deaf_set p }
 {
-    let mut found: u32 = 0;
-    for b in 0..p.n {
-        let one = is_deaf(p, b) as u32;
-        found = found | (one << b);
-    }
-    found
+    sets::those(p.n, |b| is_deaf(p, b))
 }

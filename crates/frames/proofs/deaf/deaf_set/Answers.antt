@@ -1,15 +1,18 @@
--- The mask so far is that of the terminals passed. Assumes nothing.
-use mathlib.Core.Path.{refl, ap, ◌∙◌}
+-- The set of those who pass the test. Assumes nothing.
+use Prim.Native.Nat.{ℕ, ◌<◌, ◌^◌, min}
+use mathlib.Core.Path.{◌≡◌, subst}
 use native.Mathlib.Omega.{arith}
-use Rattle.sets.specs.Sets.{bit, mask}
-use Rattle.sets.proofs.Masks.{next_bit, byte_bit}
-use Rattle.plan.specs.Deaf.{is_deaf}
+use borrow.Author.Rules.{rules}
+use Rattle.sets.specs.Sets.{mem}
+use Rattle.sets.proofs.Laws.{mask_of}
+use Rattle.plan.specs.Deaf.{is_deaf, deaf_set}
 use Rattle.frames.proofs.deaf.deaf_set.Goals as goal
 
-pub loop-b-init : goal.loop-b-init
-unfolding mask
-loop-b-init c = refl
-
-pub loop-b-preserved : goal.loop-b-preserved
-loop-b-preserved c =
-    next_bit _ (is_deaf c.args.p) _ _ (omega (arith, c.requires, c.loop-b-test.true)) c.loop-b.invariant (byte_bit c.is_deaf-one.result ∙ ap bit c.is_deaf-one.ensures)
+pub returns : goal.returns
+unfolding deaf_set
+returns c =
+    let p = c.args.p in
+    let room : min p.n 32 ≡ p.n = omega arith in
+    let P : ℕ → Type 0 = λ k. c.those.result < 2 ^ k in
+    let deaf : (b : ℕ) → b < p.n → mem b c.those.result ≡ is_deaf p b = λ b k. let t = c.those.ensures.tested b (omega arith) in search rules in
+    mask_of p.n c.those.result (is_deaf p) (subst P room c.those.ensures.below) deaf
