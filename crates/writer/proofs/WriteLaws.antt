@@ -10,11 +10,14 @@ use native.Mathlib.Omega.{arith}
 use lib.ListN.{length, get_or, set, length-append}
 use lib.Seq.{sets, length-sets}
 use borrow.Author.Tests.{ne_eqb}
+use Rattle.std.specs.Prelude.{Err}
 use Rattle.sets.specs.Tests.{pick}
 use Rattle.sets.proofs.Bools.{pick_yes, pick_no}
 use Rattle.quorum.specs.Quorum.{listed}
 use Rattle.plan.specs.declared.Plan.{Plan}
-use Rattle.plan.specs.Plan.{hears, cause_of}
+use Rattle.plan.specs.declared.Unsound.{Unsound}
+use Rattle.plan.specs.declared.Unsound.TheVariants.{WrongRange, WrongLink, WrongGroups}
+use Rattle.plan.specs.Plan.{number_of, hears, cause_of}
 use Rattle.text.specs.declared.Written.{Written}
 use Rattle.digits.specs.Digits.{character_of}
 use Rattle.text.specs.Digits.{hex_byte, hex_pair, hex_triple}
@@ -206,14 +209,19 @@ pub written_sound : (p : Plan) (w : Written) (out last : List ℕ) → cause_of 
     → (w ≡ written_of (cause_of p) (length (written_text p)) (length out)) × (last ≡ put_into (written_text p) out)
 written_sound p w out last s a b = rw (s, sound_text p s) (a, b)
 
--- a record that is no plan
-pub written_unsound : (p : Plan) (out : List ℕ) (cause : ℕ) → cause_of p ≡ cause → (cause ≡ 0 → ⊥)
-    → (◌≡◌ {A = Written} (record { number = cause; len = 0 }) (written_of (cause_of p) (length (written_text p)) (length out)))
+-- a record that is no plan, for which every cause has a number
+refuses : (e : Unsound) → number_of (Err e) ≡ 0 → ⊥
+refuses WrongRange z = absurd (omega arith)
+refuses WrongLink z = absurd (omega arith)
+refuses WrongGroups z = absurd (omega arith)
+
+pub written_unsound : (p : Plan) (out : List ℕ) (e : Unsound) (number : ℕ) → number_of (Err e) ≡ cause_of p → number ≡ number_of (Err e)
+    → (◌≡◌ {A = Written} (record { number = number; len = 0 }) (written_of (cause_of p) (length (written_text p)) (length out)))
     × (out ≡ put_into (written_text p) out)
 unfolding written_text
-written_unsound p out cause e h =
-    let none : written_text p ≡ [] = pick_no _ _ _ (ne_eqb (cause_of p) 0 (λ z. h (sym e ∙ z))) in (
-      ap (λ (n : ℕ). record { number = n; len = 0 }) (sym e)
+written_unsound p out e number h k =
+    let none : written_text p ≡ [] = pick_no _ _ _ (ne_eqb (cause_of p) 0 (λ z. refuses e (h ∙ z))) in (
+      ap (λ (n : ℕ). record { number = n; len = 0 }) (k ∙ h)
           ∙ sym (written_fits (cause_of p) 0 (length out) (omega arith))
           ∙ ap (λ (l : List ℕ). written_of (cause_of p) (length l) (length out)) (sym none),
       sym (put_fits [] out (omega arith)) ∙ ap (λ (l : List ℕ). put_into l out) (sym none),

@@ -9,7 +9,7 @@ ghost use Rattle.text.specs.Digits.{hex_byte};
 ghost use Rattle.text.specs.Texts.{written_of, put_into};
 ghost use Rattle.writer.specs.Written.{bound_byte, head_line, link_line, link_lines, group_line, group_lines, plan_text, written_text};
 
-use plan::{Plan, Unsound};
+use plan::Plan;
 use quorum::BoundKind;
 use text::Written;
 
@@ -129,8 +129,9 @@ pub fn write_plan(p: Plan, out: &mut [u8]) -> Written
 {
     match plan::check(p) {
         Ok(()) => put_plan(p, out),
-        Err(Unsound::WrongRange) => Written { number: 4, len: 0 },
-        Err(Unsound::WrongLink) => Written { number: 5, len: 0 },
-        Err(Unsound::WrongGroups) => Written { number: 17, len: 0 },
+        Err(e) => Written {
+            number: u8::from(e),
+            len: 0,
+        },
     }
 }
