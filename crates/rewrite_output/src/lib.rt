@@ -14,8 +14,7 @@ pub fn rewritten_text(text: &[u8], out: &mut [u8]) -> Written
     ensures value { result ≡ answer_on (file_read (archive_reading text.now)) (rewritten_text text.now) (length out.old) }
     ensures out_after { out.new ≡ put_into (rewritten_text text.now) out.old }
 {
-    let archived = frames::read_archive(text);
-    let read = archived.file;
+    let read = frames::read_archive(text).file;
     if read.number != 0 {
         return output::put(read, output::refusal(read.number, read.line), out);
     }
