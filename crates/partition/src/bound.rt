@@ -1,21 +1,22 @@
 // What holds of every fault set of a part of the search for a bound f, whichever it is.
 ghost use Rattle.std.specs.Prelude.{◌≡◌, ◌<◌, ◌^◌};
 ghost use Rattle.quorum.specs.declared.BoundKind.TheVariants.{Most};
-ghost use Rattle.plan.specs.Plan.{cause_of};
 ghost use Rattle.partition.specs.Search.{Grown, Heard};
 
 use super::search;
-use plan::Plan;
+use super::site::Site;
 
 // Known, with all others that are faulty or reached wherever known are and none of out is faulty: a
 // good terminal joins that hears more than f who are reached, and it hears at most f who are faulty.
-pub(crate) fn settled(p: Plan, f: u32, out: u32, known: u32) -> u32
-    requires { (cause_of p ≡ 0) × (p.bound.kind ≡ Most f) × (known < 2 ^ p.n) }
-    ensures { Grown p out known result }
+pub(crate) fn settled(site: Site, f: u32, out: u32, known: u32) -> u32
+    requires { (site.plan.bound.kind ≡ Most f) × (known < 2 ^ site.plan.n) }
+    ensures { Grown site.plan out known result }
 {
     let mut s = known;
     loop {
-        let next = s | faults::over(p.rows, f, s & out) | faults::over(p.rows, 2 * f, s);
+        let next = s
+            | faults::over(site.plan.rows, f, s & out)
+            | faults::over(site.plan.rows, 2 * f, s);
         if next == s {
             return s;
         }

@@ -7,10 +7,10 @@ mod check;
 mod groups;
 mod margin;
 mod search;
+mod site;
 mod standings;
 
 ghost use Rattle.std.specs.Prelude.{◌≡◌, true, List, Ok};
-ghost use Rattle.plan.specs.Plan.{cause_of};
 ghost use Rattle.closure.specs.Verdict.{verdict, accepts};
 ghost use Rattle.partition.specs.Answer.{of_plan, answered, replied, reply_of};
 ghost use Rattle.partition.specs.Margins.{of_bounded_plan, told, margins_of};
@@ -18,6 +18,7 @@ ghost use Rattle.closure.specs.Answer.{judged, answer_within, answer_of, quote_o
 
 use plan::{Plan, Unsound};
 use quorum::BoundKind;
+use site::Site;
 
 // The fault set f, the terminals l that a notice reaches in spite of it, and the terminals r that
 // it cuts off.
@@ -78,14 +79,12 @@ impl From<Unsound> for MarginsError {
 }
 
 // The least witness against a sound plan, none where it passes.
-fn judge(p: Plan) -> Option<Witness>
-    requires { cause_of p ≡ 0 }
-    ensures { answered (Ok result) ≡ judged (verdict p) }
+fn judge(site: Site) -> Option<Witness>
+    ensures { answered (Ok result) ≡ judged (verdict site.plan) }
 {
-    let hearers = faults::over(p.rows, 0, sets::singleton(p.source));
-    let f = search::search(p, hearers)?;
-    let l = search::reach(p, hearers, f);
-    let r = search::outside(p.n, f, l);
+    let f = search::search(site)?;
+    let l = search::reach(site, f);
+    let r = search::outside(site, f, l);
     Some(Witness { f, l, r })
 }
 
@@ -98,8 +97,7 @@ fn judge_within(most: usize, p: Plan) -> Result<Option<Witness>, VerdictError>
     if plan::too_many(most, p) {
         return Err(VerdictError::TooMany);
     }
-    plan::check(p)?;
-    Ok(judge(p))
+    Ok(judge(site::of(p)?))
 }
 
 // A pass, which is none, or a fail with the least witness, or why the record is no plan: for the planner,
@@ -123,8 +121,7 @@ pub fn quote(p: Plan) -> Result<Option<Witness>, VerdictError>
 pub fn check_witness(p: Plan, f: u32, l: u32, r: u32) -> Result<bool, Unsound>
     ensures { replied result ≡ reply_of p f l r }
 {
-    plan::check(p)?;
-    Ok(check::accepts(p, f, l, r))
+    Ok(check::accepts(site::of(p)?, f, l, r))
 }
 
 // How each terminal stands, or why the record is no plan with a bound f; one that lists a group has none.
@@ -137,6 +134,5 @@ pub fn margins(p: Plan) -> Result<[Standing; 20], MarginsError>
     if !standings::no_groups(p.bound.groups) {
         return Err(MarginsError::WrongRange);
     }
-    plan::check(p)?;
-    Ok(standings::standings(p, f as u32))
+    Ok(standings::standings(site::of(p)?, f as u32))
 }

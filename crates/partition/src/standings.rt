@@ -3,13 +3,11 @@ ghost use Rattle.std.specs.Prelude.{◌≡◌, true, ◌+◌, ◌<◌, ◌≤◌
 ghost use Rattle.sets.specs.Sets.{all};
 ghost use Rattle.sets.specs.Tables.{table};
 ghost use Rattle.quorum.specs.declared.BoundKind.TheVariants.{Most};
-ghost use Rattle.plan.specs.Plan.{cause_of};
 ghost use Rattle.closure.specs.Margin.{fewest, has_margin};
-ghost use Rattle.partition.specs.Search.{direct};
 ghost use Rattle.partition.specs.Margins.{standing_of};
 
+use super::site::Site;
 use super::{Standing, margin};
-use plan::Plan;
 
 // No place lists a group.
 pub(crate) fn no_groups(groups: [u32; 16]) -> bool
@@ -27,32 +25,31 @@ fn difference(f: u32, heard: u32) -> i32
     heard as i32 - needs
 }
 
-fn standing(p: Plan, f: u32, hearers: u32, heard: u32, b: usize) -> Standing
-    requires { (cause_of p ≡ 0) × (p.bound.kind ≡ Most f) × (hearers ≡ direct p.rows p.source) × (b < p.n → has_margin p b ≡ true → heard ≡ fewest p b) }
-    ensures { result ≡ standing_of p b }
+fn standing(site: Site, f: u32, heard: u32, b: usize) -> Standing
+    requires { (site.plan.bound.kind ≡ Most f) × (b < site.plan.n → has_margin site.plan b ≡ true → heard ≡ fewest site.plan b) }
+    ensures { result ≡ standing_of site.plan b }
 {
-    if p.n <= b {
+    if site.plan.n <= b {
         return Standing::Absent;
     }
-    if b == p.source {
+    if b == site.plan.source {
         return Standing::Source;
     }
-    if sets::member(hearers, b) {
+    if sets::member(site.hearers, b) {
         return Standing::Direct;
     }
     Standing::Margin(difference(f, heard))
 }
 
 // places[b] is how terminal b stands.
-pub(crate) fn standings(p: Plan, f: u32) -> [Standing; 20]
-    requires { (cause_of p ≡ 0) × (p.bound.kind ≡ Most f) }
-    ensures { result ≡ table 20 (standing_of p) }
+pub(crate) fn standings(site: Site, f: u32) -> [Standing; 20]
+    requires { site.plan.bound.kind ≡ Most f }
+    ensures { result ≡ table 20 (standing_of site.plan) }
 {
-    let hearers = faults::over(p.rows, 0, sets::singleton(p.source));
-    let fewest = margin::fewest(p, f, hearers);
+    let fewest = margin::fewest(site, f);
     let mut places = [Standing::Absent; 20];
     for b in 0..20 {
-        places[b] = standing(p, f, hearers, fewest[b], b);
+        places[b] = standing(site, f, fewest[b], b);
     }
     places
 }

@@ -1,23 +1,14 @@
 -- The search's set read as a verdict. Assumes nothing.
-use Rattle.plan.proofs.Laws.{sound}
 use Rattle.closure.specs.Verdict.{verdict}
 use Rattle.partition.proofs.Laws.{memory_passes, memory_fails, memory_below}
-use Rattle.partition.proofs.Rows.{direct_by}
 use Rattle.partition.proofs.judge.Goals as goal
-
-pub search-requires : goal.search-requires
-search-requires c = (c.requires, direct_by _ _ _ _ c.singleton.ensures c.over-hearers.ensures)
 
 pub returns-in_err-f : goal.returns-in_err-f
 unfolding verdict
 returns-in_err-f c = rw c.from_residual.ensures (memory_passes _ _ c.in_err-f.ensures)
 
 pub reach-l-requires : goal.reach-l-requires
-reach-l-requires c =
-    (c.requires, direct_by _ _ _ _ c.singleton.ensures c.over-hearers.ensures, memory_below _ _ c.in_ok-f.ensures)
-
-pub outside-r-requires : goal.outside-r-requires
-outside-r-requires c = (sound _ c.requires).twenty
+reach-l-requires c = memory_below _ _ c.in_ok-f.ensures
 
 pub returns : goal.returns
 unfolding verdict

@@ -1,5 +1,9 @@
 -- Too many terminals, or else the answer by the plan's cause. Assumes nothing.
-use mathlib.Core.Path.{sym, ◌∙◌}
+use mathlib.Core.Path.{◌≡◌, sym, ap, ◌∙◌}
+use Rattle.plan.specs.declared.Plan.{Plan}
+use Rattle.plan.specs.Plan.{cause_of}
+use Rattle.closure.specs.Verdict.{verdict}
+use Rattle.closure.specs.Answer.{judged}
 use Rattle.closure.proofs.Quote.{many_refused}
 use Rattle.partition.proofs.Laws.{answer_judged, plan_refused, with_check}
 use Rattle.partition.proofs.judge_within.Goals as goal
@@ -9,17 +13,16 @@ returns-then-too_many c =
     let told = with_check _ _ _ (sym (many_refused _ _ (sym c.too_many.ensures ∙ c.if-too_many.true))) in
     record { answer = told.0; accepted = told.1 }
 
-pub judge-requires : goal.judge-requires
-judge-requires c = sym c.in_ok-check.ensures
-
 pub returns : goal.returns
 returns c =
     let few = sym c.too_many.ensures ∙ c.if-too_many.false in
-    let told = with_check _ _ _ (answer_judged _ _ few _ (sym c.in_ok-check.ensures) c.judge.ensures) in
+    let site = c.in_ok-of.field-0 in
+    let e : site.plan ≡ c.args.p = c.in_ok-of.ensures in
+    let told = with_check _ _ _ (answer_judged _ _ few _ (ap cause_of (sym e) ∙ site.sound) (c.judge.ensures ∙ ap (λ (p : Plan). judged (verdict p)) e)) in
     record { answer = told.0; accepted = told.1 }
 
-pub returns-in_err-check : goal.returns-in_err-check
-returns-in_err-check c =
+pub returns-in_err-of : goal.returns-in_err-of
+returns-in_err-of c =
     let few = sym c.too_many.ensures ∙ c.if-too_many.false in
-    let told = with_check _ _ _ (plan_refused _ _ few _ _ c.from_residual.ensures.1 c.in_err-check.ensures) in
+    let told = with_check _ _ _ (plan_refused _ _ few _ _ c.from_residual.ensures.1 c.in_err-of.ensures) in
     record { answer = told.0; accepted = told.1 }

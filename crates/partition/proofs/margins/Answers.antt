@@ -1,10 +1,14 @@
 -- Whether a group is listed decides, then the plan's cause. Assumes nothing.
-use mathlib.Core.Path.{refl, sym, ◌∙◌}
+use mathlib.Core.Path.{◌≡◌, refl, sym, ap, ◌∙◌}
 use native.Mathlib.Omega.{arith}
+use Rattle.sets.specs.Tables.{table}
+use Rattle.plan.specs.declared.Plan.{Plan}
+use Rattle.plan.specs.Plan.{cause_of}
 use Rattle.plan.proofs.Laws.{sound}
+use Rattle.partition.specs.Margins.{standing_of}
 use Rattle.partition.specs.declared.MarginsError.TheVariants.{WrongRange}
 use Rattle.partition.proofs.Sheets.{groupless_i, groupless_no, groupless_cause, groups_no, grouped_cause, margins_refused, margins_known, plan_refused}
-use Rattle.partition.proofs.margins.Goals.{In-Most}
+use Rattle.partition.proofs.margins.Goals.{In_ok-of}
 use Rattle.partition.proofs.margins.Goals as goal
 
 pub returns-in_default : goal.returns-in_default
@@ -13,20 +17,32 @@ returns-in_default c = margins_refused _ WrongRange (sym (grouped_cause _ (group
 pub returns-then-not-no_groups : goal.returns-then-not-no_groups
 returns-then-not-no_groups c = margins_refused _ WrongRange (sym (grouped_cause _ (groupless_no c.args.p _ refl _ c.in-Most.is (sym c.no_groups.ensures ∙ c.if-not-no_groups.true))))
 
-pub returns-in_err-check : goal.returns-in_err-check
-returns-in_err-check c =
+pub returns-in_err-of : goal.returns-in_err-of
+returns-in_err-of c =
     let kind = c.in-Most.is in
     let none = groupless_i c.args.p _ refl _ kind (sym c.no_groups.ensures ∙ c.if-not-no_groups.false) in
-    plan_refused _ _ _ c.from_residual.ensures.1 (c.in_err-check.ensures ∙ sym (groupless_cause _ _ kind none))
+    plan_refused _ _ _ c.from_residual.ensures.1 (c.in_err-of.ensures ∙ sym (groupless_cause _ _ kind none))
+
+module _ (c : In_ok-of) where
+  site_is : c.in_ok-of.field-0.plan ≡ c.args.p
+  site_is = c.in_ok-of.ensures
+
+  is_plan : cause_of c.args.p ≡ 0
+  is_plan = ap cause_of (sym site_is) ∙ c.in_ok-of.field-0.sound
 
 pub overflow_cast-f : goal.overflow_cast-f
-overflow_cast-f c = let s = sound _ (sym c.in_ok-check.ensures) in let l = s.f_below _ c.in-Most.is in let t = s.twenty in omega arith
+overflow_cast-f c =
+    let s = sound _ (is_plan c) in
+    let l = s.f_below _ c.in-Most.is in
+    let t = s.twenty in
+    omega arith
 
 pub standings-requires : goal.standings-requires
-standings-requires c = (sym c.in_ok-check.ensures, c.in-Most.is)
+standings-requires c = ap (λ (p : Plan). p.bound.kind) (site_is c) ∙ c.in-Most.is
 
 pub returns : goal.returns
 returns c =
     let kind = c.in-Most.is in
     let none = groupless_i c.args.p _ refl _ kind (sym c.no_groups.ensures ∙ c.if-not-no_groups.false) in
-    margins_known _ _ c.standings.ensures (groupless_cause _ _ kind none ∙ sym c.in_ok-check.ensures)
+    let made = (goal.at.returns c).In_ok-of in
+    margins_known _ _ (c.standings.ensures ∙ ap (λ (p : Plan). table 20 (standing_of p)) (site_is made)) (groupless_cause _ _ kind none ∙ is_plan made)

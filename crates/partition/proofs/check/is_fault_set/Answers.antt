@@ -6,4 +6,4 @@ use Rattle.faults.proofs.Laws.{fault_number}
 use Rattle.partition.proofs.check.is_fault_set.Goals as goal
 
 pub returns : goal.returns
-returns c = ap (λ (k : ℕ). eqb k 0) (c.number.ensures ∙ c.check_fault_set.ensures) ∙ fault_number _ _ c.requires
+returns c = ap (λ (k : ℕ). eqb k 0) (c.number.ensures ∙ c.check_fault_set.ensures) ∙ fault_number _ _ c.args.site.sound

@@ -2,7 +2,6 @@
 use mathlib.Core.Path.{sym, ◌∙◌}
 use native.Mathlib.Omega.{arith}
 use Rattle.quorum.specs.Quorum.{group_at}
-use Rattle.plan.proofs.Laws.{sound}
 use Rattle.partition.proofs.Members.{key_low}
 use Rattle.partition.proofs.Cuts.{inn_low_twenty, no_sooner, own_defeats, one_more, none_free, both_below, done_with, no_hope_left}
 use Rattle.partition.proofs.Cuts.{cutting_without, left_without, cutting_with, left_with, both_halves, earlier_still}
@@ -32,9 +31,6 @@ pub split-returns-then-best-key : goal.split-returns-then-best-key
 split-returns-then-best-key t c =
     let given = c.requires in one_more given.0 given.1 _ _ c.key.ensures c.if-best-key.true
 
-pub split-outside-free-requires : goal.split-outside-free-requires
-split-outside-free-requires t c = (sound _ c.requires.0.plan).twenty
-
 pub split-returns-then-free-eq0 : goal.split-returns-then-free-eq0
 split-returns-then-free-eq0 t c =
     let given = c.requires in none_free given.0 given.1 _ _ c.outside-free.ensures c.if-free-eq0.true
@@ -47,7 +43,7 @@ split-returns-then-part_of_earlier t c =
 
 pub split-still_hopeful-left-requires : goal.split-still_hopeful-left-requires
 split-still_hopeful-left-requires t c =
-    let part = c.requires.0 in (part.plan, part.hearers_are, both_below part _ c.outside-free.ensures, part.hopeful_below)
+    let part = c.requires.0 in (both_below part _ c.outside-free.ensures, part.hopeful_below)
 
 pub split-returns-then-left-eq0 : goal.split-returns-then-left-eq0
 split-returns-then-left-eq0 t c =

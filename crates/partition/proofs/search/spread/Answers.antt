@@ -2,10 +2,10 @@ use Rattle.partition.proofs.Bounds.{spreading_start, spreading_next, spreading_l
 use Rattle.partition.proofs.search.spread.Goals as goal
 
 pub loop-l-init : goal.loop-l-init
-loop-l-init c = spreading_start _ _ _ c.requires.1
+loop-l-init c = spreading_start _ _ _ c.requires
 
 pub turn-next-requires : goal.turn-next-requires
-turn-next-requires c = (c.requires.0, c.loop-l.invariant.below)
+turn-next-requires c = c.loop-l.invariant.below
 
 pub returns-then-next-l : goal.returns-then-next-l
 returns-then-next-l c = spreading_ends c.loop-l.invariant c.turn-next.ensures c.if-next-l.true

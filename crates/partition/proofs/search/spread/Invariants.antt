@@ -5,7 +5,7 @@ use Rattle.partition.specs.Search.{Spreading}
 use Rattle.partition.proofs.search.spread.Given as goal
 
 abbrev pub invariant-loop-l : goal.invariant-loop-l
-invariant-loop-l l = Spreading l.p l.s l.wall l.l
+invariant-loop-l l = Spreading l.site.plan l.s l.wall l.l
 
 abbrev pub decreases-loop-l : goal.decreases-loop-l
-decreases-loop-l l = l.p.n - count l.p.n (λ i. mem i l.l)
+decreases-loop-l l = l.site.plan.n - count l.site.plan.n (λ i. mem i l.l)

@@ -8,11 +8,11 @@ use Rattle.partition.proofs.search.turn.Goals as goal
 
 pub overflow_cast-f : goal.overflow_cast-f
 overflow_cast-f c =
-    let g = sound _ c.requires.0 in
+    let g = sound _ c.args.site.sound in
     let k = g.f_below _ c.in-Most.is in
     let t = g.twenty in
     omega arith
 
 pub returns-in-Most : goal.returns-in-Most
 returns-in-Most c =
-    swept_at_once _ (sound _ c.requires.0) _ _ _ c.ranges.wall.fits c.requires.1 (c.over.ensures ∙ over_hearing _ _ _ _ c.in-Most.is)
+    swept_at_once _ (sound _ c.args.site.sound) _ _ _ c.ranges.wall.fits c.requires (c.over.ensures ∙ over_hearing _ _ _ _ c.in-Most.is)

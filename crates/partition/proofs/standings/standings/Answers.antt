@@ -4,21 +4,20 @@ use lib.ListN.{length-set}
 use Rattle.sets.proofs.Tables.{table_is}
 use Rattle.partition.specs.Margins.{standing_of}
 use Rattle.partition.specs.declared.Standing.TheVariants.{Absent}
-use Rattle.partition.proofs.Rows.{direct_by}
 use Rattle.partition.proofs.Sheets.{placed_more}
 use Rattle.partition.proofs.standings.standings.Goals as goal
 
 pub fewest-fewest-requires : goal.fewest-fewest-requires
-fewest-fewest-requires c = let g = c.requires in (g.0, g.1, direct_by _ _ _ _ c.singleton.ensures c.over-hearers.ensures)
+fewest-fewest-requires c = c.requires
 
 pub loop-b-init : goal.loop-b-init
-loop-b-init c = record { whole = refl; placed = λ i h. absurd (omega arith); hearers_are = direct_by _ _ _ _ c.singleton.ensures c.over-hearers.ensures; fewest_are = c.fewest-fewest.ensures }
+loop-b-init c = record { whole = refl; placed = λ i h. absurd (omega arith); fewest_are = c.fewest-fewest.ensures }
 
 pub standing-requires : goal.standing-requires
-standing-requires c = let g = c.requires in let turn = c.loop-b in (g.0, g.1, turn.invariant.hearers_are, turn.invariant.fewest_are turn.b)
+standing-requires c = let turn = c.loop-b in (c.requires, turn.invariant.fewest_are turn.b)
 
 pub loop-b-preserved : goal.loop-b-preserved
-loop-b-preserved c = let turn = c.loop-b in let p = c.args.p in record { whole = length-set turn.places turn.b _ ∙ turn.invariant.whole; placed = placed_more p turn.places turn.b _ (let e = turn.invariant.whole in omega arith) c.standing.ensures turn.invariant.placed; hearers_are = turn.invariant.hearers_are; fewest_are = turn.invariant.fewest_are }
+loop-b-preserved c = let turn = c.loop-b in let p = c.args.site.plan in record { whole = length-set turn.places turn.b _ ∙ turn.invariant.whole; placed = placed_more p turn.places turn.b _ (let e = turn.invariant.whole in omega arith) c.standing.ensures turn.invariant.placed; fewest_are = turn.invariant.fewest_are }
 
 pub returns : goal.returns
-returns c = let turn = c.loop-b in let p = c.args.p in let e : turn.b ≡ 20 = omega arith in table_is 20 (standing_of p) Absent turn.places turn.invariant.whole (λ j k. turn.invariant.placed j (omega arith))
+returns c = let turn = c.loop-b in let p = c.args.site.plan in let e : turn.b ≡ 20 = omega arith in table_is 20 (standing_of p) Absent turn.places turn.invariant.whole (λ j k. turn.invariant.placed j (omega arith))
