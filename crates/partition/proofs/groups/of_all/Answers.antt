@@ -3,11 +3,8 @@ use mathlib.Core.Path.{◌≡◌, subst}
 use native.Mathlib.Omega.{arith}
 use Rattle.quorum.specs.Quorum.{group_at}
 use Rattle.partition.specs.Search.{Least, PartOfOne}
-use Rattle.partition.proofs.Cuts.{groups_none, groups_next, group_together, groups_all}
+use Rattle.partition.proofs.Cuts.{groups_next, group_together, groups_all}
 use Rattle.partition.proofs.groups.of_all.Goals as goal
-
-pub loop-i-init : goal.loop-i-init
-loop-i-init c = groups_none _ _
 
 pub of_group-least-requires : goal.of_group-least-requires
 unfolding group_at

@@ -10,9 +10,6 @@ use Rattle.partition.proofs.groups.still_hopeful.Goals as goal
 pub loop-rest-init : goal.loop-rest-init
 loop-rest-init c = hopeful_start _ _ _ c.requires.1
 
-pub highest-b-requires : goal.highest-b-requires
-highest-b-requires c = c.loop-rest-test.true
-
 pub reaches-requires : goal.reaches-requires
 reaches-requires c = c.requires.0
 
@@ -21,9 +18,6 @@ loop-rest-smaller c = let a = c.args in subst (λ (x : ℕ). count a.site.plan.n
 
 pub loop-rest-preserved : goal.loop-rest-preserved
 loop-rest-preserved c = let a = c.args in subst (Hopeful a.site.plan a.all a.hopeful) (sym (less_by c.loop-rest.rest c.highest-b.result _ c.singleton.ensures)) (hopeful_next _ (sound _ c.args.site.sound) _ _ _ _ c.loop-rest.invariant c.highest-b.ensures (sym c.reaches.ensures ∙ c.if-not-reaches.false))
-
-pub returns-then-not-reaches : goal.returns-then-not-reaches
-returns-then-not-reaches c = c.loop-rest.invariant
 
 pub returns : goal.returns
 returns c = hopeful_none _ _ _ _ c.loop-rest.invariant c.loop-rest-test.false

@@ -9,11 +9,5 @@ overflow_cast-f c = let s = sound _ c.args.site.sound in let l = s.f_below _ c.i
 pub inside-requires : goal.inside-requires
 inside-requires c = let s = c.args.site in whole _ s.sound _ c.singleton-source.ensures _ c.in-Most.is _ s.hearers_are
 
-pub least-requires : goal.least-requires
-least-requires c = (_, c.in-Groups.is)
-
 pub returns-in-Most : goal.returns-in-Most
 returns-in-Most c = whole_all _ c.args.site.sound _ c.singleton-source.ensures c.inside.ensures
-
-pub returns-in-Groups : goal.returns-in-Groups
-returns-in-Groups c = c.least.ensures

@@ -15,9 +15,6 @@ use Rattle.partition.proofs.search.sweep.Goals as goal
 pub loop-rest-init : goal.loop-rest-init
 loop-rest-init c = sweeping_start _ _ _ _ c.requires c.outside-rest.ensures
 
-pub highest-b-requires : goal.highest-b-requires
-highest-b-requires c = c.loop-rest-test.true
-
 pub offset_bounds-site-b : goal.offset_bounds-site-b
 offset_bounds-site-b c = let s = sound _ c.args.site.sound in let k = looked_below _ s _ _ _ _ _ c.loop-rest.invariant c.highest-b.ensures in let t = s.twenty in omega arith
 

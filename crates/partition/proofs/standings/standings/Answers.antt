@@ -7,14 +7,8 @@ use Rattle.partition.specs.declared.Standing.TheVariants.{Absent}
 use Rattle.partition.proofs.Sheets.{placed_more}
 use Rattle.partition.proofs.standings.standings.Goals as goal
 
-pub fewest-fewest-requires : goal.fewest-fewest-requires
-fewest-fewest-requires c = c.requires
-
 pub loop-b-init : goal.loop-b-init
 loop-b-init c = record { whole = refl; placed = λ i h. absurd (omega arith); fewest_are = c.fewest-fewest.ensures }
-
-pub standing-requires : goal.standing-requires
-standing-requires c = let turn = c.loop-b in (c.requires, turn.invariant.fewest_are turn.b)
 
 pub loop-b-preserved : goal.loop-b-preserved
 loop-b-preserved c = let turn = c.loop-b in let p = c.args.site.plan in record { whole = length-set turn.places turn.b _ ∙ turn.invariant.whole; placed = placed_more p turn.places turn.b _ (let e = turn.invariant.whole in omega arith) c.standing.ensures turn.invariant.placed; fewest_are = turn.invariant.fewest_are }
