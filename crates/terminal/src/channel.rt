@@ -12,6 +12,7 @@ ghost use Rattle.terminal.specs.Channel.{first_hearing, word_or, shared_step, sh
 
 use super::{Record, State, StepError, play, record_cause, site_cause};
 use quorum::Bound;
+use std::array;
 
 // What terminal j said, as a notice; silence past the list's end.
 fn notice_at(said: &[u16], j: usize) -> u32
@@ -27,11 +28,7 @@ fn notice_at(said: &[u16], j: usize) -> u32
 pub fn notices(said: &[u16]) -> [u32; 20]
     ensures { result ≡ table 20 (λ j. first_edition (get_or said.now j 0)) }
 {
-    let mut all = [0u32; 20];
-    for j in 0..20 {
-        all[j] = notice_at(said, j);
-    }
-    all
+    array::from_fn(|j| notice_at(said, j))
 }
 
 // Round 1 of a terminal that waits and hears the source.

@@ -12,6 +12,7 @@ ghost use Rattle.terminal.specs.Votes.{HavePlaces, voters_in, single_in, fickle_
 
 use super::Note;
 use quorum::Bound;
+use std::array;
 
 // Who has said one value, who has said more, and the first place of each note.
 #[derive(Clone, Copy)]
@@ -29,8 +30,7 @@ pub(crate) fn those<F: Fn(usize) -> bool>(n: usize, test: F) -> u32
 {
     let mut who: u32 = 0;
     for j in 0..n {
-        let vote = test(j) as u32;
-        who = who | (vote << j);
+        who |= (test(j) as u32) << j;
     }
     who
 }
@@ -79,12 +79,9 @@ fn least_of(notes: &[Note; 20], n: usize, bound: Bound, heard: u32, note: &Note)
     ensures { result ≡ least_of (candidate n bound heard (map values_in notes.now)) (values_in note.now) }
 {
     let mut best: u16 = 0;
-    for layout in note.said() {
-        let value = *layout;
-        best = lesser(
-            best,
-            if_enough(bound, voters(notes, n, heard, value), value),
-        );
+    for &value in note.said() {
+        let who = voters(notes, n, heard, value);
+        best = lesser(best, if_enough(bound, who, value));
     }
     best
 }
@@ -138,7 +135,7 @@ fn least_of_firsts(notes: &[Note; 20], n: usize, bound: Bound, first: &FirstValu
         let value = first.values[j];
         let who = same(&first.values, n, first.single, value);
         best = lesser(best, judged(notes, n, bound, who, first.fickle, value));
-        rest = rest & !who;
+        rest &= !who;
     }
     best
 }
@@ -148,14 +145,10 @@ fn first_values(notes: &[Note; 20], n: usize, heard: u32) -> FirstValues
     requires { n ≤ 20 }
     ensures { (result.single ≡ single_in n notes.now heard) × (result.fickle ≡ fickle_in n notes.now heard) × ((j : ℕ) → j < n → get_or result.values j 0 ≡ first_place notes.now j) }
 {
-    let mut values = [0u16; 20];
-    for j in 0..20 {
-        values[j] = notes[j].values[0];
-    }
     FirstValues {
         single: those(n, |j| notes[j].count == 1) & heard,
         fickle: those(n, |j| 1 < notes[j].count) & heard,
-        values,
+        values: array::from_fn(|j| notes[j].values[0]),
     }
 }
 

@@ -73,7 +73,7 @@ fn newest(notes: &[Note; 20], n: usize, source: usize, bound: Bound, heard: u32,
         let edition = notes[j].edition;
         let who = speakers(notes, n, heard, edition);
         best = better(best, edition, layout_in(notes, n, source, bound, who));
-        rest = rest & !who;
+        rest &= !who;
     }
     best
 }

@@ -125,8 +125,8 @@ impl Note {
         ensures { result ≡ among value (values_in self.now) }
     {
         let mut found = false;
-        for layout in self.said() {
-            found = found | (*layout == value);
+        for &layout in self.said() {
+            found |= layout == value;
         }
         found
     }

@@ -1,36 +1,27 @@
+-- `first_values` meets its contract. Assumes nothing.
 use Prim.Native.Nat.{ℕ}
-use mathlib.Core.Path.{◌≡◌, refl, ap, ◌∙◌}
-use native.Mathlib.Nat.{not-suc-le-zero}
+use mathlib.Core.Path.{ap, ◌∙◌}
 use native.Mathlib.Omega.{arith}
 use borrow.Author.Rules.{rules}
+use mathlib.Core.List.{List}
 use lib.Bits.{bit_and}
 use lib.Dec.{eqb, ltb}
-use lib.ListN.{length-set}
+use lib.ListN.{get_or}
 use Rattle.sets.proofs.Masks.{mask_and}
-use Rattle.sets.proofs.Tables.{filled_more}
+use Rattle.sets.proofs.Tables.{table_at}
 use Rattle.terminal.specs.Shown.{note_of}
 use Rattle.terminal.specs.Votes.{single_in, fickle_in, first_place}
+use Rattle.terminal.proofs.Filled.{filled}
 use Rattle.terminal.proofs.choice.first_values.Goals as goal
 
-pub loop-j-init : goal.loop-j-init
-loop-j-init c = (refl, λ i k. absurd (not-suc-le-zero k))
-
-pub loop-j-preserved : goal.loop-j-preserved
-unfolding first_place
-loop-j-preserved c =
-    let l = c.loop-j in (
-      length-set l.values l.j _ ∙ l.invariant.0,
-      filled_more (first_place c.args.notes.now) l.values l.j _ (let e = l.invariant.0 in let k = c.loop-j-test.true in omega arith) refl l.invariant.1,
-    )
-
 pub returns : goal.returns
-unfolding single_in fickle_in
+unfolding single_in fickle_in first_place
 returns c =
     let a = c.args in
-    let e : c.loop-j.j ≡ 20 = let k = c.loop-j-test.false in let l = c.loop-j.auto.j-end in omega arith in
     let single = c.those.ensures (λ j. eqb (note_of a.notes.now j).count 1) (λ j b k h. search rules) in
-    let fickle = c.those-2.ensures (λ j. ltb 1 (note_of a.notes.now j).count) (λ j b k h. search rules) in (
+    let fickle = c.those-2.ensures (λ j. ltb 1 (note_of a.notes.now j).count) (λ j b k h. search rules) in
+    let firsts = filled _ (first_place a.notes.now) _ 20 c.from_fn.result (λ k y q l call. search rules) c.from_fn.ensures.items in (
       ap (λ (x : ℕ). bit_and x a.heard) single ∙ mask_and a.n _ a.heard,
       ap (λ (x : ℕ). bit_and x a.heard) fickle ∙ mask_and a.n _ a.heard,
-      λ j k. c.loop-j.invariant.1 j (let small = c.requires in omega arith),
+      λ j k. ap (λ (l : List ℕ). get_or l j 0) firsts ∙ table_at 20 (first_place a.notes.now) 0 j (let small = c.requires in omega arith),
     )

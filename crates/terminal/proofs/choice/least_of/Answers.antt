@@ -10,23 +10,23 @@ use Rattle.terminal.proofs.Walks.{least_of_turn}
 use Rattle.terminal.proofs.Search.{voters_candidate}
 use Rattle.terminal.proofs.choice.least_of.Goals as goal
 
-pub loop-layout-init : goal.loop-layout-init
+pub loop-value-init : goal.loop-value-init
 unfolding least_of
-loop-layout-init c = refl
+loop-value-init c = refl
 
-pub loop-layout-preserved : goal.loop-layout-preserved
-loop-layout-preserved c =
+pub loop-value-preserved : goal.loop-value-preserved
+loop-value-preserved c =
     let a = c.args in
-    let turn = c.loop-layout in
-    let items = c.said-layout-items.result.now in
+    let turn = c.loop-value in
+    let items = c.said-value-items.result.now in
     c.lesser-best.ensures
-    ∙ least_of_turn turn.layout-index turn.best c.if_enough.result (candidate a.n a.bound a.heard (map values_in a.notes.now)) items c.loop-layout-test.true
+    ∙ least_of_turn turn.value-index turn.best c.if_enough.result (candidate a.n a.bound a.heard (map values_in a.notes.now)) items c.loop-value-test.true
     turn.invariant
-    (c.if_enough.ensures ∙ ap (λ (s : ℕ). if_enough a.bound s (get_or items turn.layout-index 0)) c.voters.ensures
-    ∙ voters_candidate a.n a.bound a.heard a.notes.now c.requires.0 (get_or items turn.layout-index 0))
+    (c.if_enough.ensures ∙ ap (λ (s : ℕ). if_enough a.bound s (get_or items turn.value-index 0)) c.voters-who.ensures
+    ∙ voters_candidate a.n a.bound a.heard a.notes.now c.requires.0 (get_or items turn.value-index 0))
 
 pub returns : goal.returns
 returns c =
     let a = c.args in
-    c.loop-layout.invariant
-    ∙ ap (least_of (candidate a.n a.bound a.heard (map values_in a.notes.now))) (take_all _ c.said-layout-items.result.now c.loop-layout-test.false ∙ c.said-layout-items.ensures)
+    c.loop-value.invariant
+    ∙ ap (least_of (candidate a.n a.bound a.heard (map values_in a.notes.now))) (take_all _ c.said-value-items.result.now c.loop-value-test.false ∙ c.said-value-items.ensures)

@@ -6,5 +6,5 @@ use Rattle.terminal.specs.Rule.{least_of, candidate}
 use Rattle.terminal.specs.Shown.{values_in}
 use Rattle.terminal.proofs.choice.least_of.Given as goal
 
-abbrev pub invariant-loop-layout : goal.invariant-loop-layout
-invariant-loop-layout l = l.best ≡ least_of (candidate l.n l.bound l.heard (map values_in l.notes)) (take l.layout-index l.layout-items)
+abbrev pub invariant-loop-value : goal.invariant-loop-value
+invariant-loop-value l = l.best ≡ least_of (candidate l.n l.bound l.heard (map values_in l.notes)) (take l.value-index l.value-items)

@@ -12,7 +12,7 @@ loop-j-init g c = λ P h. refl
 pub loop-j-preserved : goal.loop-j-preserved
 loop-j-preserved g c = λ P h.
     next_bit _ P _ _ (let k = c.loop-j-test.true in let small = c.requires.small in omega arith) (c.loop-j.invariant P h)
-    (byte_bit c.test-vote.result ∙ ap bit (h c.loop-j.j c.test-vote.result c.loop-j-test.true c.test-vote.ensures))
+    (byte_bit c.test.result ∙ ap bit (h c.loop-j.j c.test.result c.loop-j-test.true c.test.ensures))
 
 pub returns : goal.returns
 returns g c = λ P h.
