@@ -28,10 +28,13 @@ pub record Plays (pre : Turn → Record → Type 0) (post : Turn → Record → 
 
 -- ---- a run with a word for each hearer
 
--- what the terminal whose turn it is hears from terminal j this round
+-- what the terminal whose turn it is hears from terminal j this round, where a bad one says `word`
+unfoldable pub heard_where : Turn → (j word : ℕ) → ℕ
+heard_where t j word = pick (hears t.plan t.at j) (pick (mem j t.faulty) word (get_or t.spoken j 0)) 0
+
+-- the script's word
 unfoldable pub heard_in : Turn → List ℕ → ℕ → ℕ
-heard_in t words j =
-    pick (hears t.plan t.at j) (pick (mem j t.faulty) (script_of t.plan.n words t.round j t.at) (get_or t.spoken j 0)) 0
+heard_in t words j = heard_where t j (script_of t.plan.n words t.round j t.at)
 
 -- what the office issues this round is written into the source's record after its step
 unfoldable pub issued_in : Turn → Record → Record

@@ -43,20 +43,31 @@ impl From<FaultSetError> for RunError {
     }
 }
 
-// The documents' number of the outcome, 0 where nothing is refused.
+// The documents' number.
+impl From<RunError> for u8 {
+    ghost from_gives = { λ e n. n ≡ number_of (Err e) };
+
+    fn from(e: RunError) -> u8 {
+        match e {
+            RunError::WrongRange => 4,
+            RunError::WrongLink => 5,
+            RunError::WrongGroups => 17,
+            RunError::WrongMember => 7,
+            RunError::OverBound => 8,
+            RunError::WrongStart => 9,
+            RunError::WrongEdition => 16,
+            RunError::WrongLength => 12,
+        }
+    }
+}
+
+// The number of the outcome, 0 where nothing is refused.
 pub fn number(outcome: Result<(), RunError>) -> u8
     ensures { result ≡ number_of outcome }
 {
     match outcome {
         Ok(()) => 0,
-        Err(RunError::WrongRange) => 4,
-        Err(RunError::WrongLink) => 5,
-        Err(RunError::WrongGroups) => 17,
-        Err(RunError::WrongMember) => 7,
-        Err(RunError::OverBound) => 8,
-        Err(RunError::WrongStart) => 9,
-        Err(RunError::WrongEdition) => 16,
-        Err(RunError::WrongLength) => 12,
+        Err(e) => u8::from(e),
     }
 }
 
@@ -276,7 +287,8 @@ fn judge_shared(
     Ok(())
 }
 
-// The run over records of which `places` are counted, changed in place. A refused run changes none.
+// The run over records of which `places` are counted, changed in place. A refused run changes none. It is judged by
+// other causes and of other arguments than run_over, so the two are not one function.
 fn run_shared_over(
     p: Plan,
     faulty: u32,

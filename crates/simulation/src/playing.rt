@@ -3,7 +3,7 @@ ghost use Rattle.std.specs.Prelude.{◌≡◌, ◌+◌, ◌<◌, ◌≤◌};
 ghost use Rattle.propagation.specs.Run.{start_record, script_of};
 ghost use Rattle.terminal.specs.Rule.{says_in};
 ghost use Rattle.terminal.specs.Shown.{shown};
-ghost use Rattle.simulation.specs.Turns.{heard_in, issued_in, record_of, next_turn};
+ghost use Rattle.simulation.specs.Turns.{heard_where, issued_in, record_of, next_turn};
 
 use super::Turn;
 use std::array;
@@ -18,17 +18,18 @@ fn word(words: &[u32], n: usize, round: u8, sender: usize, hearer: usize) -> u32
     words.get(k).copied().unwrap_or(0)
 }
 
-fn heard_from(t: Turn, words: &[u32], j: usize) -> u32
-    requires { (t.plan.n ≤ 20) × (t.at < t.plan.n) × (1 ≤ t.round) × (t.round ≤ 40) × (j < 20) }
-    ensures { result ≡ heard_in t words.now j }
+// What the terminal whose turn it is hears from terminal j, where `word` is the script's: a bad one says it.
+pub(crate) fn heard_from(t: Turn, j: usize, word: u32) -> u32
+    requires { (t.plan.n ≤ 20) × (t.at < t.plan.n) × (j < 20) }
+    ensures { result ≡ heard_where t j word }
 {
     if !sets::member(t.plan.rows[t.at], j) {
-        return 0;
+        0
+    } else if sets::member(t.faulty, j) {
+        word
+    } else {
+        t.spoken[j]
     }
-    if sets::member(t.faulty, j) {
-        return word(words, t.plan.n, t.round, j, t.at);
-    }
-    t.spoken[j]
 }
 
 pub(crate) fn start_record(t: Turn) -> Record
@@ -64,7 +65,7 @@ pub(crate) fn record_of(t: Turn, words: &[u32], before: Record) -> Record
         return terminal::start();
     }
     let p = t.plan;
-    let said: [u32; 20] = array::from_fn(|j| heard_from(t, words, j));
+    let said: [u32; 20] = array::from_fn(|j| heard_from(t, j, word(words, p.n, t.round, j, t.at)));
     let stepped = terminal::step(
         p.n,
         p.source,

@@ -21,7 +21,7 @@ unfolding record_of
 returns-then-member c = c.start.ensures ∙ sym (pick_no _ _ _ (ne_eqb _ _ c.if-t-eq0.false) ∙ pick_yes _ _ _ (sym c.member.ensures ∙ c.if-member.true))
 
 pub returns : goal.returns
-unfolding record_of heard_by
+unfolding record_of heard_in heard_by
 returns c =
     let a = c.args in
     c.issued.ensures
