@@ -5,7 +5,7 @@ use mathlib.Core.Logic.{⊎_elim}
 use mathlib.Core.Bool.{Bool, true, false}
 use mathlib.Core.List.{List}
 use native.Mathlib.Omega.{arith}
-use Rattle.std.specs.Prelude.{Err}
+use Rattle.std.specs.Prelude.{None, Err}
 use Rattle.sets.specs.Sets.{outside}
 use Rattle.sets.proofs.Bools.{clash, decide, no_by}
 use Rattle.sets.proofs.Partition.{few_outside}
@@ -34,7 +34,7 @@ module _ (n : ℕ) (text : List ℕ) (e : Ear) (l number : ℕ) (worded : List �
   -- whatever the text speaks of was heard, and has this sentence
   found : (f r : ℕ) → speaks_of n text f r ≡ true → (number ≡ 0) × (same worded text ≡ true)
   found f r h =
-      let q : ◌≡◌ {A = Ear} e (record { waiting = true; number = 0; f = f; r = r }) = heard ∙ speaks_heard n text f r h in
+      let q : ◌≡◌ {A = Ear} e (record { waiting = true; number = None; f = f; r = r }) = heard ∙ speaks_heard n text f r h in
       let a : e.f ≡ f = ap (λ (x : Ear). x.f) q in
       let b : e.r ≡ r = ap (λ (x : Ear). x.r) q in
       let z = speaks_cause n text f r h in
