@@ -11,6 +11,8 @@ ghost use Rattle.text.specs.Phrases.{same, begins};
 // The bytes that a text has room for.
 const ROOM: usize = 344;
 
+// A fixed buffer, since there is no heap. No ghost field ties the length to the room: both fields are public, and a
+// length past the room is taken as all of it.
 #[derive(Clone, Copy)]
 pub struct Text {
     pub bytes: [u8; ROOM],
