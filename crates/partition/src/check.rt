@@ -11,7 +11,7 @@ use super::site::Site;
 fn is_fault_set(site: Site, f: u32) -> bool
     ensures { result ≡ is_fault_set site.plan f }
 {
-    faults::number(faults::check_fault_set(site.plan, f)) == 0
+    faults::check_fault_set(site.plan, f).is_ok()
 }
 
 // No member of R hears the source, and none hears enough members of L.
