@@ -10,7 +10,7 @@ mod search;
 mod site;
 mod standings;
 
-ghost use Rattle.std.specs.Prelude.{◌≡◌, true, List, Ok};
+ghost use Rattle.std.specs.Prelude.{◌≡◌, true, Ok};
 ghost use Rattle.closure.specs.Verdict.{verdict, accepts};
 ghost use Rattle.partition.specs.Answer.{of_plan, answered, replied, reply_of};
 ghost use Rattle.partition.specs.Margins.{of_bounded_plan, told, margins_of};

@@ -1,7 +1,7 @@
 // The words that the search computes from a sound plan, and its answer.
-ghost use Rattle.std.specs.Prelude.{◌≡◌, ◌<◌, ◌≤◌, ◌^◌};
-ghost use Rattle.sets.specs.Tests.{pick};
-ghost use Rattle.sets.specs.Sets.{with, outside};
+ghost use Rattle.std.specs.Prelude.{◌≡◌, ℕ, ◌<◌, ◌^◌};
+ghost use Rattle.sets.specs.Sets.{outside};
+ghost use Rattle.quorum.specs.declared.BoundKind.TheVariants.{Most};
 ghost use Rattle.closure.specs.Closure.{reached};
 ghost use Rattle.closure.specs.Verdict.{best_below};
 ghost use Rattle.partition.specs.Search.{Swept, Spread, StandsFor, Least, Any};
@@ -9,6 +9,14 @@ ghost use Rattle.partition.specs.Search.{Swept, Spread, StandsFor, Least, Any};
 use super::site::Site;
 use super::{branch, groups};
 use quorum::BoundKind;
+
+// A turn by a bound f: all join at once who hear enough.
+fn at_once(site: Site, f: usize, l: u32, wall: u32) -> u32
+    requires { (site.plan.bound.kind ≡ Most f) × (l < 2 ^ site.plan.n) }
+    ensures { Swept site.plan wall l result }
+{
+    l | (faults::over(site.plan.rows, f as u32, l) & !wall)
+}
 
 // A turn by groups: of those outside l and the wall, one after the other, whoever hears enough that are in
 // by then. To look at these alone saves more than to compare many at once.
@@ -28,30 +36,31 @@ fn sweep(site: Site, l: u32, wall: u32) -> u32
     r
 }
 
-// A turn: by a bound f all join at once who hear enough.
-fn turn(site: Site, l: u32, wall: u32) -> u32
-    requires { l < 2 ^ site.plan.n }
-    ensures { Swept site.plan wall l result }
-{
-    match site.plan.bound.kind {
-        BoundKind::Most(f) => l | (faults::over(site.plan.rows, f as u32, l) & !wall),
-        BoundKind::Groups(_) => sweep(site, l, wall),
-    }
-}
-
-// S with whoever joins it turn by turn: outside the wall, and hearing enough that are in. It stops where
-// a turn adds nobody.
-pub(crate) fn spread(site: Site, s: u32, wall: u32) -> u32
-    requires { s < 2 ^ site.plan.n }
+// S with whoever joins it turn by turn, until a turn adds nobody.
+fn turns<F: Fn(u32) -> u32>(site: Site, s: u32, wall: u32, turn: F) -> u32
+    requires small { s < 2 ^ site.plan.n }
+    requires takes { (l : ℕ) → l < 2 ^ site.plan.n → F.pre turn l }
+    requires sweeps { (l r : ℕ) → l < 2 ^ site.plan.n → F.post turn l r → Swept site.plan wall l r }
     ensures { Spread site.plan s wall result }
 {
     let mut l = s;
     loop {
-        let next = turn(site, l, wall);
+        let next = turn(l);
         if next == l {
             return l;
         }
         l = next;
+    }
+}
+
+// S with whoever joins it: outside the wall, and hearing enough that are in.
+pub(crate) fn spread(site: Site, s: u32, wall: u32) -> u32
+    requires { s < 2 ^ site.plan.n }
+    ensures { Spread site.plan s wall result }
+{
+    match site.plan.bound.kind {
+        BoundKind::Most(f) => turns(site, s, wall, |l| at_once(site, f, l, wall)),
+        BoundKind::Groups(_) => turns(site, s, wall, |l| sweep(site, l, wall)),
     }
 }
 
