@@ -1,4 +1,5 @@
--- One pass over a file's bytes, for the private functions of the readers: what the file is told to be from the byte at i on. Assumes nothing.
+-- One pass over a file's bytes, for the private functions of the readers: what the file is told to be from the byte at i on, and what it is by what
+-- they answer. Assumes nothing.
 use Rattle.std.specs.Prelude.{ℕ, ◌+◌, ◌-◌, ◌≤◌, Result, Ok, Err, List, ◌≡◌, length, take, drop}
 use Rattle.quorum.specs.Quorum.{most_terminals}
 use Rattle.quorum.specs.Words.{most_rounds, most_words}

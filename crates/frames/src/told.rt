@@ -325,7 +325,8 @@ fn shared_place_of(n: usize, round: u8, from: usize) -> usize
     ((round as usize) - 1) * n + from
 }
 
-// A word without a hearer: it is kept where it is accepted, as one of edition 1.
+// A word without a hearer: it is kept where it is accepted, as one of edition 1. Beside `message` the two
+// causes before the word's own change places, so each has its own tests.
 fn broadcast(
     p: Progress,
     words: &mut [u32],

@@ -100,6 +100,8 @@ fn channel_of(bytes: &[u8]) -> Frame
     }
 }
 
+// As a group is read: each kind has its own line of the table, which is plainer than a constructor
+// passed along.
 fn fault_set_of(bytes: &[u8]) -> Frame
     ensures { result ≡ fault_set_of bytes.now }
 {
