@@ -178,9 +178,9 @@ fn is_new(hears: bool, note: &Note, said: u32) -> bool
 
 impl Record {
     // What is new of each neighbour it hears.
-    fn note(&mut self, n: usize, heard: u32, said: &[u32])
-        requires { (n ≤ 20) × (n ≤ length said.now) × Whole self.old.notes × HaveRoom heard self.old.notes }
-        ensures { self.new ≡ record { state = self.old.state; round = self.old.round; notes = notes_over (λ j. mem j heard) self.old.notes (noted n (λ j. mem j heard) (λ j. get_or said.now j 0) (map spoken_in self.old.notes)) } }
+    fn note(mut self, n: usize, heard: u32, said: &[u32]) -> Record
+        requires { (n ≤ 20) × (n ≤ length said.now) × Whole self.notes × HaveRoom heard self.notes }
+        ensures { result ≡ record { state = self.state; round = self.round; notes = notes_over (λ j. mem j heard) self.notes (noted n (λ j. mem j heard) (λ j. get_or said.now j 0) (map spoken_in self.notes)) } }
     {
         for j in 0..n {
             let word = said[j];
@@ -188,17 +188,27 @@ impl Record {
                 self.notes[j].write(word);
             }
         }
+        self
     }
 
     // It takes what it chose, in the round that its record shows; where it chose nothing its state stays.
-    fn decide(&mut self, n: usize, source: usize, bound: Bound, heard: u32)
-        requires { (n ≤ 20) × (source < n) × Whole self.old.notes × HavePlaces heard self.old.notes }
-        ensures { self.new ≡ record { state = taking self.old.round self.old.state (chosen n source bound heard (map spoken_in self.old.notes) (held_by self.old.state)); round = self.old.round; notes = self.old.notes } }
+    fn decide(mut self, n: usize, source: usize, bound: Bound, heard: u32) -> Record
+        requires { (n ≤ 20) × (source < n) × Whole self.notes × HavePlaces heard self.notes }
+        ensures { result ≡ record { state = taking self.round self.state (chosen n source bound heard (map spoken_in self.notes) (held_by self.state)); round = self.round; notes = self.notes } }
     {
         let notice = choosing::chosen(&self.notes, n, source, bound, heard, held(self.state));
         if notice != 0 {
             self.state = State::Taken(self.round, notice);
         }
+        self
+    }
+
+    fn advance(mut self) -> Record
+        requires { self.round < 40 }
+        ensures { result ≡ record { state = self.state; round = self.round + 1; notes = self.notes } }
+    {
+        self.round += 1;
+        self
     }
 }
 
@@ -323,13 +333,11 @@ pub(crate) fn play(
     requires { (n ≤ 20) × (source < n) × (n ≤ length said.now) × (before.round < 40) × Whole before.notes × HaveRoom heard before.notes }
     ensures { result ≡ shown_over (λ j. mem j heard) before (step n source bound own heard (λ j. get_or said.now j 0) (view_of before)) }
 {
-    let mut after = before;
-    after.round += 1;
-    after.note(n, heard, said);
-    if own != source {
-        after.decide(n, source, bound, heard);
+    let heard_all = before.advance().note(n, heard, said);
+    if own == source {
+        return heard_all;
     }
-    after
+    heard_all.decide(n, source, bound, heard)
 }
 
 // One round of terminal `own`, which hears the set `heard`; said[j] is what terminal j said, 0 for

@@ -9,7 +9,7 @@ use Rattle.terminal.proofs.Record.decide.Goals as goal
 
 pub returns-then-notice-ne0 : goal.returns-then-notice-ne0
 returns-then-notice-ne0 c =
-    let r = c.args.self.now in
+    let r = c.args.self in
     let a = c.args in
     let e = c.chosen-notice.ensures ∙ ap (chosen a.n a.source a.bound a.heard (map spoken_in r.notes)) c.held.ensures in
     ap (λ (s : State). record { state = s; round = r.round; notes = r.notes })
@@ -17,7 +17,7 @@ returns-then-notice-ne0 c =
 
 pub returns-else-notice-ne0 : goal.returns-else-notice-ne0
 returns-else-notice-ne0 c =
-    let r = c.args.self.now in
+    let r = c.args.self in
     let a = c.args in
     let e = c.chosen-notice.ensures ∙ ap (chosen a.n a.source a.bound a.heard (map spoken_in r.notes)) c.held.ensures in
     ap (λ (s : State). record { state = s; round = r.round; notes = r.notes }) (sym (taking_none r.round r.state _ (sym e ∙ c.if-notice-ne0.false)))
