@@ -7,10 +7,8 @@ use native.Mathlib.Nat.{lt_of_le_of_lt}
 use native.Mathlib.Omega.{arith}
 use lib.Dec.{eqb, ltb, lit<}
 use lib.IntN.{ℤ, pos, negsuc, ◌-ℤ◌}
-use lib.ListN.{length, get_or, set, replicate}
+use lib.ListN.{length, get_or, replicate}
 use lib.Pointwise.{pointwise}
-use lib.Seq.{get_or-set_same, get_or-set_other}
-use borrow.Author.Count.{below_more}
 use lib.Signed.{mag}
 use mir.Syntax.{w32}
 use mir.Val.{SFits, to_z}
@@ -194,14 +192,7 @@ pub groups_no : (p : Plan) (count : ℕ) → p.bound.kind ≡ Groups count → g
 unfolding groupless
 groups_no p count m = and_no_l _ _ (ap is_most m)
 
--- a loop that puts one place more
-pub placed_more : (p : Plan) (l : List Standing) (j : ℕ) (at : Standing) → j < length l → at ≡ standing_of p j
-    → ((i : ℕ) → i < j → get_or l i Absent ≡ standing_of p i) → (i : ℕ) → i < j + 1 → get_or (set l j at) i Absent ≡ standing_of p i
-placed_more p l j at k e f =
-    below_more (λ (i : ℕ). get_or (set l j at) i Absent ≡ standing_of p i) j
-    (λ i h. get_or-set_other l j i at Absent (λ q. omega arith) ∙ f i h) (get_or-set_same l j at Absent k ∙ e)
-
--- ---- for callers: what a sheet says
+-- ---- for callers: what an answer says
 
 cause_zero : (p : Plan) → margins_cause p ≡ 0 → (in_range p.n p.source p.bound.kind ≡ true) × (groupless p.bound ≡ true)
 unfolding margins_cause first_cause pick

@@ -9,6 +9,7 @@ ghost use Rattle.partition.specs.Search.{Between, Part, Barred, lesser, surely, 
 
 use super::site::Site;
 use super::{bound, branch, search};
+use std::array;
 
 // The lesser of what a terminal had and what it hears of l, if it is sought.
 fn lesser(row: u32, sought: bool, l: u32, before: u32) -> u32
@@ -25,11 +26,7 @@ fn lesser(row: u32, sought: bool, l: u32, before: u32) -> u32
 fn lowered(rows: [u32; 20], sought: u32, l: u32, before: [u32; 20]) -> [u32; 20]
     ensures { (b : ℕ) → b < 20 → get_or result b 0 ≡ lesser (get_or rows b 0) (mem b sought) l (get_or before b 0) }
 {
-    let mut after = [0u32; 20];
-    for b in 0..20 {
-        after[b] = lesser(rows[b], sets::member(sought, b), l, before[b]);
-    }
-    after
+    array::from_fn(|b| lesser(rows[b], sets::member(sought, b), l, before[b]))
 }
 
 // So many of L does a good terminal hear at the least: those of sure that are out, and of all of sure that it
@@ -63,13 +60,7 @@ fn barred(site: Site, f: u32, inn: u32, out: u32) -> u32
 
 // The rows of the terminals of s; the others are empty.
 fn rows_of(rows: [u32; 20], s: u32) -> [u32; 20] {
-    let mut some = [0u32; 20];
-    for b in 0..20 {
-        if sets::member(s, b) {
-            some[b] = rows[b];
-        }
-    }
-    some
+    array::from_fn(|b| if sets::member(s, b) { rows[b] } else { 0 })
 }
 
 // One of the free terminals. Any choice is right: one that those who are not settled hear, and the highest sought

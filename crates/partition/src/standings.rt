@@ -8,6 +8,7 @@ ghost use Rattle.partition.specs.Margins.{standing_of};
 
 use super::site::Site;
 use super::{Standing, margin};
+use std::array;
 
 // No place lists a group.
 pub(crate) fn no_groups(groups: [u32; 16]) -> bool
@@ -47,9 +48,5 @@ pub(crate) fn standings(site: Site, f: u32) -> [Standing; 20]
     ensures { result ≡ table 20 (standing_of site.plan) }
 {
     let fewest = margin::fewest(site, f);
-    let mut places = [Standing::Absent; 20];
-    for b in 0..20 {
-        places[b] = standing(site, f, fewest[b], b);
-    }
-    places
+    array::from_fn(|b| standing(site, f, fewest[b], b))
 }
