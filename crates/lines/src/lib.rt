@@ -1,5 +1,5 @@
 // One line's frame. A line is hexadecimal digits, two a byte, the high one first.
-#![tactic(auto, using(crate::proofs::Cases::picked, crate::proofs::Cases::passed), unfolding(crate::specs::Frames::pair_at, crate::specs::Frames::triple_at, crate::specs::Frames::head_of, crate::specs::Frames::link_of, crate::specs::Frames::group_of, crate::specs::Frames::channel_of, crate::specs::Frames::fault_set_of, crate::specs::Frames::start_of, crate::specs::Frames::later_of, crate::specs::Frames::message_of, crate::specs::Frames::kind_of, crate::specs::Frames::known_frame))]
+#![tactic(auto, using(crate::proofs::Cases::picked, crate::proofs::Cases::passed), unfolding(crate::specs::Frames::pair_at, crate::specs::Frames::triple_at, crate::specs::Frames::head_of, crate::specs::Frames::link_of, crate::specs::Frames::group_of, crate::specs::Frames::channel_of, crate::specs::Frames::fault_set_of, crate::specs::Frames::start_of, crate::specs::Frames::later_of, crate::specs::Frames::message_of, crate::specs::Frames::kind_of))]
 
 ghost use Rattle.std.specs.Prelude.{◌≡◌, true, false, ℕ, ◌+◌, ◌*◌, ◌<◌, length, get_or, MatchOption};
 ghost use Rattle.lines.specs.Bytes.{byte_at, well_formed};
