@@ -5,16 +5,14 @@ use mathlib.Core.Bool.{Bool, true, false, not}
 use native.Mathlib.Nat.{le_of_suc-le-suc, not-suc-le-zero, lt_of_le_of_lt, div-one, one-mul, zero-mul, mod-eq_of_lt}
 use native.Mathlib.Numerals.{one-add, add-one}
 use native.Mathlib.Omega.{arith}
-use lib.Dec.{eqb, ltb, eqb-zero-suc, eqb-suc-zero, eqb-suc-suc}
-use borrow.Author.Tests.{lt-ltb, le-ltb}
+use lib.Dec.{eqb, eqb-zero-suc, eqb-suc-zero, eqb-suc-suc}
 use lib.Bits.{bit_and, bit_or, and_step, or_step, and_shr, or_shr, and_le_l, or_shifted_r}
 use lib.Count.{ones, ones_step}
 use lib.Pow.{shr-shr, pow-lt, pow_pos}
 use mir.Val.{bool_byte}
-use Rattle.sets.specs.Tests.{◌and◌, ◌or◌, pick}
+use Rattle.sets.specs.Tests.{◌and◌, ◌or◌}
 use Rattle.sets.specs.Sets.{bit, mem, count, mask}
 use Rattle.sets.proofs.Digits.{bit_test, low_bit, bit_and_lem, bit_or_lem, bit_not, half_lt, flip_low, flip_high, power_low, power_high}
-use Rattle.sets.proofs.Bools.{pick_yes, pick_no}
 use Rattle.sets.proofs.Laws.{mem_zero, count_cong, mask_lt, mem_mask, mask_of, mask_next}
 
 -- the lowest bit decides: a number whose lowest digit is `bit b` has terminal 0 exactly if b
@@ -97,25 +95,13 @@ pub byte_bit : (b : Bool) → bool_byte b ≡ bit b
 byte_bit true = refl
 byte_bit false = refl
 
--- the same of a mask that is known by its bits: the new bit is the test's, and those below it stay
-pub next_member : (i found : ℕ) (b : Bool) → i < 32 → found < 2 ^ i
-    → (bit_or found ((bool_byte b * 2 ^ i) % 4294967296) < 2 ^ (i + 1))
-    × (mem i (bit_or found ((bool_byte b * 2 ^ i) % 4294967296)) ≡ b)
-    × ((k : ℕ) → k < i → mem k (bit_or found ((bool_byte b * 2 ^ i) % 4294967296)) ≡ mem k found)
-next_member i found b h small =
-    let P : ℕ → Bool = λ k. pick (ltb k i) (mem k found) b in
-    let before : (k : ℕ) → k < i → mem k found ≡ P k = λ k l. sym (pick_yes (ltb k i) (mem k found) b (lt-ltb k i l)) in
-    let here : P i ≡ b = pick_no (ltb i i) (mem i found) b (le-ltb i i (omega arith)) in
-    let e : bit_or found ((bool_byte b * 2 ^ i) % 4294967296) ≡ mask (i + 1) P =
-    next_bit i P found (bool_byte b) h (mask_of i found P small before) (byte_bit b ∙ ap bit (sym here)) in (
-      subst (λ (x : ℕ). x < 2 ^ (i + 1)) (sym e) (mask_lt (i + 1) P),
-      ap (mem i) e ∙ mem_mask (i + 1) i P (omega arith) ∙ here,
-      λ k l. ap (mem k) e ∙ mem_mask (i + 1) k P (omega arith) ∙ sym (before k l),
-    )
-
 pub byte_le : (b : Bool) → bool_byte b ≤ 1
 byte_le true = omega arith
 byte_le false = omega arith
+
+-- no more than 32 terminals are looked at: of a plan's, all
+pub mask_few : (n : ℕ) (P : ℕ → Bool) → n ≤ 20 → mask (min n 32) P ≡ mask n P
+mask_few n P h = let e : min n 32 ≡ n = omega arith in ap (λ (k : ℕ). mask k P) e
 
 -- a mask cut down to a set
 pub mask_and : (n : ℕ) (P : ℕ → Bool) (s : ℕ) → bit_and (mask n P) s ≡ mask n (λ j. P j and mem j s)

@@ -2,8 +2,8 @@
 // a terminal from 32 up is in no set.
 #![tactic(auto)]
 
-ghost use Rattle.std.specs.Prelude.{◌≡◌, ℕ, ◌<◌, ◌^◌, min};
-ghost use Rattle.sets.specs.Sets.{mem, within, singleton, with, without, outside, is_partition};
+ghost use Rattle.std.specs.Prelude.{◌≡◌, ℕ, Bool, ◌<◌, min};
+ghost use Rattle.sets.specs.Sets.{mem, mask, within, singleton, with, without, outside, is_partition};
 
 pub fn member(s: u32, i: usize) -> bool
     ensures { result ≡ mem i s }
@@ -59,8 +59,7 @@ pub fn outside(n: usize, a: u32, b: u32) -> u32
 // compiler can look at several at once.
 pub fn those<F: Fn(usize) -> bool>(n: usize, test: F) -> u32
     requires { (j : ℕ) → j < n → F.pre test j }
-    ensures below { result < 2 ^ min n 32 }
-    ensures tested { (j : ℕ) → j < min n 32 → F.post test j (mem j result) }
+    ensures { (P : ℕ → Bool) → ((j : ℕ) (b : Bool) → j < min n 32 → F.post test j b → b ≡ P j) → result ≡ mask (min n 32) P }
 {
     let mut found: u32 = 0;
     for j in 0..n.min(32) {

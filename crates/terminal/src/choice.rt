@@ -22,25 +22,12 @@ pub(crate) struct FirstValues {
     pub values: [u16; 20],
 }
 
-// The terminals below n for which a test holds.
-pub(crate) fn those<F: Fn(usize) -> bool>(n: usize, test: F) -> u32
-    requires small { n ≤ 20 }
-    requires calls { (j : ℕ) → j < n → F.pre test j }
-    ensures { (P : ℕ → Bool) → ((j : ℕ) (b : Bool) → j < n → F.post test j b → b ≡ P j) → result ≡ mask n P }
-{
-    let mut who: u32 = 0;
-    for j in 0..n {
-        who |= (test(j) as u32) << j;
-    }
-    who
-}
-
 // Those of a set who have said the value.
 fn voters(notes: &[Note; 20], n: usize, neighbours: u32, value: u16) -> u32
     requires { (n ≤ 20) × HavePlaces neighbours notes.now }
     ensures { result ≡ voters_in n notes.now neighbours value }
 {
-    those(n, |j| sets::member(neighbours, j) && notes[j].has(value))
+    sets::those(n, |j| sets::member(neighbours, j) && notes[j].has(value))
 }
 
 // Those of a set whose first place has the value.
@@ -48,7 +35,7 @@ fn same(firsts: &[u16; 20], n: usize, neighbours: u32, value: u16) -> u32
     requires { n ≤ 20 }
     ensures { result ≡ same_in n firsts.now neighbours value }
 {
-    those(n, |j| firsts[j] == value) & neighbours
+    sets::those(n, |j| firsts[j] == value) & neighbours
 }
 
 // The value, if enough have said it.
@@ -146,8 +133,8 @@ fn first_values(notes: &[Note; 20], n: usize, heard: u32) -> FirstValues
     ensures { (result.single ≡ single_in n notes.now heard) × (result.fickle ≡ fickle_in n notes.now heard) × ((j : ℕ) → j < n → get_or result.values j 0 ≡ first_place notes.now j) }
 {
     FirstValues {
-        single: those(n, |j| notes[j].count == 1) & heard,
-        fickle: those(n, |j| 1 < notes[j].count) & heard,
+        single: sets::those(n, |j| notes[j].count == 1) & heard,
+        fickle: sets::those(n, |j| 1 < notes[j].count) & heard,
         values: array::from_fn(|j| notes[j].values[0]),
     }
 }

@@ -16,7 +16,7 @@ fn speakers(notes: &[Note; 20], n: usize, heard: u32, edition: u16) -> u32
     requires { n ≤ 20 }
     ensures { result ≡ speakers_in n notes.now heard edition }
 {
-    choice::those(n, |j| notes[j].edition == edition) & heard
+    sets::those(n, |j| notes[j].edition == edition) & heard
 }
 
 // Those of a set whose note has a higher edition.
@@ -24,7 +24,7 @@ fn above(notes: &[Note; 20], n: usize, heard: u32, held: u16) -> u32
     requires { n ≤ 20 }
     ensures { result ≡ above_in n notes.now heard held }
 {
-    choice::those(n, |j| held < notes[j].edition) & heard
+    sets::those(n, |j| held < notes[j].edition) & heard
 }
 
 // The layout that is chosen in an edition, where `who` has said something in it. The source's word

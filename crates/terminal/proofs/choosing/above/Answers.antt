@@ -4,7 +4,7 @@ use mathlib.Core.Path.{ap, ◌∙◌}
 use borrow.Author.Rules.{rules}
 use lib.Bits.{bit_and}
 use lib.Dec.{ltb}
-use Rattle.sets.proofs.Masks.{mask_and}
+use Rattle.sets.proofs.Masks.{mask_few, mask_and}
 use Rattle.terminal.specs.Shown.{note_of}
 use Rattle.terminal.specs.Votes.{above_in}
 use Rattle.terminal.proofs.choosing.above.Goals as goal
@@ -13,5 +13,5 @@ pub returns : goal.returns
 unfolding above_in
 returns c =
     let a = c.args in
-    let holds = c.those.ensures (λ j. ltb a.held (note_of a.notes.now j).edition) (λ j b k h. search rules) in
+    let holds = c.those.ensures (λ j. ltb a.held (note_of a.notes.now j).edition) (λ j b k h. search rules) ∙ mask_few a.n _ c.requires in
     ap (λ (x : ℕ). bit_and x a.heard) holds ∙ mask_and a.n _ a.heard
