@@ -3,7 +3,7 @@ ghost use Rattle.std.specs.Prelude.{◌≤◌};
 
 use super::said::Call;
 use super::say::Line;
-use plan::{Plan, Unsound};
+use plan::Plan;
 use quorum::Bound;
 use simulation::Ran;
 use terminal::{Record, Stepped};
@@ -61,9 +61,7 @@ pub(crate) fn witness(call: &mut Call, line: &mut Line) {
     let number = match partition::check_witness(p, call.quad(), call.quad(), call.quad()) {
         Ok(true) => 0,
         Ok(false) => 1,
-        Err(Unsound::WrongRange) => 4,
-        Err(Unsound::WrongLink) => 5,
-        Err(Unsound::WrongGroups) => 17,
+        Err(e) => u8::from(e),
     };
     line.byte(number)
 }

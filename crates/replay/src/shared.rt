@@ -1,4 +1,6 @@
-// On a shared channel: the step, the check of a set, the run by value and over records that are lent.
+// On a shared channel: the step, the check of a set, the run by value and over records that are lent. Each reads
+// other numbers and asks another function than the call of the same kind in calls.rt or lent.rt, so it is written out;
+// what is the same in both stands there.
 use super::calls::Before;
 use super::said::Call;
 use super::say::Line;
