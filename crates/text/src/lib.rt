@@ -50,10 +50,7 @@ pub fn answer(number: u8, len: usize, room: usize) -> Written
     if number == 0 {
         return Written { number: 12, len: 0 };
     }
-    Written {
-        number: number,
-        len: 0,
-    }
+    Written { number, len: 0 }
 }
 
 // A text without a byte.
@@ -116,14 +113,13 @@ impl Text {
     }
 
     // The bytes of a phrase, as they are.
-    pub fn phrase(self, bytes: &[u8]) -> Text
+    pub fn phrase(mut self, bytes: &[u8]) -> Text
         ensures { held result ≡ joined (held self) bytes.now }
     {
-        let mut t = self;
         for b in bytes {
-            t = t.raw(*b);
+            self = self.raw(*b);
         }
-        t
+        self
     }
 
     // The bytes begin with those that it holds.

@@ -59,6 +59,9 @@ fn put(read: FileRead, j: Result<Option<Witness>, VerdictError>, out: &mut [u8])
     output::put(read, output::text_on(read, answer(j)), out)
 }
 
+// The three texts differ in who reads the file and who judges its plan: two calls, which as closures would ask more of
+// the contract than they spare.
+
 // What `verdict` prints on a plan file, into the lent buffer.
 pub fn verdict_text(text: &[u8], out: &mut [u8]) -> Written
     ensures value { result ≡ answer_on (file_read (plan_reading text.now)) (verdict_text text.now) (length out.old) }

@@ -30,13 +30,12 @@ fn with_one(t: Text, s: u32, i: usize) -> Text
 }
 
 // All members, ascending.
-pub(crate) fn with_names(t: Text, n: usize, s: u32) -> Text
+pub(crate) fn with_names(mut t: Text, n: usize, s: u32) -> Text
     requires { (n ≤ 20) × (s < 2 ^ n) × (length (held t) ≤ 344) }
     ensures { held result ≡ joined (held t) (listing (members n s)) }
 {
-    let mut all = t;
     for i in 0..n {
-        all = with_one(all, s, i);
+        t = with_one(t, s, i);
     }
-    all
+    t
 }

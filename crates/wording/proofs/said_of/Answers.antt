@@ -2,9 +2,6 @@
 use Rattle.wording.proofs.Listings.{said_one, said_several}
 use Rattle.wording.proofs.said_of.Goals as goal
 
-pub with_names-named-requires : goal.with_names-named-requires
-with_names-named-requires c = c.requires
-
 pub returns-then-s-eq1 : goal.returns-then-s-eq1
 returns-then-s-eq1 c = said_one c.args.n c.args.s c.requires.1 _ _ _ c.with_names-named.ensures c.if-s-eq1.true c.phrase.ensures
 

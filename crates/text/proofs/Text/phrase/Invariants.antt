@@ -5,4 +5,4 @@ use Rattle.text.specs.Texts.{held, joined}
 use Rattle.text.proofs.Text.phrase.Given as goal
 
 abbrev pub invariant-loop-b : goal.invariant-loop-b
-invariant-loop-b l = held l.t ≡ joined (held l.initial.t) (take l.b-index l.bytes)
+invariant-loop-b l = held l.self ≡ joined (held l.initial.self) (take l.b-index l.bytes)
