@@ -11,9 +11,6 @@ pub loop-n-init : goal.loop-n-init
 unfolding terminals_in
 loop-n-init c = (omega arith, refl)
 
-pub number_line-requires : goal.number_line-requires
-number_line-requires c = omega arith
-
 pub loop-n-preserved : goal.loop-n-preserved
 loop-n-preserved c = let l = c.loop-n in let file = c.args.file.now in
     (omega arith, terminals_no file (l.n - 1) _ _ c.number_line.ensures c.begins.ensures c.if-begins.false ∙ ap (λ (k : ℕ). terminals_below k file) (omega arith) ∙ l.invariant.1)
