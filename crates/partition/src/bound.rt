@@ -8,9 +8,9 @@ use super::site::Site;
 
 // Known, with all others that are faulty or reached wherever known are and none of out is faulty: a
 // good terminal joins that hears more than f who are reached, and it hears at most f who are faulty.
-pub(crate) fn settled(site: Site, f: u32, out: u32, known: u32) -> u32
-    requires { (site.plan.bound.kind ≡ Most f) × (known < 2 ^ site.plan.n) }
-    ensures { Grown site.plan out known result }
+pub(crate) fn settled(site: &Site, f: u32, out: u32, known: u32) -> u32
+    requires { (site.now.plan.bound.kind ≡ Most f) × (known < 2 ^ site.now.plan.n) }
+    ensures { Grown site.now.plan out known result }
 {
     let mut s = known;
     loop {

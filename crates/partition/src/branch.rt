@@ -19,9 +19,9 @@ pub(crate) fn key(s: u32) -> u32
 }
 
 // A fault set defeats the plan where it leaves somebody cut off.
-pub(crate) fn defeats(site: Site, s: u32) -> bool
-    requires { is_fault_set site.plan s ≡ true }
-    ensures { result ≡ defeats site.plan s }
+pub(crate) fn defeats(site: &Site, s: u32) -> bool
+    requires { is_fault_set site.now.plan s ≡ true }
+    ensures { result ≡ defeats site.now.plan s }
 {
     search::outside(site, s, search::reach(site, s)) != 0
 }
@@ -80,9 +80,9 @@ fn chosen(rows: [u32; 20], heard: u32, free: u32) -> usize
 
 // No set of the part comes before best. Whoever is cut off is one of the rest, and hears at most f
 // who are reached: all others of known that it hears are in the set, beside those of inn.
-fn hopeless(site: Site, f: u32, inn: u32, known: u32, rest: u32, best: u32) -> bool
-    requires { (site.plan.bound.kind ≡ Most f) × (inn < 2 ^ site.plan.n) × (known < 2 ^ site.plan.n) × (rest ≡ outside site.plan.n inn known) }
-    ensures { result ≡ true → Hopeless site.plan inn known best }
+fn hopeless(site: &Site, f: u32, inn: u32, known: u32, rest: u32, best: u32) -> bool
+    requires { (site.now.plan.bound.kind ≡ Most f) × (inn < 2 ^ site.now.plan.n) × (known < 2 ^ site.now.plan.n) × (rest ≡ outside site.now.plan.n inn known) }
+    ensures { result ≡ true → Hopeless site.now.plan inn known best }
 {
     let more = (inn < best & 1048575) as u32;
     let need = f + (best >> 20) + more;
@@ -96,9 +96,9 @@ fn hopeless(site: Site, f: u32, inn: u32, known: u32, rest: u32, best: u32) -> b
 // The lesser of best and the part's least key, where inn itself does not defeat the plan: first the
 // sets without one of the free terminals, then those with it.
 #[cycle(inside_split)]
-fn split(site: Site, f: u32, inn: u32, out: u32, known: u32, best: u32) -> u32
-    requires { Part site.plan f site.hearers inn out known × (defeats site.plan inn ≡ false) }
-    ensures { Least site.plan (Between inn out) best result }
+fn split(site: &Site, f: u32, inn: u32, out: u32, known: u32, best: u32) -> u32
+    requires { Part site.now.plan f site.now.hearers inn out known × (defeats site.now.plan inn ≡ false) }
+    ensures { Least site.now.plan (Between inn out) best result }
 {
     let sure = bound::settled(site, f, out, known);
     let rest = search::outside(site, inn, sure);
@@ -120,9 +120,9 @@ fn split(site: Site, f: u32, inn: u32, out: u32, known: u32, best: u32) -> u32
 
 // The same where inn is new: what it forces joins it, and is the part's least if it defeats the plan.
 #[cycle(inside_split)]
-pub(crate) fn inside(site: Site, f: u32, inn: u32, out: u32, known: u32, best: u32) -> u32
-    requires { Part site.plan f site.hearers inn out known }
-    ensures { Least site.plan (Between inn out) best result }
+pub(crate) fn inside(site: &Site, f: u32, inn: u32, out: u32, known: u32, best: u32) -> u32
+    requires { Part site.now.plan f site.now.hearers inn out known }
+    ensures { Least site.now.plan (Between inn out) best result }
 {
     let all = search::spread(site, inn, 0);
     if all & out != 0 {

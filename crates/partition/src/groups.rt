@@ -15,9 +15,9 @@ use super::site::Site;
 use super::{branch, search};
 
 // A notice reaches b although all others of the set are bad.
-fn reaches(site: Site, all: u32, b: usize) -> bool
-    requires { all < 2 ^ site.plan.n }
-    ensures { result ≡ mem b (reached site.plan (less all b)) }
+fn reaches(site: &Site, all: u32, b: usize) -> bool
+    requires { all < 2 ^ site.now.plan.n }
+    ensures { result ≡ mem b (reached site.now.plan (less all b)) }
 {
     let rest = all & !sets::singleton(b);
     sets::member(search::reach(site, rest), b)
@@ -25,9 +25,9 @@ fn reaches(site: Site, all: u32, b: usize) -> bool
 
 // Those that a set within `all` may cut off: the first of them that are found to be reached are left out,
 // up to one that is not.
-fn still_hopeful(site: Site, all: u32, hopeful: u32) -> u32
-    requires { (all < 2 ^ site.plan.n) × (hopeful < 2 ^ site.plan.n) }
-    ensures { Hopeful site.plan all hopeful result }
+fn still_hopeful(site: &Site, all: u32, hopeful: u32) -> u32
+    requires { (all < 2 ^ site.now.plan.n) × (hopeful < 2 ^ site.now.plan.n) }
+    ensures { Hopeful site.now.plan all hopeful result }
 {
     let mut rest = hopeful;
     while rest != 0 {
@@ -41,9 +41,9 @@ fn still_hopeful(site: Site, all: u32, hopeful: u32) -> u32
 }
 
 // The bad ones and c, if c is free and b is reached all the same.
-fn with_one(site: Site, bad: u32, free: u32, c: usize, b: usize) -> u32
-    requires { (bad < 2 ^ site.plan.n) × (c < site.plan.n) }
-    ensures { result < 2 ^ site.plan.n }
+fn with_one(site: &Site, bad: u32, free: u32, c: usize, b: usize) -> u32
+    requires { (bad < 2 ^ site.now.plan.n) × (c < site.now.plan.n) }
+    ensures { result < 2 ^ site.now.plan.n }
 {
     let more = sets::with(bad, c);
     if sets::member(free, c) && reaches(site, more, b) {
@@ -54,8 +54,8 @@ fn with_one(site: Site, bad: u32, free: u32, c: usize, b: usize) -> u32
 
 // Free terminals of which one at least has to be bad before b is cut off: all the others of the free ones
 // together leave it reached.
-fn decisive(site: Site, inn: u32, free: u32, b: usize) -> u32
-    requires { inn < 2 ^ site.plan.n }
+fn decisive(site: &Site, inn: u32, free: u32, b: usize) -> u32
+    requires { inn < 2 ^ site.now.plan.n }
 {
     let mut bad = inn;
     for c in 0..site.plan.n {
@@ -65,8 +65,8 @@ fn decisive(site: Site, inn: u32, free: u32, b: usize) -> u32
 }
 
 // What is left of the terminals that were decisive, or those that are now.
-fn wanted_now(site: Site, inn: u32, free: u32, wanted: u32, b: usize) -> u32
-    requires { inn < 2 ^ site.plan.n }
+fn wanted_now(site: &Site, inn: u32, free: u32, wanted: u32, b: usize) -> u32
+    requires { inn < 2 ^ site.now.plan.n }
 {
     if wanted & free != 0 {
         return wanted & free;
@@ -92,9 +92,9 @@ fn part_of_earlier(groups: [u32; 16], i: usize, s: u32) -> bool
 // without one of the free terminals, then those with it; any choice of it is right, and a decisive one
 // makes the first part small.
 #[cycle(inside_split)]
-fn split(site: Site, i: usize, inn: u32, out: u32, hopeful: u32, wanted: u32, best: u32) -> u32
-    requires { Cutting site.plan site.hearers inn out hopeful × (defeats site.plan inn ≡ false) × Earlier site.plan i best × (i ≤ 16) }
-    ensures { Least site.plan (Between inn out) best result }
+fn split(site: &Site, i: usize, inn: u32, out: u32, hopeful: u32, wanted: u32, best: u32) -> u32
+    requires { Cutting site.now.plan site.now.hearers inn out hopeful × (defeats site.now.plan inn ≡ false) × Earlier site.now.plan i best × (i ≤ 16) }
+    ensures { Least site.now.plan (Between inn out) best result }
 {
     if best <= branch::key(inn) + 1048576 {
         return best;
@@ -118,9 +118,9 @@ fn split(site: Site, i: usize, inn: u32, out: u32, hopeful: u32, wanted: u32, be
 
 // The same where inn is new.
 #[cycle(inside_split)]
-fn inside(site: Site, i: usize, inn: u32, out: u32, hopeful: u32, best: u32) -> u32
-    requires { Cutting site.plan site.hearers inn out hopeful × Earlier site.plan i best × (i ≤ 16) }
-    ensures { Least site.plan (Between inn out) best result }
+fn inside(site: &Site, i: usize, inn: u32, out: u32, hopeful: u32, best: u32) -> u32
+    requires { Cutting site.now.plan site.now.hearers inn out hopeful × Earlier site.now.plan i best × (i ≤ 16) }
+    ensures { Least site.now.plan (Between inn out) best result }
 {
     let own = branch::key(inn);
     if best <= own {
@@ -133,9 +133,9 @@ fn inside(site: Site, i: usize, inn: u32, out: u32, hopeful: u32, best: u32) -> 
 }
 
 // The lesser of best and the least key of the parts of group i.
-fn of_group(site: Site, i: usize, group: u32, best: u32) -> u32
-    requires { Together site.plan group × Earlier site.plan i best × (i ≤ 16) }
-    ensures { Least site.plan (λ s. Inside s group) best result }
+fn of_group(site: &Site, i: usize, group: u32, best: u32) -> u32
+    requires { Together site.now.plan group × Earlier site.now.plan i best × (i ≤ 16) }
+    ensures { Least site.now.plan (λ s. Inside s group) best result }
 {
     let out = search::outside(site, group, 0);
     let hopeful = search::outside(site, site.hearers, 0);
@@ -143,9 +143,9 @@ fn of_group(site: Site, i: usize, group: u32, best: u32) -> u32
 }
 
 // The same of all groups.
-fn of_all(site: Site, best: u32) -> u32
-    requires { (count : ℕ) × (site.plan.bound.kind ≡ Groups count) }
-    ensures { Least site.plan Any best result }
+fn of_all(site: &Site, best: u32) -> u32
+    requires { (count : ℕ) × (site.now.plan.bound.kind ≡ Groups count) }
+    ensures { Least site.now.plan Any best result }
 {
     let mut least = best;
     for i in 0..16 {
@@ -156,9 +156,9 @@ fn of_all(site: Site, best: u32) -> u32
 
 // First the sets of at most two members (3 · 2^20 = 3145728), which are soon looked at, and only where
 // none of them defeats the plan all of them.
-pub(crate) fn least(site: Site) -> u32
-    requires { (count : ℕ) × (site.plan.bound.kind ≡ Groups count) }
-    ensures { Least site.plan Any 22020096 result }
+pub(crate) fn least(site: &Site) -> u32
+    requires { (count : ℕ) × (site.now.plan.bound.kind ≡ Groups count) }
+    ensures { Least site.now.plan Any 22020096 result }
 {
     let small = of_all(site, 3145728);
     if small < 3145728 {

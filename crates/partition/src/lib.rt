@@ -79,8 +79,8 @@ impl From<Unsound> for MarginsError {
 }
 
 // The least witness against a sound plan, none where it passes.
-fn judge(site: Site) -> Option<Witness>
-    ensures { answered (Ok result) ≡ judged (verdict site.plan) }
+fn judge(site: &Site) -> Option<Witness>
+    ensures { answered (Ok result) ≡ judged (verdict site.now.plan) }
 {
     let f = search::search(site)?;
     let l = search::reach(site, f);
@@ -97,7 +97,8 @@ fn judge_within(most: usize, p: Plan) -> Result<Option<Witness>, VerdictError>
     if plan::too_many(most, p) {
         return Err(VerdictError::TooMany);
     }
-    Ok(judge(site::of(p)?))
+    let site = site::of(p)?;
+    Ok(judge(&site))
 }
 
 // A pass, which is none, or a fail with the least witness, or why the record is no plan: for the planner,
@@ -121,7 +122,8 @@ pub fn quote(p: Plan) -> Result<Option<Witness>, VerdictError>
 pub fn check_witness(p: Plan, f: u32, l: u32, r: u32) -> Result<bool, Unsound>
     ensures { replied result ≡ reply_of p f l r }
 {
-    Ok(check::accepts(site::of(p)?, f, l, r))
+    let site = site::of(p)?;
+    Ok(check::accepts(&site, f, l, r))
 }
 
 // How each terminal stands, or why the record is no plan with a bound f; one that lists a group has none.
@@ -134,5 +136,6 @@ pub fn margins(p: Plan) -> Result<[Standing; 20], MarginsError>
     if !standings::no_groups(p.bound.groups) {
         return Err(MarginsError::WrongRange);
     }
-    Ok(standings::standings(site::of(p)?, f as u32))
+    let site = site::of(p)?;
+    Ok(standings::standings(&site, f as u32))
 }

@@ -47,9 +47,9 @@ fn hopeful(rows: [u32; 20], f: u32, out: u32, sure: u32, counts: [u32; 20]) -> u
 }
 
 // Out, and whoever else is in no fault set of the part: one who is out hears f of inn already, and it.
-fn barred(site: Site, f: u32, inn: u32, out: u32) -> u32
-    requires { (site.plan.bound.kind ≡ Most f) × (inn < 2 ^ site.plan.n) × (out < 2 ^ site.plan.n) }
-    ensures { Barred site.plan inn out result }
+fn barred(site: &Site, f: u32, inn: u32, out: u32) -> u32
+    requires { (site.now.plan.bound.kind ≡ Most f) × (inn < 2 ^ site.now.plan.n) × (out < 2 ^ site.now.plan.n) }
+    ensures { Barred site.now.plan inn out result }
 {
     if f == 0 {
         return out;
@@ -79,7 +79,7 @@ fn chosen(rows: [u32; 20], rest: u32, sure: u32, sought: u32, free: u32) -> usiz
 // then those without it.
 #[cycle(inside_split)]
 fn split(
-    site: Site,
+    site: &Site,
     f: u32,
     inn: u32,
     out: u32,
@@ -87,8 +87,8 @@ fn split(
     sought: u32,
     counts: [u32; 20],
 ) -> [u32; 20]
-    requires { Part site.plan f site.hearers inn out known × (sought < 2 ^ site.plan.n) × Seen site.plan inn sought counts }
-    ensures { Lower site.plan (Between inn out) sought counts result }
+    requires { Part site.now.plan f site.now.hearers inn out known × (sought < 2 ^ site.now.plan.n) × Seen site.now.plan inn sought counts }
+    ensures { Lower site.now.plan (Between inn out) sought counts result }
 {
     let shut = barred(site, f, inn, out);
     let sure = bound::settled(site, f, shut, known);
@@ -114,7 +114,7 @@ fn split(
 // The same where inn is new: what it forces joins it, and is looked at.
 #[cycle(inside_split)]
 fn inside(
-    site: Site,
+    site: &Site,
     f: u32,
     inn: u32,
     out: u32,
@@ -122,8 +122,8 @@ fn inside(
     sought: u32,
     counts: [u32; 20],
 ) -> [u32; 20]
-    requires { Part site.plan f site.hearers inn out known × (sought < 2 ^ site.plan.n) }
-    ensures { Lower site.plan (Between inn out) sought counts result }
+    requires { Part site.now.plan f site.now.hearers inn out known × (sought < 2 ^ site.now.plan.n) }
+    ensures { Lower site.now.plan (Between inn out) sought counts result }
 {
     let all = search::spread(site, inn, 0);
     if all & out != 0 {
@@ -136,9 +136,9 @@ fn inside(
 }
 
 // The fewest for each terminal that has a margin. Nobody hears more than twenty.
-pub(crate) fn fewest(site: Site, f: u32) -> [u32; 20]
-    requires { site.plan.bound.kind ≡ Most f }
-    ensures { (b : ℕ) → b < site.plan.n → has_margin site.plan b ≡ true → get_or result b 0 ≡ fewest site.plan b }
+pub(crate) fn fewest(site: &Site, f: u32) -> [u32; 20]
+    requires { site.now.plan.bound.kind ≡ Most f }
+    ensures { (b : ℕ) → b < site.now.plan.n → has_margin site.now.plan b ≡ true → get_or result b 0 ≡ fewest site.now.plan b }
 {
     let source = sets::singleton(site.plan.source);
     let sought = search::outside(site, source, site.hearers);

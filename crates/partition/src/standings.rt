@@ -26,9 +26,9 @@ fn difference(f: u32, heard: u32) -> i32
     heard as i32 - needs
 }
 
-fn standing(site: Site, f: u32, heard: u32, b: usize) -> Standing
-    requires { (site.plan.bound.kind ≡ Most f) × (b < site.plan.n → has_margin site.plan b ≡ true → heard ≡ fewest site.plan b) }
-    ensures { result ≡ standing_of site.plan b }
+fn standing(site: &Site, f: u32, heard: u32, b: usize) -> Standing
+    requires { (site.now.plan.bound.kind ≡ Most f) × (b < site.now.plan.n → has_margin site.now.plan b ≡ true → heard ≡ fewest site.now.plan b) }
+    ensures { result ≡ standing_of site.now.plan b }
 {
     if site.plan.n <= b {
         return Standing::Absent;
@@ -43,9 +43,9 @@ fn standing(site: Site, f: u32, heard: u32, b: usize) -> Standing
 }
 
 // places[b] is how terminal b stands.
-pub(crate) fn standings(site: Site, f: u32) -> [Standing; 20]
-    requires { site.plan.bound.kind ≡ Most f }
-    ensures { result ≡ table 20 (standing_of site.plan) }
+pub(crate) fn standings(site: &Site, f: u32) -> [Standing; 20]
+    requires { site.now.plan.bound.kind ≡ Most f }
+    ensures { result ≡ table 20 (standing_of site.now.plan) }
 {
     let fewest = margin::fewest(site, f);
     array::from_fn(|b| standing(site, f, fewest[b], b))

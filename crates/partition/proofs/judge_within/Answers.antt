@@ -16,13 +16,13 @@ returns-then-too_many c =
 pub returns : goal.returns
 returns c =
     let few = sym c.too_many.ensures ∙ c.if-too_many.false in
-    let site = c.in_ok-of.field-0 in
-    let e : site.plan ≡ c.args.p = c.in_ok-of.ensures in
+    let site = c.in_ok-site.site in
+    let e : site.plan ≡ c.args.p = c.in_ok-site.ensures in
     let told = with_check _ _ _ (answer_judged _ _ few _ (ap cause_of (sym e) ∙ site.sound) (c.judge.ensures ∙ ap (λ (p : Plan). judged (verdict p)) e)) in
     record { answer = told.0; accepted = told.1 }
 
-pub returns-in_err-of : goal.returns-in_err-of
-returns-in_err-of c =
+pub returns-in_err-site : goal.returns-in_err-site
+returns-in_err-site c =
     let few = sym c.too_many.ensures ∙ c.if-too_many.false in
-    let told = with_check _ _ _ (plan_refused _ _ few _ _ c.from_residual.ensures.1 c.in_err-of.ensures) in
+    let told = with_check _ _ _ (plan_refused _ _ few _ _ c.from_residual.ensures.1 c.in_err-site.ensures) in
     record { answer = told.0; accepted = told.1 }

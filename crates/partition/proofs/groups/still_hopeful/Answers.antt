@@ -14,10 +14,10 @@ pub reaches-requires : goal.reaches-requires
 reaches-requires c = c.requires.0
 
 pub loop-rest-smaller : goal.loop-rest-smaller
-loop-rest-smaller c = let a = c.args in subst (λ (x : ℕ). count a.site.plan.n (λ i. mem i x) < count a.site.plan.n (λ i. mem i c.loop-rest.rest)) (sym (less_by c.loop-rest.rest c.highest-b.result _ c.singleton.ensures)) (hopeful_less _ (sound _ c.args.site.sound) _ _ _ _ c.loop-rest.invariant c.highest-b.ensures)
+loop-rest-smaller c = let a = c.args in subst (λ (x : ℕ). count a.site.now.plan.n (λ i. mem i x) < count a.site.now.plan.n (λ i. mem i c.loop-rest.rest)) (sym (less_by c.loop-rest.rest c.highest-b.result _ c.singleton.ensures)) (hopeful_less _ (sound _ c.args.site.now.sound) _ _ _ _ c.loop-rest.invariant c.highest-b.ensures)
 
 pub loop-rest-preserved : goal.loop-rest-preserved
-loop-rest-preserved c = let a = c.args in subst (Hopeful a.site.plan a.all a.hopeful) (sym (less_by c.loop-rest.rest c.highest-b.result _ c.singleton.ensures)) (hopeful_next _ (sound _ c.args.site.sound) _ _ _ _ c.loop-rest.invariant c.highest-b.ensures (sym c.reaches.ensures ∙ c.if-not-reaches.false))
+loop-rest-preserved c = let a = c.args in subst (Hopeful a.site.now.plan a.all a.hopeful) (sym (less_by c.loop-rest.rest c.highest-b.result _ c.singleton.ensures)) (hopeful_next _ (sound _ c.args.site.now.sound) _ _ _ _ c.loop-rest.invariant c.highest-b.ensures (sym c.reaches.ensures ∙ c.if-not-reaches.false))
 
 pub returns : goal.returns
 returns c = hopeful_none _ _ _ _ c.loop-rest.invariant c.loop-rest-test.false

@@ -8,5 +8,5 @@ use Rattle.partition.proofs.search.outside.Goals as goal
 pub returns : goal.returns
 returns c =
     let a = c.args in
-    let t = (sound _ a.site.sound).twenty in
-    c.outside.ensures ∙ few_outside a.site.plan.n a.a a.b (omega arith)
+    let t = (sound _ a.site.now.sound).twenty in
+    c.outside.ensures ∙ few_outside a.site.now.plan.n a.a a.b (omega arith)

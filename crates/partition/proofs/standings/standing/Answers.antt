@@ -15,10 +15,10 @@ pub returns-then-b-site : goal.returns-then-b-site
 returns-then-b-site c = stands_source _ _ c.if-site-b.false c.if-b-site.true
 
 pub returns-then-member : goal.returns-then-member
-returns-then-member c = let g = c.requires in let k = c.if-site-b.false in stands_direct_lem _ _ k c.if-b-site.false (sym (direct_mem _ (sound _ c.args.site.sound) _ _ c.args.site.hearers_are k) ∙ sym c.member.ensures ∙ c.if-member.true)
+returns-then-member c = let g = c.requires in let k = c.if-site-b.false in stands_direct_lem _ _ k c.if-b-site.false (sym (direct_mem _ (sound _ c.args.site.now.sound) _ _ c.args.site.now.hearers_are k) ∙ sym c.member.ensures ∙ c.if-member.true)
 
 pub difference-requires : goal.difference-requires
-difference-requires c = let g = c.requires in let k = c.if-site-b.false in let z = c.if-b-site.false in let s = sound _ c.args.site.sound in let e = g.1 k (has_margin_lem _ _ k z (sym (direct_mem _ s _ _ c.args.site.hearers_are k) ∙ sym c.member.ensures ∙ c.if-member.false)) in let t = s.twenty in let l = s.f_below _ g.0 in (omega arith, omega (arith, fewest_few c.args.site.plan c.args.b))
+difference-requires c = let g = c.requires in let k = c.if-site-b.false in let z = c.if-b-site.false in let s = sound _ c.args.site.now.sound in let e = g.1 k (has_margin_lem _ _ k z (sym (direct_mem _ s _ _ c.args.site.now.hearers_are k) ∙ sym c.member.ensures ∙ c.if-member.false)) in let t = s.twenty in let l = s.f_below _ g.0 in (omega arith, omega (arith, fewest_few c.args.site.now.plan c.args.b))
 
 pub returns : goal.returns
-returns c = let g = c.requires in let k = c.if-site-b.false in let z = c.if-b-site.false in let s = sound _ c.args.site.sound in let h = sym (direct_mem _ s _ _ c.args.site.hearers_are k) ∙ sym c.member.ensures ∙ c.if-member.false in stands_margin _ _ k z h _ (margin_by _ _ _ _ _ g.0 (g.1 k (has_margin_lem _ _ k z h)) (to_z-of_z {w = w32} (record { sfits = c.difference.type_inv }) ∙ c.difference.ensures))
+returns c = let g = c.requires in let k = c.if-site-b.false in let z = c.if-b-site.false in let s = sound _ c.args.site.now.sound in let h = sym (direct_mem _ s _ _ c.args.site.now.hearers_are k) ∙ sym c.member.ensures ∙ c.if-member.false in stands_margin _ _ k z h _ (margin_by _ _ _ _ _ g.0 (g.1 k (has_margin_lem _ _ k z h)) (to_z-of_z {w = w32} (record { sfits = c.difference.type_inv }) ∙ c.difference.ensures))
