@@ -1,10 +1,8 @@
 // One round on a shared channel, where the source itself may be bad.
-ghost use Rattle.std.specs.Prelude.{◌≡◌, ◌+◌, ◌<◌, ◌≤◌, eqb, length, get_or};
-ghost use Rattle.sets.specs.Tests.{◌or◌, pick};
+ghost use Rattle.std.specs.Prelude.{◌≡◌, ◌<◌, ◌≤◌, length, get_or};
 ghost use Rattle.sets.specs.Tables.{table};
 ghost use Rattle.sets.specs.Sets.{mem};
-ghost use Rattle.quorum.specs.Notice.{notice_of, first_edition};
-ghost use Rattle.terminal.specs.declared.State.TheVariants.{Taken};
+ghost use Rattle.quorum.specs.Notice.{first_edition};
 ghost use Rattle.terminal.specs.Shown.{Whole, view_of, shown_over};
 ghost use Rattle.terminal.specs.Votes.{HaveRoom};
 ghost use Rattle.terminal.specs.Answer.{number_of};

@@ -6,7 +6,7 @@ pub mod channel;
 mod choice;
 mod choosing;
 
-ghost use Rattle.std.specs.Prelude.{◌≡◌, true, not, map, ◌+◌, ◌<◌, ◌≤◌, leb, length, get_or, set, replicate};
+ghost use Rattle.std.specs.Prelude.{◌≡◌, true, not, map, ◌+◌, ◌<◌, ◌≤◌, leb, length, get_or, set};
 ghost use Rattle.sets.specs.Tests.{◌and◌, ◌implies◌};
 ghost use Rattle.sets.specs.Sets.{mem};
 ghost use Rattle.terminal.specs.Rule.{start, source_start, among, in_edition, is_new, with_new, noted, held_by, chosen, taking, step};
