@@ -5,6 +5,6 @@ use Rattle.firmware.proofs.hulmayek_bound_step.Goals as goal
 
 pub returns : goal.returns
 returns c =
-    let s = c.step.ensures in
+    let s = c.step-stepped.ensures in
     c.answer_of.ensures
     ∙ step_answered _ _ c.record_of.ensures _ _ _ _ _ _ _ _ _ c.bound_of-bound.ensures s.0 s.1
