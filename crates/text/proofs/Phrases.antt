@@ -1,4 +1,4 @@
--- A phrase that is joined byte by byte, and texts that are compared byte by byte. Assumes nothing.
+-- A phrase that is joined byte by byte, and texts that are compared by the library. Assumes nothing.
 use Prim.Native.Nat.{ℕ, ◌+◌, ◌≤◌, ◌<◌}
 use mathlib.Core.Path.{◌≡◌, refl, sym, ap, ap₂, ◌∙◌}
 use mathlib.Core.Bool.{Bool, true, false, ◌&&◌}
@@ -11,7 +11,7 @@ use lib.Pointwise.{pointwise}
 use lib.Seq.{take_all, take-suc}
 use borrow.Author.Tests.{eq-eqb, eqb-true}
 use Rattle.sets.specs.Tests.{◌and◌}
-use Rattle.sets.proofs.Bools.{clash, and_l, and_r, and_i, no_by}
+use Rattle.sets.proofs.Bools.{clash, and_l, and_r, and_i}
 use Rattle.text.specs.Texts.{joined}
 use Rattle.text.specs.Phrases.{same, begins}
 use Rattle.text.proofs.Laws.{then}
@@ -53,9 +53,6 @@ same_is (x ∷ xs) (y ∷ ys) h = ap₂ (λ (a : ℕ) (l : List ℕ). a ∷ l) (
 
 pub same_yes : (xs ys : List ℕ) → xs ≡ ys → same xs ys ≡ true
 same_yes xs ys e = ap (same xs) (sym e) ∙ same_refl xs
-
-pub same_no : (xs ys : List ℕ) → (xs ≡ ys → ⊥) → same xs ys ≡ false
-same_no xs ys f = no_by (λ h. f (same_is xs ys h))
 
 -- the library's test of two slices
 and_and : (a : Bool) {b c : Bool} → b ≡ c → (a && b) ≡ (a and c)
