@@ -10,7 +10,7 @@ mod search;
 mod site;
 mod standings;
 
-ghost use Rattle.std.specs.Prelude.{◌≡◌, true, Ok};
+ghost use Rattle.std.specs.Prelude.{◌≡◌, true, Ok, Err};
 ghost use Rattle.closure.specs.Verdict.{verdict, accepts};
 ghost use Rattle.partition.specs.Answer.{of_plan, answered, replied, reply_of};
 ghost use Rattle.partition.specs.Margins.{of_bounded_plan, told, margins_of};
@@ -50,6 +50,20 @@ impl From<Unsound> for VerdictError {
     }
 }
 
+// The documents' number.
+impl From<VerdictError> for u8 {
+    ghost from_gives = { λ e n. n ≡ (answered (Err e)).number };
+
+    fn from(e: VerdictError) -> u8 {
+        match e {
+            VerdictError::WrongRange => 4,
+            VerdictError::TooMany => 14,
+            VerdictError::WrongLink => 5,
+            VerdictError::WrongGroups => 17,
+        }
+    }
+}
+
 // How one terminal stands: it is the source, it hears the source, or it has a margin. Absent: the plan has no
 // terminal of that number.
 #[derive(Clone, Copy)]
@@ -74,6 +88,18 @@ impl From<Unsound> for MarginsError {
         match e {
             Unsound::WrongLink => MarginsError::WrongLink,
             Unsound::WrongRange | Unsound::WrongGroups => MarginsError::WrongRange,
+        }
+    }
+}
+
+// The documents' number.
+impl From<MarginsError> for u8 {
+    ghost from_gives = { λ e n. n ≡ (told (Err e)).number };
+
+    fn from(e: MarginsError) -> u8 {
+        match e {
+            MarginsError::WrongRange => 4,
+            MarginsError::WrongLink => 5,
         }
     }
 }

@@ -1,7 +1,7 @@
 // The greatest bound for which a drawing passes, from its links alone.
 #![tactic(auto)]
 
-ghost use Rattle.std.specs.Prelude.{◌≡◌, ◌<◌};
+ghost use Rattle.std.specs.Prelude.{◌≡◌, ◌<◌, Err};
 ghost use Rattle.plan.specs.Plan.{cause_of};
 ghost use Rattle.tolerance.specs.Greatest.{with_bound, passes_with, greatest, height};
 ghost use Rattle.tolerance.specs.Answer.{of_plan, told, greatest_of};
@@ -32,6 +32,18 @@ impl From<Unsound> for DrawingError {
         match e {
             Unsound::WrongRange => DrawingError::WrongRange,
             Unsound::WrongLink | Unsound::WrongGroups => DrawingError::WrongLink,
+        }
+    }
+}
+
+// The documents' number.
+impl From<DrawingError> for u8 {
+    ghost from_gives = { λ e n. n ≡ (told (Err e)).number };
+
+    fn from(e: DrawingError) -> u8 {
+        match e {
+            DrawingError::WrongRange => 4,
+            DrawingError::WrongLink => 5,
         }
     }
 }
