@@ -1,11 +1,11 @@
-// Which value a waiting terminal takes, from what it has noted; 0 for none.
+// Which value a waiting terminal takes, from what it has noted; 0 for none, since 0 is no layout in the
+// documents either.
 //
 // A value that enough neighbours have said has a voter outside any set that is not enough. So where
 // those who have said more than one value are not enough, as in every run, only what the others have
 // said can be taken: one value each. Where they are, every value of every neighbour is looked at.
-ghost use Rattle.std.specs.Prelude.{◌≡◌, Bool, map, ℕ, ◌<◌, ◌≤◌, get_or};
+ghost use Rattle.std.specs.Prelude.{◌≡◌, map, ℕ, ◌<◌, ◌≤◌, get_or};
 ghost use Rattle.std.specs.Int.Bits.{bit_or};
-ghost use Rattle.sets.specs.Sets.{mask};
 ghost use Rattle.terminal.specs.Rule.{lesser, least, least_of, least_from, candidate, choice};
 ghost use Rattle.terminal.specs.Shown.{values_in, Whole};
 ghost use Rattle.terminal.specs.Votes.{HavePlaces, voters_in, single_in, fickle_in, first_place, same_in, if_enough, from_first};

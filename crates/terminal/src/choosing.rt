@@ -39,7 +39,8 @@ fn layout_in(notes: &[Note; 20], n: usize, source: usize, bound: Bound, who: u32
     choice::choice(notes, n, source, bound, who)
 }
 
-// An edition in which something qualifies, and the layout; 0 and 0 for none.
+// An edition in which something qualifies, and the layout; 0 and 0 for none. No Option, since edition 0 is none in
+// the documents too, and every edition is above it.
 #[derive(Clone, Copy)]
 pub(crate) struct Best {
     pub edition: u16,
