@@ -17,10 +17,6 @@ pub inside-returns-then-defeats : goal.inside-returns-then-defeats
 inside-returns-then-defeats t c =
     own_defeats c.requires.0 _ _ c.key-own.ensures c.if-best-own.false (sym c.defeats.ensures ∙ c.if-defeats.true)
 
-pub inside-split-requires : goal.inside-split-requires
-inside-split-requires t c =
-    let given = c.requires in (omega arith, (given.0, sym c.defeats.ensures ∙ c.if-defeats.false, given.1, given.2))
-
 pub split-key-requires : goal.split-key-requires
 split-key-requires t c = inn_low_twenty c.requires.0
 
