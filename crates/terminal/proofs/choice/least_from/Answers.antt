@@ -7,11 +7,6 @@ use Rattle.terminal.specs.Shown.{values_in}
 use Rattle.terminal.proofs.Shown.{view_values}
 use Rattle.terminal.proofs.choice.least_from.Goals as goal
 
-pub least_of-requires : goal.least_of-requires
-least_of-requires c =
-    let p = c.requires in
-    (p.0, p.2, p.2 c.args.j (sym c.member.ensures ∙ c.if-member.true))
-
 pub returns-then-member : goal.returns-then-member
 unfolding least_from
 returns-then-member c =
