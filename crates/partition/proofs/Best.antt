@@ -28,11 +28,10 @@ use Rattle.partition.proofs.Members.{key_low, key_set, size_twenty}
 
 module _ (p : Plan) (e : cause_of p ≡ 0) (one : ℕ) (q : one ≡ singleton 32 p.source) where
   -- the whole search: no fault set has the source, and the source and its hearers are settled
-  pub whole : (f : ℕ) → p.bound.kind ≡ Most f → (hearers : ℕ) → hearers ≡ direct p.rows p.source → Part p f hearers 0 one (bit_or one hearers)
+  pub whole : (f : ℕ) → p.bound.kind ≡ Most f → (hearers : ℕ) → hearers ≡ direct p.rows p.source → Part p f 0 one (bit_or one hearers)
   whole f m hearers d = record {
     plan = e;
     bound_is = m;
-    hearers_are = d;
     inn_below = pow_pos p.n;
     out_below = one_below p (sound p e) one q;
     known_below = or_lt p.n one hearers (one_below p (sound p e) one q) (direct_below p (sound p e) hearers d);

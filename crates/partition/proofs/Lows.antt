@@ -179,8 +179,8 @@ stays_low : {p : Plan} {Of : ℕ → Type 0} {sought : ℕ} {counts : List ℕ}
     → ((b s : ℕ) → mem b sought ≡ true → leaves_good p b s ≡ true → Of s → get_or counts b 0 ≤ heard_of_l p b s) → Lower p Of sought counts counts
 stays_low f = record { at_most = λ b k. le_refl _; comes = λ b k. inl refl; least = f }
 
-module _ {p : Plan} {f hearers inn out known : ℕ} (part : Part p f hearers inn out known) {shut : ℕ} (bar : Barred p inn out shut) where
-  pub shut_part : Part p f hearers inn shut known
+module _ {p : Plan} {f inn out known : ℕ} (part : Part p f inn out known) {shut : ℕ} (bar : Barred p inn out shut) where
+  pub shut_part : Part p f inn shut known
   shut_part =
       narrows part inn shut known (λ i m. m) bar.has part.inn_below bar.below part.known_below (λ s i w u. u)
 
@@ -190,7 +190,7 @@ module _ {p : Plan} {f hearers inn out known : ℕ} (part : Part p f hearers inn
   shut_between : (s : ℕ) → is_fault_set p s ≡ true → Between inn out s → Between inn shut s
   shut_between s i w = record { has = w.has; lacks = bar.apart s i w }
 
-module _ {p : Plan} {f hearers inn out known : ℕ} (part : Part p f hearers inn out known) (sought : ℕ) (low : sought < 2 ^ p.n) (counts : List ℕ) where
+module _ {p : Plan} {f inn out known : ℕ} (part : Part p f inn out known) (sought : ℕ) (low : sought < 2 ^ p.n) (counts : List ℕ) where
   sought_below : (b : ℕ) → mem b sought ≡ true → b < p.n
   sought_below b m = mem_below p.n b sought low m
 

@@ -85,10 +85,9 @@ pub record Grown (p : Plan) (out known r : ℕ) : Type 0 where
   pub settled : (s : ℕ) → is_fault_set p s ≡ true → Apart out s → Settled p s known → Settled p s r
 
 -- what each call of the search for a bound f is given
-pub record Part (p : Plan) (f hearers inn out known : ℕ) : Type 0 where
+pub record Part (p : Plan) (f inn out known : ℕ) : Type 0 where
   pub plan : cause_of p ≡ 0
   pub bound_is : p.bound.kind ≡ Most f
-  pub hearers_are : hearers ≡ direct p.rows p.source
   pub inn_below : inn < 2 ^ p.n
   pub out_below : out < 2 ^ p.n
   pub known_below : known < 2 ^ p.n
@@ -104,9 +103,8 @@ pub record Least (p : Plan) (Of : ℕ → Type 0) (best r : ℕ) : Type 0 where
 -- ---- the search for groups goes group by group
 
 -- what each call is given: any set that has none of out is a fault set, and whoever a set of the part cuts off is one of hopeful
-pub record Cutting (p : Plan) (hearers inn out hopeful : ℕ) : Type 0 where
+pub record Cutting (p : Plan) (inn out hopeful : ℕ) : Type 0 where
   pub plan : cause_of p ≡ 0
-  pub hearers_are : hearers ≡ direct p.rows p.source
   pub inn_below : inn < 2 ^ p.n
   pub out_below : out < 2 ^ p.n
   pub hopeful_below : hopeful < 2 ^ p.n

@@ -97,7 +97,7 @@ fn hopeless(site: &Site, f: u32, inn: u32, known: u32, rest: u32, best: u32) -> 
 // sets without one of the free terminals, then those with it.
 #[cycle(inside_split)]
 fn split(site: &Site, f: u32, inn: u32, out: u32, known: u32, best: u32) -> u32
-    requires { Part site.now.plan f site.now.hearers inn out known × (defeats site.now.plan inn ≡ false) }
+    requires { Part site.now.plan f inn out known × (defeats site.now.plan inn ≡ false) }
     ensures { Least site.now.plan (Between inn out) best result }
 {
     let sure = bound::settled(site, f, out, known);
@@ -121,7 +121,7 @@ fn split(site: &Site, f: u32, inn: u32, out: u32, known: u32, best: u32) -> u32
 // The same where inn is new: what it forces joins it, and is the part's least if it defeats the plan.
 #[cycle(inside_split)]
 pub(crate) fn inside(site: &Site, f: u32, inn: u32, out: u32, known: u32, best: u32) -> u32
-    requires { Part site.now.plan f site.now.hearers inn out known }
+    requires { Part site.now.plan f inn out known }
     ensures { Least site.now.plan (Between inn out) best result }
 {
     let all = search::spread(site, inn, 0);

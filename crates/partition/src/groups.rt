@@ -93,7 +93,7 @@ fn part_of_earlier(groups: [u32; 16], i: usize, s: u32) -> bool
 // makes the first part small.
 #[cycle(inside_split)]
 fn split(site: &Site, i: usize, inn: u32, out: u32, hopeful: u32, wanted: u32, best: u32) -> u32
-    requires { Cutting site.now.plan site.now.hearers inn out hopeful × (defeats site.now.plan inn ≡ false) × Earlier site.now.plan i best × (i ≤ 16) }
+    requires { Cutting site.now.plan inn out hopeful × (defeats site.now.plan inn ≡ false) × Earlier site.now.plan i best × (i ≤ 16) }
     ensures { Least site.now.plan (Between inn out) best result }
 {
     if best <= branch::key(inn) + 1048576 {
@@ -119,7 +119,7 @@ fn split(site: &Site, i: usize, inn: u32, out: u32, hopeful: u32, wanted: u32, b
 // The same where inn is new.
 #[cycle(inside_split)]
 fn inside(site: &Site, i: usize, inn: u32, out: u32, hopeful: u32, best: u32) -> u32
-    requires { Cutting site.now.plan site.now.hearers inn out hopeful × Earlier site.now.plan i best × (i ≤ 16) }
+    requires { Cutting site.now.plan inn out hopeful × Earlier site.now.plan i best × (i ≤ 16) }
     ensures { Least site.now.plan (Between inn out) best result }
 {
     let own = branch::key(inn);

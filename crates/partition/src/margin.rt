@@ -87,7 +87,7 @@ fn split(
     sought: u32,
     counts: [u32; 20],
 ) -> [u32; 20]
-    requires { Part site.now.plan f site.now.hearers inn out known × (sought < 2 ^ site.now.plan.n) × Seen site.now.plan inn sought counts }
+    requires { Part site.now.plan f inn out known × (sought < 2 ^ site.now.plan.n) × Seen site.now.plan inn sought counts }
     ensures { Lower site.now.plan (Between inn out) sought counts result }
 {
     let shut = barred(site, f, inn, out);
@@ -122,7 +122,7 @@ fn inside(
     sought: u32,
     counts: [u32; 20],
 ) -> [u32; 20]
-    requires { Part site.now.plan f site.now.hearers inn out known × (sought < 2 ^ site.now.plan.n) }
+    requires { Part site.now.plan f inn out known × (sought < 2 ^ site.now.plan.n) }
     ensures { Lower site.now.plan (Between inn out) sought counts result }
 {
     let all = search::spread(site, inn, 0);
