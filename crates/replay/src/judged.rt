@@ -9,10 +9,7 @@ fn judgement(verdict: Result<Option<Witness>, VerdictError>, line: &mut Line) {
     let (number, failed, w) = match verdict {
         Ok(None) => (0, 0, none),
         Ok(Some(w)) => (0, 1, w),
-        Err(VerdictError::WrongRange) => (4, 0, none),
-        Err(VerdictError::TooMany) => (14, 0, none),
-        Err(VerdictError::WrongLink) => (5, 0, none),
-        Err(VerdictError::WrongGroups) => (17, 0, none),
+        Err(e) => (u8::from(e), 0, none),
     };
     line.byte(number);
     line.byte(failed);

@@ -1,7 +1,7 @@
 // How each terminal of a plan record stands.
 use super::said::Call;
 use super::say::Line;
-use partition::{MarginsError, Standing};
+use partition::Standing;
 
 // The kind of a standing, and its margin in two's complement; nothing of a terminal that the plan does not have.
 fn standing(stands: Standing, line: &mut Line) {
@@ -24,7 +24,6 @@ pub(crate) fn margins(call: &mut Call, line: &mut Line) {
                 standing(stands, line);
             }
         }
-        Err(MarginsError::WrongRange) => line.byte(4),
-        Err(MarginsError::WrongLink) => line.byte(5),
+        Err(e) => line.byte(u8::from(e)),
     }
 }
