@@ -10,15 +10,16 @@ use borrow.Author.Tests.{eq-eqb, ne_eqb, lt-leb}
 use Rattle.std.specs.Prelude.{Result, Err}
 use Rattle.std.specs.Result.{IsErrAnd}
 use Rattle.std.proofs.lemmas.Result.{err_from_is_err_and}
+use Rattle.sets.specs.Sets.{mask}
 use Rattle.sets.specs.Tests.{◌and◌}
 use Rattle.sets.proofs.Bools.{and_i, and_no_l, and_no_r, not_i, not_yes, pick_yes, pick_no}
 use Rattle.quorum.specs.Words.{most_rounds, most_words}
 use Rattle.plan.specs.Deaf.{deaf_set}
-use Rattle.frames.specs.declared.FileRead.{FileRead}
 use Rattle.frames.specs.declared.Progress.{Progress}
 use Rattle.frames.specs.declared.Reader.{Reader}
 use Rattle.frames.specs.declared.Refusal.{Refusal}
-use Rattle.frames.specs.Reading.{most_bytes, run_reader, is_started, Lists, Reading, refusal, reading, whole, run_reading, run_file, file_read, archive_read, words_read, later_read}
+use Rattle.frames.specs.Reading.{most_bytes, run_reader, is_started, Lists, Reading, refusal, FileRead, reading, whole, run_reading, run_file, file_read, archive_read, words_read, later_read}
+use Rattle.frames.specs.Pass.{answer, archive_answer}
 
 pub empty_file : (reader : Reader) (text : List ℕ) → length text < 1 → reading reader text ≡ refusal 1 0
 unfolding reading
@@ -29,7 +30,7 @@ unfolding reading
 long_file reader text h = pick_no _ _ _ (and_no_r _ _ (lt-leb (length text) most_bytes h))
 
 -- a refusal that a callee made
-pub err_of : (r : Result Progress Refusal) (e : Refusal) → IsErrAnd r (λ x. x ≡ e) → r ≡ Err e
+pub err_of : {A : Type 0} (r : Result A Refusal) (e : Refusal) → IsErrAnd r (λ x. x ≡ e) → r ≡ Err e
 err_of r e h = let k = err_from_is_err_and r h in k.1 ∙ ap Err k.2
 
 -- ---- a run file
@@ -95,3 +96,8 @@ later_read_lem file before h = sym (pick_yes _ _ _ (eq-eqb file.number 0 h))
 pub archived : (file : FileRead) (deaf : ℕ) (found : Reading) → file ≡ file_read found → deaf ≡ deaf_set file.progress.plan
     → record { file = file; deaf = deaf } ≡ archive_read found
 archived file deaf found e d i = record { file = e i; deaf = (d ∙ ap (λ (f : FileRead). deaf_set f.progress.plan) e) i }
+
+-- and of a refused file
+pub archived_none : (e : Refusal) (found : Reading) → answer (Err e) ≡ file_read found → archive_answer (Err e) ≡ archive_read found
+unfolding deaf_set mask
+archived_none e found h = archived (answer (Err e)) 0 found h refl

@@ -21,8 +21,6 @@ use Rattle.lines.specs.Frames.{frame_of, number_of}
 use Rattle.frames.specs.declared.Stage.{Stage}
 use Rattle.frames.specs.declared.Stage.TheVariants.{Nothing, Links, Grouped, Shared, Faults, Started, Words}
 use Rattle.frames.specs.declared.Progress.{Progress}
-use Rattle.frames.specs.declared.FileRead.{FileRead}
-use Rattle.frames.specs.declared.ArchiveRead.{ArchiveRead}
 use Rattle.frames.specs.declared.Heads.{Heads}
 use Rattle.frames.specs.declared.Reader.{Reader}
 use Rattle.frames.specs.Lines.{Line, ended, cut, lines_from}
@@ -437,7 +435,17 @@ drawing_reading text = reading drawing_reader text
 unfoldable pub run_reading : (text : List ℕ) → Reading
 run_reading text = whole (reading run_reader text)
 
--- what a caller gets beside the lists
+-- what a caller gets beside the lists: the number of a refusal and its line, 0 and 0 where the file is read; beside them a refused file gives only zeros
+pub record FileRead : Type 0 where
+  pub number : ℕ
+  pub line : ℕ
+  pub progress : Progress
+
+-- what the archive's caller gets: the deaf terminals too
+pub record ArchiveRead : Type 0 where
+  pub file : FileRead
+  pub deaf : ℕ
+
 abbrev pub file_read : Reading → FileRead
 file_read r = record { number = r.number; line = r.line; progress = r.progress }
 

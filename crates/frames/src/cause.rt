@@ -7,7 +7,7 @@ use faults::FaultSetError;
 // The documents' causes, of those that a line has or the file as a whole. Unknown is a frame that the
 // program lacks, or one that is barred by the form of the start or on a shared channel.
 #[derive(Clone, Copy)]
-pub(crate) enum Cause {
+pub enum Cause {
     Foreign,
     Unknown,
     OutOfPlace,

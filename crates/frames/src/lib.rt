@@ -10,9 +10,9 @@ mod told;
 ghost use Rattle.std.specs.Prelude.{◌≡◌, ◌+◌, ◌<◌, ◌≤◌, length, MatchResult};
 ghost use Rattle.frames.specs.Reading.{most_bytes, plan_kinds, has_edition, is_at, in_plan, is_started, other_form, is_shared, wrong_form, unstarted, planned, nothing_read, both, nothing_said, refusal, reading, plan_reading, archive_reading, quote_reading, margins_reading, drawing_reading, file_read, archive_read, run_file, words_read, later_read};
 ghost use Rattle.frames.specs.Causes.{number};
-ghost use Rattle.frames.specs.Pass.{Going, reading_of, answer};
+ghost use Rattle.frames.specs.Pass.{Going, reading_of, answer, archive_answer};
 
-use cause::Cause;
+pub use cause::Cause;
 use lines::Form;
 use plan::Plan;
 use quorum::{Bound, BoundKind};
@@ -80,19 +80,17 @@ pub struct Progress {
     pub default: u16,
 }
 
-// The number of a refusal and its line, 0 and 0 where the file is read. A refused file gives only
-// zeros beside them.
+// Why a file is refused, and its line: 0 for the whole file, as where the links are refused.
 #[derive(Clone, Copy)]
-pub struct FileRead {
-    pub number: u8,
+pub struct Refusal {
+    pub cause: Cause,
     pub line: u16,
-    pub progress: Progress,
 }
 
-// What the reader of the archive answers: the deaf terminals too.
+// What the reader of the archive gives of a file: the deaf terminals too.
 #[derive(Clone, Copy)]
-pub struct ArchiveRead {
-    pub file: FileRead,
+pub struct Archived {
+    pub progress: Progress,
     pub deaf: u32,
 }
 
@@ -190,13 +188,6 @@ struct Cursor {
     from: usize,
 }
 
-// Why a file is refused, and its line: 0 for the whole file, as where the links are refused.
-#[derive(Clone, Copy)]
-struct Refusal {
-    cause: Cause,
-    line: u16,
-}
-
 // The byte at i: it ends a line, where the links may end too and whose frame is then told, or it is
 // one more of the line.
 fn pass(
@@ -279,29 +270,10 @@ fn read(
     read_lines(reader, text, words, later)
 }
 
-// What a caller gets of a file. Of a refused one it is the number and the line, and only zeros beside
-// them.
-fn answer(file: Result<Progress, Refusal>) -> FileRead
-    ensures { result ≡ answer file }
-{
-    match file {
-        Ok(progress) => FileRead {
-            number: 0,
-            line: 0,
-            progress,
-        },
-        Err(refusal) => FileRead {
-            number: u8::from(refusal.cause),
-            line: refusal.line,
-            progress: nothing_read(),
-        },
-    }
-}
-
 // A plan file, by a reader that opens plans with a deaf terminal too or does not (`archive`), and takes
 // the heads with so many terminals at most, with groups too or not.
-fn read_plan_file(archive: bool, most: u8, groups: bool, text: &[u8]) -> FileRead
-    ensures { result ≡ file_read (reading (record { kinds = plan_kinds; archive = archive; heads = record { most = most; groups = groups } }) text.now) }
+fn read_plan_file(archive: bool, most: u8, groups: bool, text: &[u8]) -> Result<Progress, Refusal>
+    ensures { answer result ≡ file_read (reading (record { kinds = plan_kinds; archive = archive; heads = record { most = most; groups = groups } }) text.now) }
 {
     let mut words = [0u32; MOST_WORDS];
     let mut later = [0u32; MOST_ROUNDS];
@@ -310,51 +282,53 @@ fn read_plan_file(archive: bool, most: u8, groups: bool, text: &[u8]) -> FileRea
         archive,
         heads: Heads { most, groups },
     };
-    answer(read(reader, text, &mut words, &mut later))
+    read(reader, text, &mut words, &mut later)
 }
 
 // The plan of a file with head, links and groups only, of which every terminal but the source hears
 // somebody.
-pub fn read_plan(text: &[u8]) -> FileRead
-    ensures { result ≡ file_read (plan_reading text.now) }
+pub fn read_plan(text: &[u8]) -> Result<Progress, Refusal>
+    ensures { answer result ≡ file_read (plan_reading text.now) }
 {
     read_plan_file(false, MOST_TERMINALS, true, text)
 }
 
 // The same for the quoting desk: the plan has at most twelve terminals.
-pub fn read_quote(text: &[u8]) -> FileRead
-    ensures { result ≡ file_read (quote_reading text.now) }
+pub fn read_quote(text: &[u8]) -> Result<Progress, Refusal>
+    ensures { answer result ≡ file_read (quote_reading text.now) }
 {
     read_plan_file(false, MOST_QUOTED, true, text)
 }
 
 // The same for margins: the plan has a bound f, and lists no groups.
-pub fn read_margins(text: &[u8]) -> FileRead
-    ensures { result ≡ file_read (margins_reading text.now) }
+pub fn read_margins(text: &[u8]) -> Result<Progress, Refusal>
+    ensures { answer result ≡ file_read (margins_reading text.now) }
 {
     read_plan_file(false, MOST_TERMINALS, false, text)
 }
 
 // The plan of a plan file, whoever is deaf, and the deaf terminals.
-pub fn read_archive(text: &[u8]) -> ArchiveRead
-    ensures { result ≡ archive_read (archive_reading text.now) }
+pub fn read_archive(text: &[u8]) -> Result<Archived, Refusal>
+    ensures { archive_answer result ≡ archive_read (archive_reading text.now) }
 {
-    let file = read_plan_file(true, MOST_TERMINALS, true, text);
-    ArchiveRead {
-        file,
-        deaf: deaf::deaf_set(file.progress.plan),
-    }
+    let progress = read_plan_file(true, MOST_TERMINALS, true, text)?;
+    Ok(Archived {
+        progress,
+        deaf: deaf::deaf_set(progress.plan),
+    })
 }
 
 // The plan of a plan file for drawings, whoever is deaf: it has a bound f, and lists no groups.
-pub fn read_drawing(text: &[u8]) -> FileRead
-    ensures { result ≡ file_read (drawing_reading text.now) }
+pub fn read_drawing(text: &[u8]) -> Result<Progress, Refusal>
+    ensures { answer result ≡ file_read (drawing_reading text.now) }
 {
     read_plan_file(true, MOST_TERMINALS, false, text)
 }
 
-// A run file. Its words and later notices are put into the lists where these have their lengths.
-fn read_run_file(text: &[u8], words: &mut [u32], later: &mut [u32]) -> Result<Progress, Refusal>
+// A run file: what it holds; the liars' words in the lent list of 16,000 places, of which those of a
+// shared channel need the first 800, and the office's later notices in that of 40, entry r - 1 being what
+// it issues in round r.
+pub fn read_run(text: &[u8], words: &mut [u32], later: &mut [u32]) -> Result<Progress, Refusal>
     ensures value { answer result ≡ file_read (run_file text.now (length words.old) (length later.old)) }
     ensures words_after { words.new ≡ words_read (run_file text.now (length words.old) (length later.old)) words.old }
     ensures later_after { later.new ≡ later_read (run_file text.now (length words.old) (length later.old)) later.old }
@@ -385,15 +359,4 @@ fn read_run_file(text: &[u8], words: &mut [u32], later: &mut [u32]) -> Result<Pr
     words.copy_from_slice(&said);
     later.copy_from_slice(&issued);
     Ok(progress)
-}
-
-// A run file: what it holds; the liars' words in the lent list of 16,000 places, of which those of a
-// shared channel need the first 800, and the office's later notices in that of 40, entry r - 1 being what
-// it issues in round r.
-pub fn read_run(text: &[u8], words: &mut [u32], later: &mut [u32]) -> FileRead
-    ensures value { result ≡ file_read (run_file text.now (length words.old) (length later.old)) }
-    ensures words_after { words.new ≡ words_read (run_file text.now (length words.old) (length later.old)) words.old }
-    ensures later_after { later.new ≡ later_read (run_file text.now (length words.old) (length later.old)) later.old }
-{
-    answer(read_run_file(text, words, later))
 }

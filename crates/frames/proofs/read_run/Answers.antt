@@ -6,8 +6,8 @@ use Rattle.frames.specs.Reading.{refusal, run_file}
 use Rattle.frames.specs.Causes.{number}
 use Rattle.frames.proofs.LineLaws.{numbered}
 use Rattle.frames.proofs.FileLaws.{wrong_words, wrong_later, err_of, run_refused, run_early, run_whole, words_left, words_read_lem, later_left, later_read_lem}
-use Rattle.frames.proofs.read_run_file.Goals.{then-words-ne-MOST_WORDS-via-then-words-ne-MOST_WORDS, then-words-ne-MOST_WORDS-via-else-words-ne-MOST_WORDS+then-later-ne-MOST_ROUNDS}
-use Rattle.frames.proofs.read_run_file.Goals as goal
+use Rattle.frames.proofs.read_run.Goals.{then-words-ne-MOST_WORDS-via-then-words-ne-MOST_WORDS, then-words-ne-MOST_WORDS-via-else-words-ne-MOST_WORDS+then-later-ne-MOST_ROUNDS}
+use Rattle.frames.proofs.read_run.Goals as goal
 
 pub returns-in_err-progress : goal.returns-in_err-progress
 returns-in_err-progress c =
