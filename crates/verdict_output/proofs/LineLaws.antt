@@ -20,12 +20,16 @@ use Rattle.partition.specs.declared.VerdictError.TheVariants.{WrongRange, TooMan
 use Rattle.partition.specs.Answer.{answered}
 use Rattle.closure.specs.Answer.{Answer, answer_within}
 use Rattle.partition.proofs.Laws.{Failed, answer_fails}
-use Rattle.frames.specs.declared.FileRead.{FileRead}
+use Rattle.frames.specs.declared.Progress.{Progress}
+use Rattle.frames.specs.declared.Refusal.{Refusal}
+use Rattle.frames.specs.Reading.{FileRead}
+use Rattle.frames.specs.Causes.{number}
+use Rattle.frames.specs.Pass.{answer}
 use Rattle.text.specs.Digits.{hex_byte, hex_pair, hex_triple}
-use Rattle.text.specs.Texts.{put_into}
+use Rattle.text.specs.Texts.{written_of, put_into}
 use Rattle.output.specs.declared.Written.{Written}
-use Rattle.output.specs.OnFile.{refusal_line, text_on, answer_on}
-use Rattle.output.proofs.Laws.{put_as}
+use Rattle.output.specs.OnFile.{refusal_line, on_line, answer_on}
+use Rattle.output.proofs.Laws.{put_accepted, put_refused}
 use Rattle.verdict_output.specs.Verdict.{verdict_line, answer_text, verdict_on}
 
 -- ---- F, L and R fit three bytes
@@ -85,13 +89,15 @@ unfolding answer_text
 says_refusal j why t e a =
     a ∙ sym (pick_no _ _ _ (ne_eqb (answered (Err why)).number 0 (some_number why))) ∙ same_answer j (Err why) t e
 
--- ---- the line on a plan file
+-- ---- the line on a plan file, where its plan was judged and where it is refused
 
--- by a file and a judgement that were found to be these
-pub put_verdict : (most : ℕ) (w : Written) (last out : List ℕ) (read file : FileRead) (a : Answer) → read ≡ file → a ≡ answer_within most read.progress.plan
-    → w ≡ answer_on read (text_on read (answer_text a)) (length out) → last ≡ put_into (text_on read (answer_text a)) out
-    → (w ≡ answer_on file (verdict_on most file) (length out)) × (last ≡ put_into (verdict_on most file) out)
-unfolding verdict_on
-put_verdict most w last out read file a e j v p =
-    put_as w last out read file (text_on read (answer_text a)) (verdict_on most file) e
-    (ap (λ (x : Answer). text_on read (answer_text x)) j ∙ ap (verdict_on most) e) v p
+module _ (most : ℕ) {w : Written} {last : List ℕ} (out : List ℕ) (file : FileRead) where
+  pub put_verdict : (p : Progress) (j : Result (Option Witness) VerdictError) (t : List ℕ) → answer (Ok p) ≡ file → answered j ≡ answer_within most p.plan → t ≡ answer_text (answered j)
+      → w ≡ on_line 0 (written_of 0 (length t) (length out)) → last ≡ put_into t out → (w ≡ answer_on file (verdict_on most file) (length out)) × (last ≡ put_into (verdict_on most file) out)
+  unfolding verdict_on
+  put_verdict p j t e v s = put_accepted w last out file (λ (x : Progress). answer_text (answer_within most x.plan)) p t e (s ∙ ap answer_text v)
+
+  pub put_refusal : (e : Refusal) → answer (Err e) ≡ file → w ≡ answer_on (answer (Err e)) (refusal_line (number e.cause) e.line) (length out) → last ≡ put_into (refusal_line (number e.cause) e.line) out
+      → (w ≡ answer_on file (verdict_on most file) (length out)) × (last ≡ put_into (verdict_on most file) out)
+  unfolding verdict_on
+  put_refusal = put_refused w last out file (λ (x : Progress). answer_text (answer_within most x.plan))

@@ -5,10 +5,9 @@ ghost use Rattle.std.specs.Prelude.{◌≡◌, ◌%◌, ◌<◌, Err, length};
 ghost use Rattle.partition.specs.Answer.{answered};
 ghost use Rattle.text.specs.Texts.{held, put_into};
 ghost use Rattle.frames.specs.Reading.{plan_reading, archive_reading, quote_reading, file_read};
-ghost use Rattle.output.specs.OnFile.{text_on, answer_on};
+ghost use Rattle.output.specs.OnFile.{answer_on};
 ghost use Rattle.verdict_output.specs.Verdict.{verdict_line, answer_text, verdict_text, archive_text, quote_text};
 
-use frames::FileRead;
 use output::Written;
 use partition::{VerdictError, Witness};
 use text::Text;
@@ -50,15 +49,6 @@ fn answer(j: Result<Option<Witness>, VerdictError>) -> Text
     }
 }
 
-// The one line on a plan file, by the judgement on its plan, into the lent buffer.
-fn put(read: FileRead, j: Result<Option<Witness>, VerdictError>, out: &mut [u8]) -> Written
-    requires { ((answered j).f < 16777216) × ((answered j).l < 16777216) × ((answered j).r < 16777216) }
-    ensures value { result ≡ answer_on read (text_on read (answer_text (answered j))) (length out.old) }
-    ensures out_after { out.new ≡ put_into (text_on read (answer_text (answered j))) out.old }
-{
-    output::put(read, output::text_on(read, answer(j)), out)
-}
-
 // The three texts differ in who reads the file and who judges its plan: two calls, which as closures would ask more of
 // the contract than they spare.
 
@@ -67,8 +57,10 @@ pub fn verdict_text(text: &[u8], out: &mut [u8]) -> Written
     ensures value { result ≡ answer_on (file_read (plan_reading text.now)) (verdict_text text.now) (length out.old) }
     ensures out_after { out.new ≡ put_into (verdict_text text.now) out.old }
 {
-    let read = frames::read_plan(text);
-    put(read, partition::verdict(read.progress.plan), out)
+    match frames::read_plan(text) {
+        Ok(p) => output::put(answer(partition::verdict(p.plan)), out),
+        Err(e) => output::refused(e, out),
+    }
 }
 
 // What `archive` prints on a plan file, whoever is deaf, into the lent buffer.
@@ -76,8 +68,10 @@ pub fn archive_text(text: &[u8], out: &mut [u8]) -> Written
     ensures value { result ≡ answer_on (file_read (archive_reading text.now)) (archive_text text.now) (length out.old) }
     ensures out_after { out.new ≡ put_into (archive_text text.now) out.old }
 {
-    let read = frames::read_archive(text).file;
-    put(read, partition::verdict(read.progress.plan), out)
+    match frames::read_archive(text) {
+        Ok(a) => output::put(answer(partition::verdict(a.progress.plan)), out),
+        Err(e) => output::refused(e, out),
+    }
 }
 
 // What `quote` prints on a plan file, of at most twelve terminals, into the lent buffer.
@@ -85,6 +79,8 @@ pub fn quote_text(text: &[u8], out: &mut [u8]) -> Written
     ensures value { result ≡ answer_on (file_read (quote_reading text.now)) (quote_text text.now) (length out.old) }
     ensures out_after { out.new ≡ put_into (quote_text text.now) out.old }
 {
-    let read = frames::read_quote(text);
-    put(read, partition::quote(read.progress.plan), out)
+    match frames::read_quote(text) {
+        Ok(p) => output::put(answer(partition::quote(p.plan)), out),
+        Err(e) => output::refused(e, out),
+    }
 }
