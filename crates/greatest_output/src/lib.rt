@@ -68,7 +68,8 @@ pub fn greatest_text(text: &[u8], out: &mut [u8]) -> Written
     ensures value { result ≡ answer_on (file_read (drawing_reading text.now)) (greatest_text text.now) (length out.old) }
     ensures out_after { out.new ≡ put_into (greatest_text text.now) out.old }
 {
-    let read = frames::read_drawing(text);
-    let said = answer(tolerance::greatest_bound(drawing_of(read.progress.plan)));
-    output::put(read, output::text_on(read, said), out)
+    match frames::read_drawing(text) {
+        Ok(p) => output::put(answer(tolerance::greatest_bound(drawing_of(p.plan))), out),
+        Err(e) => output::refused(e, out),
+    }
 }

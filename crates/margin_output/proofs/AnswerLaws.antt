@@ -6,7 +6,7 @@ use mathlib.Core.List.{List}
 use native.Mathlib.Omega.{arith}
 use lib.Dec.{eqb, ltb}
 use lib.IntN.{ℤ, pos}
-use lib.ListN.{get_or}
+use lib.ListN.{length, get_or}
 use lib.Signed.{lt_z, le_z}
 use borrow.Author.Tests.{eq-eqb, ne_eqb, lt-ltb}
 use Rattle.sets.specs.Tests.{◌and◌, pick}
@@ -25,10 +25,16 @@ use Rattle.partition.specs.declared.MarginsError.{MarginsError}
 use Rattle.partition.specs.declared.MarginsError.TheVariants.{WrongRange, WrongLink}
 use Rattle.partition.specs.Margins.{standing_of, margins_cause, margins_of, told}
 use Rattle.partition.proofs.Sheets.{stands_absent, bounded_plan, margin_small, sheet_known, sheet_refused}
-use Rattle.text.specs.Texts.{joined}
+use Rattle.text.specs.Texts.{joined, written_of, put_into}
 use Rattle.text.proofs.Laws.{room_for}
-use Rattle.frames.specs.declared.FileRead.{FileRead}
-use Rattle.output.specs.OnFile.{refusal_line, text_on}
+use Rattle.frames.specs.declared.Progress.{Progress}
+use Rattle.frames.specs.declared.Refusal.{Refusal}
+use Rattle.frames.specs.Reading.{FileRead}
+use Rattle.frames.specs.Causes.{number}
+use Rattle.frames.specs.Pass.{answer}
+use Rattle.output.specs.declared.Written.{Written}
+use Rattle.output.specs.OnFile.{refusal_line, on_line, answer_on}
+use Rattle.output.proofs.Laws.{put_accepted, put_refused}
 use Rattle.margin_output.specs.declared.Tally.{Tally}
 use Rattle.margin_output.specs.Margins.{standing_lines, counts_line, margins_lines, margins_answer, margins_on}
 use Rattle.margin_output.specs.Counts.{standing_in, stands_direct, stands_below, stands_level, stands_above, tally_of, Small}
@@ -136,7 +142,14 @@ module _ (p : Plan) where
       let c = sheet_refused p o e in
       h ∙ ap (λ (k : ℕ). refusal_line k 0) c ∙ sym (pick_no _ _ _ (ne_eqb (margins_cause p) 0 (λ y. some_number o (c ∙ y))))
 
--- by a file and a table that were found to be these
-pub margins_are : (read file : FileRead) (said last : List ℕ) → read ≡ file → said ≡ margins_answer read.progress.plan → last ≡ text_on read said → last ≡ margins_on file
-unfolding margins_on
-margins_are read file said last e s h = h ∙ ap (text_on read) s ∙ ap margins_on e
+-- the table on a plan file, where it is accepted and where it is refused
+module _ {w : Written} {last : List ℕ} (out : List ℕ) (file : FileRead) where
+  pub put_margins : (p : Progress) (said : List ℕ) → answer (Ok p) ≡ file → said ≡ margins_answer p.plan
+      → w ≡ on_line 0 (written_of 0 (length said) (length out)) → last ≡ put_into said out → (w ≡ answer_on file (margins_on file) (length out)) × (last ≡ put_into (margins_on file) out)
+  unfolding margins_on
+  put_margins = put_accepted w last out file (λ (x : Progress). margins_answer x.plan)
+
+  pub put_refusal : (e : Refusal) → answer (Err e) ≡ file → w ≡ answer_on (answer (Err e)) (refusal_line (number e.cause) e.line) (length out) → last ≡ put_into (refusal_line (number e.cause) e.line) out
+      → (w ≡ answer_on file (margins_on file) (length out)) × (last ≡ put_into (margins_on file) out)
+  unfolding margins_on
+  put_refusal = put_refused w last out file (λ (x : Progress). margins_answer x.plan)

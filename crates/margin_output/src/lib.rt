@@ -50,7 +50,8 @@ pub fn margins_text(text: &[u8], out: &mut [u8]) -> Written
     ensures value { result ≡ answer_on (file_read (margins_reading text.now)) (margins_text text.now) (length out.old) }
     ensures out_after { out.new ≡ put_into (margins_text text.now) out.old }
 {
-    let read = frames::read_margins(text);
-    let said = answer(read.progress.plan);
-    output::put(read, output::text_on(read, said), out)
+    match frames::read_margins(text) {
+        Ok(p) => output::put(answer(p.plan), out),
+        Err(e) => output::refused(e, out),
+    }
 }

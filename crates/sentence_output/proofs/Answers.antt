@@ -5,6 +5,7 @@ use mathlib.Core.Bool.{true}
 use mathlib.Core.List.{List, [], ◌∷◌}
 use native.Mathlib.Omega.{arith}
 use lib.Dec.{eqb}
+use lib.ListN.{length}
 use borrow.Author.Tests.{ne_eqb, eqb-false}
 use Rattle.sets.specs.Sets.{mem}
 use Rattle.sets.proofs.Bools.{clash, and_l, and_r, not_e, pick_yes, pick_no}
@@ -23,7 +24,7 @@ use Rattle.partition.proofs.Laws.{Failed, answer_fails}
 use Rattle.std.specs.Prelude.{Option, Some, None, Result, Ok, Err}
 use Rattle.std.specs.Result.{IsOk}
 use Rattle.text.specs.declared.Text.{Text}
-use Rattle.text.specs.Texts.{joined}
+use Rattle.text.specs.Texts.{joined, written_of, put_into}
 use Rattle.text.proofs.Laws.{room_for}
 use Rattle.wording.specs.Sentence.{sentence, sentence_cause, composed}
 use Rattle.wording.specs.declared.SentenceError.{SentenceError}
@@ -31,8 +32,14 @@ use Rattle.wording.specs.Answers as composing
 use Rattle.wording.proofs.Refusals.{some_number}
 use Rattle.wording.proofs.Causes.{range_right, cause_right, composes_i, composed_is}
 use Rattle.wording.proofs.Lengths.{sentence_short}
-use Rattle.frames.specs.declared.FileRead.{FileRead}
-use Rattle.output.specs.OnFile.{refusal_line, text_on}
+use Rattle.frames.specs.declared.Progress.{Progress}
+use Rattle.frames.specs.declared.Refusal.{Refusal}
+use Rattle.frames.specs.Reading.{FileRead}
+use Rattle.frames.specs.Causes.{number}
+use Rattle.frames.specs.Pass.{answer}
+use Rattle.output.specs.declared.Written.{Written}
+use Rattle.output.specs.OnFile.{refusal_line, on_line, answer_on}
+use Rattle.output.proofs.Laws.{put_accepted, put_refused}
 use Rattle.sentence_output.specs.Sentence.{fail_line, pass_line, sentence_answer, sentence_on}
 
 -- ---- a fail composes
@@ -86,9 +93,15 @@ module _ (n : ℕ) (j : Result (Option Witness) VerdictError) (t : List ℕ) whe
   unfolding sentence_answer
   says_refused why e a = a ∙ sym (pick_no _ _ _ (ne_eqb (answered (Err why)).number 0 (some_refusal why))) ∙ same_answer (Err why) e
 
--- by a file and a judgement that were found to be these
-pub sentence_is : (read file : FileRead) (a : Answer) (said t : List ℕ) → read ≡ file → a ≡ answer_within most_terminals read.progress.plan
-    → said ≡ sentence_answer read.progress.plan.n a → t ≡ text_on read said → t ≡ sentence_on file
-unfolding sentence_on
-sentence_is read file a said t e j s h =
-    h ∙ ap (text_on read) s ∙ ap (λ (x : Answer). text_on read (sentence_answer read.progress.plan.n x)) j ∙ ap sentence_on e
+-- ---- the text on a plan file, where its plan was judged and where it is refused
+
+module _ {w : Written} {last : List ℕ} (out : List ℕ) (file : FileRead) where
+  pub put_sentence : (p : Progress) (a : Answer) (said : List ℕ) → answer (Ok p) ≡ file → a ≡ answer_within most_terminals p.plan → said ≡ sentence_answer p.plan.n a
+      → w ≡ on_line 0 (written_of 0 (length said) (length out)) → last ≡ put_into said out → (w ≡ answer_on file (sentence_on file) (length out)) × (last ≡ put_into (sentence_on file) out)
+  unfolding sentence_on
+  put_sentence p a said e j s = put_accepted w last out file (λ (x : Progress). sentence_answer x.plan.n (answer_within most_terminals x.plan)) p said e (s ∙ ap (sentence_answer p.plan.n) j)
+
+  pub put_refusal : (e : Refusal) → answer (Err e) ≡ file → w ≡ answer_on (answer (Err e)) (refusal_line (number e.cause) e.line) (length out) → last ≡ put_into (refusal_line (number e.cause) e.line) out
+      → (w ≡ answer_on file (sentence_on file) (length out)) × (last ≡ put_into (sentence_on file) out)
+  unfolding sentence_on
+  put_refusal = put_refused w last out file (λ (x : Progress). sentence_answer x.plan.n (answer_within most_terminals x.plan))

@@ -47,9 +47,10 @@ pub fn sentence_text(text: &[u8], out: &mut [u8]) -> Written
     ensures value { result ≡ answer_on (file_read (plan_reading text.now)) (sentence_text text.now) (length out.old) }
     ensures out_after { out.new ≡ put_into (sentence_text text.now) out.old }
 {
-    let read = frames::read_plan(text);
-    let said = answer(read.progress.plan.n, partition::verdict(read.progress.plan));
-    output::put(read, output::text_on(read, said), out)
+    match frames::read_plan(text) {
+        Ok(p) => output::put(answer(p.plan.n, partition::verdict(p.plan)), out),
+        Err(e) => output::refused(e, out),
+    }
 }
 
 // What `heard` prints on a file of n and a sentence, into the lent buffer.
