@@ -8,10 +8,10 @@ ghost use Rattle.simulation.specs.Answer.{state_of};
 ghost use Rattle.text.specs.Texts.{held, joined, put_into};
 ghost use Rattle.frames.specs.Reading.{is_shared, both, run_reading, file_read};
 ghost use Rattle.output.specs.OnFile.{answer_on};
-ghost use Rattle.run_output.specs.Site.{notice_text, terminal_line, good_line, state_line, site_lines, state_shared, state_linked, ran_text, ran_on, run_text, SharedPlayable, Playable};
+ghost use Rattle.run_output.specs.Site.{notice_text, terminal_line, good_line, state_line, site_lines, state_shared, state_linked, ran_text, run_text, SharedPlayable, Playable};
 ghost use Rattle.run_output.specs.RoundsLeftOut.{RoundsLeftOut};
 
-use frames::{FileRead, Progress};
+use frames::Progress;
 use lines::Form;
 use output::Written;
 use std::array;
@@ -125,17 +125,6 @@ fn ran(p: Progress, words: &[u32], later: &[u32]) -> Text
     ran_linked(p, words, later)
 }
 
-// The lines on a run file.
-fn of_run(read: FileRead, words: &[u32], later: &[u32]) -> Text
-    requires { (read.number ≡ 0 → is_shared read.progress ≡ true → SharedPlayable read.progress) × (read.number ≡ 0 → is_shared read.progress ≡ false → Playable read.progress later.now) × (length words.now ≡ 16000) × (length later.now ≡ 40) }
-    ensures { held result ≡ ran_on read (both words.now later.now) }
-{
-    if read.number != 0 {
-        return output::refusal(read.number, read.line);
-    }
-    ran(read.progress, words, later)
-}
-
 // What `run` prints on a run file, into the lent buffer.
 pub fn run_text(text: &[u8], out: &mut [u8]) -> Written
     ensures value { result ≡ answer_on (file_read (run_reading text.now)) (run_text text.now) (length out.old) }
@@ -144,6 +133,8 @@ pub fn run_text(text: &[u8], out: &mut [u8]) -> Written
 {
     let mut words = [0u32; 16000];
     let mut later = [0u32; 40];
-    let read = frames::read_run(text, &mut words, &mut later);
-    output::put(read, of_run(read, &words, &later), out)
+    match frames::read_run(text, &mut words, &mut later) {
+        Ok(p) => output::put(ran(p, &words, &later), out),
+        Err(e) => output::refused(e, out),
+    }
 }
