@@ -2,8 +2,10 @@
 // the call, so that a place that was not to be touched shows.
 use super::said::Call;
 use super::say::Line;
-use frames::FileRead;
+use frames::{Archived, Progress, Refusal, Stage};
 use lines::Form;
+use plan::Plan;
+use quorum::{Bound, BoundKind};
 use text::Written;
 
 pub(crate) const MARK: u8 = 0x5a;
@@ -53,11 +55,47 @@ pub(crate) fn plan(room: usize, call: &mut Call, line: &mut Line) {
     text(&mut list, room, line, |out| writer::write_plan(p, out))
 }
 
-// The number, the line and the plan that was read.
-fn file(read: &FileRead, line: &mut Line) {
-    let plan = &read.progress.plan;
-    line.byte(read.number);
-    line.pair(read.line);
+// What is shown of a refused file beside its number and line.
+fn nothing_read() -> Progress {
+    Progress {
+        stage: Stage::Nothing,
+        plan: Plan {
+            n: 0,
+            source: 0,
+            bound: Bound {
+                kind: BoundKind::Most(0),
+                groups: [0; 16],
+            },
+            rows: [0; 20],
+        },
+        faulty: 0,
+        form: Form::Old,
+        notice: 0,
+        rounds: 0,
+        issued: 0,
+        edition: 0,
+        default: 0,
+    }
+}
+
+// What a reader gives of a file, or of a refused one `nothing`, after the number and the line, 0 and 0 where the file
+// is read.
+fn shown<T: Copy>(read: Result<T, Refusal>, nothing: T, line: &mut Line) -> T {
+    match read {
+        Ok(given) => {
+            line.byte(0);
+            line.pair(0);
+            given
+        }
+        Err(refusal) => {
+            line.byte(u8::from(refusal.cause));
+            line.pair(refusal.line);
+            nothing
+        }
+    }
+}
+
+fn plan_read(plan: &Plan, line: &mut Line) {
     line.size(plan.n);
     line.size(plan.source);
     line.bound(&plan.bound);
@@ -66,8 +104,12 @@ fn file(read: &FileRead, line: &mut Line) {
 
 // What the archive's reader answers: the deaf set too.
 pub(crate) fn archive(text: &[u8], line: &mut Line) {
-    let read = frames::read_archive(text);
-    file(&read.file, line);
+    let nothing = Archived {
+        progress: nothing_read(),
+        deaf: 0,
+    };
+    let read = shown(frames::read_archive(text), nothing, line);
+    plan_read(&read.progress.plan, line);
     line.quad(read.deaf);
 }
 
@@ -95,9 +137,8 @@ pub(crate) fn run(room: usize, body: &[u8], line: &mut Line) {
         return;
     };
     let later = &mut later[..usize::from(*room_later).min(41)];
-    let read = frames::read_run(text, words, later);
-    let progress = &read.progress;
-    file(&read, line);
+    let progress = shown(frames::read_run(text, words, later), nothing_read(), line);
+    plan_read(&progress.plan, line);
     line.quad(progress.faulty);
     line.byte(match progress.form {
         Form::Old => 0,
