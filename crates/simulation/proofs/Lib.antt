@@ -1,8 +1,7 @@
 -- A bound of places in the list of words (Places), what is heard on a shared channel (Heard), the traversal of turns (Walk), and that its records show those of
--- the rules (Meaning). For callers: an array that a closure makes (Filled), which calls are accepted (Causes), and what an accepted one leaves (Promise).
+-- the rules (Meaning). For callers: which calls are accepted (Causes), and what an accepted one leaves (Promise).
 mod Places
 mod Heard
-pub mod Filled
 mod Walk
 mod Meaning
 mod SharedMeaning

@@ -1,5 +1,4 @@
 -- The laws of the rule that the layers above cite, so that none of them opens its text, and those of this crate's own loops.
-pub mod Filled
 pub mod Values
 pub mod Notes
 pub mod Newest

@@ -1,6 +1,6 @@
 -- Each place holds the lesser one. Assumes nothing.
 use borrow.Author.Rules.{rules}
-use Rattle.partition.proofs.Filled.{filled_at}
+use Rattle.sets.proofs.Filled.{filled_at}
 use Rattle.partition.proofs.margin.lowered.Goals as goal
 
 pub returns : goal.returns

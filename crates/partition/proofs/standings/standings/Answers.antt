@@ -1,7 +1,7 @@
 -- Each place holds how its terminal stands. Assumes nothing.
 use borrow.Author.Rules.{rules}
 use Rattle.partition.specs.declared.Standing.TheVariants.{Absent}
-use Rattle.partition.proofs.Filled.{filled}
+use Rattle.sets.proofs.Filled.{filled}
 use Rattle.partition.proofs.standings.standings.Goals as goal
 
 pub returns : goal.returns

@@ -9,7 +9,7 @@ use Rattle.sets.proofs.Bools.{pick_yes, pick_no}
 use Rattle.terminal.specs.Answer.{record_after}
 use Rattle.plan.specs.Plan.{heard_by}
 use Rattle.simulation.specs.Turns.{heard_in, issued_in, record_of}
-use Rattle.simulation.proofs.Filled.{filled}
+use Rattle.sets.proofs.Filled.{filled}
 use Rattle.simulation.proofs.playing.record_of.Goals as goal
 
 pub returns-then-t-eq0 : goal.returns-then-t-eq0
@@ -28,5 +28,5 @@ returns c =
     ∙ ap (issued_in a.t)
     (c.step-stepped.ensures.1
     ∙ ap (λ (l : List ℕ). record_after a.t.plan.n a.t.plan.source a.t.plan.bound a.t.at (heard_by a.t.plan a.t.at) a.before (take a.t.plan.n l))
-    (filled _ (heard_in a.t a.words.now) _ 20 c.from_fn-said.result (λ k y q l call. search rules) c.from_fn-said.ensures.items))
+    (filled _ (heard_in a.t a.words.now) _ 0 20 c.from_fn-said.result (λ k y q l call. search rules) c.from_fn-said.ensures.items))
     ∙ sym (pick_no _ _ _ (ne_eqb _ _ c.if-t-eq0.false) ∙ pick_no _ _ _ (sym c.member.ensures ∙ c.if-member.false))
