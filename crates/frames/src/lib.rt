@@ -7,7 +7,7 @@ mod deaf;
 mod ends;
 mod told;
 
-ghost use Rattle.std.specs.Prelude.{◌≡◌, ◌+◌, ◌<◌, ◌≤◌, length, MatchResult};
+ghost use Rattle.std.specs.Prelude.{◌≡◌, ◌+◌, ◌<◌, ◌≤◌, length, get_or, MatchResult};
 ghost use Rattle.frames.specs.Reading.{most_bytes, plan_kinds, has_edition, is_at, in_plan, is_started, other_form, is_shared, wrong_form, unstarted, planned, nothing_read, both, nothing_said, refusal, reading, plan_reading, archive_reading, quote_reading, margins_reading, drawing_reading, file_read, archive_read, run_file, words_read, later_read};
 ghost use Rattle.frames.specs.Causes.{number};
 ghost use Rattle.frames.specs.Pass.{Going, reading_of, answer, archive_answer};
@@ -188,32 +188,28 @@ struct Cursor {
     from: usize,
 }
 
-// The byte at i: it ends a line, where the links may end too and whose frame is then told, or it is
-// one more of the line.
+// The line that ends at i: the links may end before it, and its frame is told.
 fn pass(
     reader: Reader,
     text: &[u8],
     words: &mut [u32],
     later: &mut [u32],
-    at: Cursor,
+    at: &mut Cursor,
     i: usize,
-) -> Result<Cursor, Refusal>
-    requires { Going reader text.now (both words.old later.old) at i × (i < length text.now) × (length text.now ≤ most_bytes) }
-    ensures { MatchResult result (λ next. Going reader text.now (both words.new later.new) next (i + 1)) (λ e. reading reader text.now ≡ refusal (number e.cause) e.line) }
+) -> Result<(), Refusal>
+    requires { Going reader text.now (both words.old later.old) at.old i × (i < length text.now) × (length text.now ≤ most_bytes) × (get_or text.now i 0 ≡ 10) }
+    ensures { MatchResult result (λ _. Going reader text.now (both words.new later.new) at.new (i + 1)) (λ e. reading reader text.now ≡ refusal (number e.cause) e.line) }
 {
-    if text[i] != 10 {
-        return Ok(at);
-    }
     let frame = lines::frame_of(reader.kinds, &text[at.from..i]);
     if let Err(cause) = ends::end_cause(reader, at.progress, frame) {
         return Err(Refusal { cause, line: 0 });
     }
-    match told::tell(reader.heads, at.progress, words, later, frame) {
-        Ok(progress) => Ok(Cursor {
-            progress,
-            line: at.line + 1,
-            from: i + 1,
-        }),
+    match told::tell(reader.heads, &mut at.progress, words, later, frame) {
+        Ok(()) => {
+            at.line += 1;
+            at.from = i + 1;
+            Ok(())
+        }
         Err(cause) => Err(Refusal {
             cause,
             line: at.line,
@@ -237,7 +233,10 @@ fn read_lines(
         from: 0,
     };
     for i in 0..text.len() {
-        at = pass(reader, text, words, later, at, i)?;
+        if text[i] != 10 {
+            continue;
+        }
+        pass(reader, text, words, later, &mut at, i)?;
     }
     if at.from < text.len() {
         return Err(Refusal {

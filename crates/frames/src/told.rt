@@ -46,12 +46,12 @@ fn untaken_cause(heads: Heads, n: u8, kind: BoundKind) -> Result<(), Cause>
 }
 
 // A head, by a reader that takes these.
-fn head(heads: Heads, p: Progress, n: u8, source: u8, f: u8) -> Result<Progress, Cause>
-    ensures cause { refused_by result ≡ first_cause (given (head_cause p n source f) ∷ given (untaken_cause heads n (kind_read f)) ∷ []) }
-    ensures next { IfOk result (λ next. next ≡ after p (Head n source f)) }
+fn head(heads: Heads, p: &mut Progress, n: u8, source: u8, f: u8) -> Result<(), Cause>
+    ensures cause { refused_by result ≡ first_cause (given (head_cause p.old n source f) ∷ given (untaken_cause heads n (kind_read f)) ∷ []) }
+    ensures next { IfOk result (λ _. p.new ≡ after p.old (Head n source f)) }
 {
     let kind = kind_read(f);
-    if !is_at(Stage::Nothing, p) {
+    if !is_at(Stage::Nothing, *p) {
         return Err(Cause::OutOfPlace);
     }
     if !quorum::in_range(n as usize, source as usize, kind) {
@@ -67,7 +67,8 @@ fn head(heads: Heads, p: Progress, n: u8, source: u8, f: u8) -> Result<Progress,
         },
         rows: [0u32; 20],
     };
-    Ok(planned(Stage::Links, plan, 0))
+    *p = planned(Stage::Links, plan, 0);
+    Ok(())
 }
 
 // The plan with one link more.
@@ -80,12 +81,12 @@ fn with_link(p: Plan, from: usize, to: usize) -> Plan
     Plan { rows, ..p }
 }
 
-fn link(p: Progress, from: usize, to: usize) -> Result<Progress, Cause>
-    requires { p.plan.n ≤ most_terminals }
-    ensures cause { refused_by result ≡ link_cause p from to }
-    ensures next { IfOk result (λ next. next ≡ after p (Link from to)) }
+fn link(p: &mut Progress, from: usize, to: usize) -> Result<(), Cause>
+    requires { p.old.plan.n ≤ most_terminals }
+    ensures cause { refused_by result ≡ link_cause p.old from to }
+    ensures next { IfOk result (λ _. p.new ≡ after p.old (Link from to)) }
 {
-    if !is_at(Stage::Links, p) {
+    if !is_at(Stage::Links, *p) {
         return Err(Cause::OutOfPlace);
     }
     if p.plan.n <= from || p.plan.n <= to || from == to {
@@ -94,7 +95,8 @@ fn link(p: Progress, from: usize, to: usize) -> Result<Progress, Cause>
     if sets::member(p.plan.rows[to], from) {
         return Err(Cause::LinkTwice);
     }
-    Ok(planned(Stage::Links, with_link(p.plan, from, to), 0))
+    *p = planned(Stage::Links, with_link(p.plan, from, to), 0);
+    Ok(())
 }
 
 // Groups are listed, not f.
@@ -121,31 +123,33 @@ fn with_group(p: Plan, s: u32) -> Plan
     }
 }
 
-fn group(p: Progress, s: u32) -> Result<Progress, Cause>
-    ensures cause { refused_by result ≡ group_cause p s }
-    ensures next { IfOk result (λ next. next ≡ after p (Group s)) }
+fn group(p: &mut Progress, s: u32) -> Result<(), Cause>
+    ensures cause { refused_by result ≡ group_cause p.old s }
+    ensures next { IfOk result (λ _. p.new ≡ after p.old (Group s)) }
 {
-    if !in_plan(p) || !lists(p.plan.bound.kind) {
+    if !in_plan(*p) || !lists(p.plan.bound.kind) {
         return Err(Cause::OutOfPlace);
     }
     if 16 <= quorum::listed(p.plan.bound.kind) || !quorum::others(p.plan.n, p.plan.source, s) {
         return Err(Cause::WrongGroups);
     }
-    Ok(planned(Stage::Grouped, with_group(p.plan, s), 0))
+    *p = planned(Stage::Grouped, with_group(p.plan, s), 0);
+    Ok(())
 }
 
 // The default layout of a shared channel: it comes once, where links and groups end.
-fn channel(p: Progress, default: u16) -> Result<Progress, Cause>
-    ensures cause { refused_by result ≡ channel_cause p default }
-    ensures next { IfOk result (λ next. next ≡ after p (Channel default)) }
+fn channel(p: &mut Progress, default: u16) -> Result<(), Cause>
+    ensures cause { refused_by result ≡ channel_cause p.old default }
+    ensures next { IfOk result (λ _. p.new ≡ after p.old (Channel default)) }
 {
-    if !in_plan(p) {
+    if !in_plan(*p) {
         return Err(Cause::OutOfPlace);
     }
     if default == 0 {
         return Err(Cause::WrongNotice);
     }
-    Ok(unstarted(Stage::Shared, p.plan, 0, default))
+    *p = unstarted(Stage::Shared, p.plan, 0, default);
+    Ok(())
 }
 
 // What the library has against a bad set: on a shared channel the source may be bad too.
@@ -161,15 +165,16 @@ fn bad_set_cause(p: Progress, s: u32) -> Result<(), Cause>
 }
 
 // A bad set in its place, which is after links, groups and a default layout.
-fn fault_set(p: Progress, s: u32) -> Result<Progress, Cause>
-    ensures cause { refused_by result ≡ fault_set_cause p s }
-    ensures next { IfOk result (λ next. next ≡ after p (FaultSet s)) }
+fn fault_set(p: &mut Progress, s: u32) -> Result<(), Cause>
+    ensures cause { refused_by result ≡ fault_set_cause p.old s }
+    ensures next { IfOk result (λ _. p.new ≡ after p.old (FaultSet s)) }
 {
-    if !in_plan(p) && !is_at(Stage::Shared, p) {
+    if !in_plan(*p) && !is_at(Stage::Shared, *p) {
         return Err(Cause::OutOfPlace);
     }
-    bad_set_cause(p, s)?;
-    Ok(unstarted(Stage::Faults, p.plan, s, p.default))
+    bad_set_cause(*p, s)?;
+    *p = unstarted(Stage::Faults, p.plan, s, p.default);
+    Ok(())
 }
 
 // The rounds of a start frame on n terminals: n - 1 where they are left out. Before the head n is 0,
@@ -182,21 +187,21 @@ fn rounds_of(n: usize, rounds: Option<u8>) -> u8
 }
 
 fn start(
-    p: Progress,
+    p: &mut Progress,
     form: Form,
     edition: u16,
     layout: u16,
     rounds: Option<u8>,
-) -> Result<Progress, Cause>
-    requires { p.plan.n ≤ most_terminals }
-    ensures cause { refused_by result ≡ start_cause p form edition layout rounds }
-    ensures next { IfOk result (λ next. next ≡ after p (Start form edition layout rounds)) }
+) -> Result<(), Cause>
+    requires { p.old.plan.n ≤ most_terminals }
+    ensures cause { refused_by result ≡ start_cause p.old form edition layout rounds }
+    ensures next { IfOk result (λ _. p.new ≡ after p.old (Start form edition layout rounds)) }
 {
     let rounds = rounds_of(p.plan.n, rounds);
-    if wrong_form(p, form, has_edition(form)) {
+    if wrong_form(*p, form, has_edition(form)) {
         return Err(Cause::Unknown);
     }
-    if !is_at(Stage::Faults, p) {
+    if !is_at(Stage::Faults, *p) {
         return Err(Cause::OutOfPlace);
     }
     if !quorum::start_sound(layout, rounds) {
@@ -205,34 +210,35 @@ fn start(
     if edition == 0 {
         return Err(Cause::WrongEdition);
     }
-    Ok(Progress {
+    *p = Progress {
         stage: Stage::Started,
         form,
         notice: quorum::notice_of(edition, layout),
         rounds,
         issued: 0,
         edition,
-        ..p
-    })
+        ..*p
+    };
+    Ok(())
 }
 
 // A later notice, which is kept where it is accepted.
 fn later_notice(
-    p: Progress,
+    p: &mut Progress,
     later: &mut [u32],
     round: u8,
     edition: u16,
     layout: u16,
-) -> Result<Progress, Cause>
-    requires { (p.rounds ≤ most_rounds) × (length later.old ≡ most_rounds) }
-    ensures cause { refused_by result ≡ later_cause p round edition layout }
-    ensures next { IfOk result (λ next. next ≡ after p (Later round edition layout)) }
+) -> Result<(), Cause>
+    requires { (p.old.rounds ≤ most_rounds) × (length later.old ≡ most_rounds) }
+    ensures cause { refused_by result ≡ later_cause p.old round edition layout }
+    ensures next { IfOk result (λ _. p.new ≡ after p.old (Later round edition layout)) }
     ensures kept { later.new ≡ pick (eqb (refused_by result) 0) (set later.old (round - 1) (notice_of edition layout)) later.old }
 {
-    if wrong_form(p, Form::New, true) {
+    if wrong_form(*p, Form::New, true) {
         return Err(Cause::Unknown);
     }
-    if !is_at(Stage::Started, p) || round <= p.issued || p.rounds < round {
+    if !is_at(Stage::Started, *p) || round <= p.issued || p.rounds < round {
         return Err(Cause::OutOfPlace);
     }
     if layout == 0 {
@@ -242,12 +248,13 @@ fn later_notice(
         return Err(Cause::WrongEdition);
     }
     later[(round as usize) - 1] = quorum::notice_of(edition, layout);
-    Ok(Progress {
+    *p = Progress {
         stage: Stage::Started,
         issued: round,
         edition,
-        ..p
-    })
+        ..*p
+    };
+    Ok(())
 }
 
 // A word in a round that is played, on a link, from a bad sender, and not silence.
@@ -275,7 +282,7 @@ fn place_of(n: usize, round: u8, from: usize, to: usize) -> usize
 
 // A word that a liar says to a hearer: it is kept where it is accepted.
 fn message(
-    p: Progress,
+    p: &mut Progress,
     words: &mut [u32],
     form: Form,
     round: u8,
@@ -283,19 +290,19 @@ fn message(
     to: usize,
     edition: u16,
     layout: u16,
-) -> Result<Progress, Cause>
-    requires { (p.plan.n ≤ most_terminals) × (p.rounds ≤ most_rounds) × (length words.old ≡ most_words) }
-    ensures cause { refused_by result ≡ message_cause p words.old form round from to edition layout }
-    ensures next { IfOk result (λ next. next ≡ spoken p) }
-    ensures kept { words.new ≡ pick (eqb (refused_by result) 0) (set words.old (place_of p.plan.n round from to) (notice_of edition layout)) words.old }
+) -> Result<(), Cause>
+    requires { (p.old.plan.n ≤ most_terminals) × (p.old.rounds ≤ most_rounds) × (length words.old ≡ most_words) }
+    ensures cause { refused_by result ≡ message_cause p.old words.old form round from to edition layout }
+    ensures next { IfOk result (λ _. p.new ≡ spoken p.old) }
+    ensures kept { words.new ≡ pick (eqb (refused_by result) 0) (set words.old (place_of p.old.plan.n round from to) (notice_of edition layout)) words.old }
 {
-    if wrong_form(p, form, true) {
+    if wrong_form(*p, form, true) {
         return Err(Cause::Unknown);
     }
-    if !is_started(p) {
+    if !is_started(*p) {
         return Err(Cause::OutOfPlace);
     }
-    if !is_word(p, round, from, to, edition, layout) {
+    if !is_word(*p, round, from, to, edition, layout) {
         return Err(Cause::WrongWord);
     }
     let place = place_of(p.plan.n, round, from, to);
@@ -303,7 +310,8 @@ fn message(
         return Err(Cause::WordTwice);
     }
     words[place] = quorum::notice_of(edition, layout);
-    Ok(spoken(p))
+    p.stage = Stage::Words;
+    Ok(())
 }
 
 // A word that names no hearer, in a round that is played, from a bad sender, and not silence.
@@ -328,24 +336,24 @@ fn shared_place_of(n: usize, round: u8, from: usize) -> usize
 // A word without a hearer: it is kept where it is accepted, as one of edition 1. Beside `message` the two
 // causes before the word's own change places, so each has its own tests.
 fn broadcast(
-    p: Progress,
+    p: &mut Progress,
     words: &mut [u32],
     round: u8,
     from: usize,
     layout: u16,
-) -> Result<Progress, Cause>
-    requires { (p.plan.n ≤ most_terminals) × (p.rounds ≤ most_rounds) × (length words.old ≡ most_words) }
-    ensures cause { refused_by result ≡ broadcast_cause p words.old round from layout }
-    ensures next { IfOk result (λ next. next ≡ spoken p) }
-    ensures kept { words.new ≡ pick (eqb (refused_by result) 0) (set words.old (shared_place_of p.plan.n round from) (notice_of 1 layout)) words.old }
+) -> Result<(), Cause>
+    requires { (p.old.plan.n ≤ most_terminals) × (p.old.rounds ≤ most_rounds) × (length words.old ≡ most_words) }
+    ensures cause { refused_by result ≡ broadcast_cause p.old words.old round from layout }
+    ensures next { IfOk result (λ _. p.new ≡ spoken p.old) }
+    ensures kept { words.new ≡ pick (eqb (refused_by result) 0) (set words.old (shared_place_of p.old.plan.n round from) (notice_of 1 layout)) words.old }
 {
-    if !is_started(p) {
+    if !is_started(*p) {
         return Err(Cause::OutOfPlace);
     }
-    if !is_shared(p) {
+    if !is_shared(*p) {
         return Err(Cause::Unknown);
     }
-    if !is_broadcast(p, round, from, layout) {
+    if !is_broadcast(*p, round, from, layout) {
         return Err(Cause::WrongWord);
     }
     let k = shared_place_of(p.plan.n, round, from);
@@ -353,32 +361,23 @@ fn broadcast(
         return Err(Cause::WordTwice);
     }
     words[k] = quorum::notice_of(1, layout);
-    Ok(spoken(p))
-}
-
-// What is known once a word was said.
-fn spoken(p: Progress) -> Progress
-    ensures { result ≡ spoken p }
-{
-    Progress {
-        stage: Stage::Words,
-        ..p
-    }
+    p.stage = Stage::Words;
+    Ok(())
 }
 
 // What is known after a frame, or the cause that refuses it: then both lists stay as they are.
 #[tactic(auto, using(crate::proofs::Rules::tests, crate::proofs::Limits::limit_below, crate::proofs::TellLaws::head_line_lem, crate::proofs::TellLaws::either), unfolding(crate::specs::Reading::cause_in, crate::specs::Reading::heads_cause, crate::specs::Reading::after, crate::specs::Reading::said_after))]
 pub(crate) fn tell(
     heads: Heads,
-    p: Progress,
+    p: &mut Progress,
     words: &mut [u32],
     later: &mut [u32],
     frame: Frame,
-) -> Result<Progress, Cause>
-    requires { (p.plan.n ≤ most_terminals) × (p.rounds ≤ most_rounds) × (length words.old ≡ most_words) × (length later.old ≡ most_rounds) }
-    ensures cause { refused_by result ≡ line_cause heads p (both words.old later.old) frame }
-    ensures next { IfOk result (λ next. next ≡ after p frame) }
-    ensures said { both words.new later.new ≡ pick (eqb (refused_by result) 0) (said_after p (both words.old later.old) frame) (both words.old later.old) }
+) -> Result<(), Cause>
+    requires { (p.old.plan.n ≤ most_terminals) × (p.old.rounds ≤ most_rounds) × (length words.old ≡ most_words) × (length later.old ≡ most_rounds) }
+    ensures cause { refused_by result ≡ line_cause heads p.old (both words.old later.old) frame }
+    ensures next { IfOk result (λ _. p.new ≡ after p.old frame) }
+    ensures said { both words.new later.new ≡ pick (eqb (refused_by result) 0) (said_after p.old (both words.old later.old) frame) (both words.old later.old) }
 {
     match frame {
         Frame::Foreign => Err(Cause::Foreign),
