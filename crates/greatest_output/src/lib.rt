@@ -41,16 +41,6 @@ fn bound_line(f: usize) -> Text
     text::empty().decimal(f as u8).raw(10)
 }
 
-// The number of a refusal.
-fn number(e: DrawingError) -> u8
-    ensures { result ≡ (told (Err e)).number }
-{
-    match e {
-        DrawingError::WrongRange => 4,
-        DrawingError::WrongLink => 5,
-    }
-}
-
 // The greatest bound's line, or the refusal of a record that is no drawing.
 fn answer(g: Result<Option<usize>, DrawingError>) -> Text
     requires { height (told g).passed ≤ 20 }
@@ -59,7 +49,7 @@ fn answer(g: Result<Option<usize>, DrawingError>) -> Text
     match g {
         Ok(None) => none_line(),
         Ok(Some(f)) => bound_line(f),
-        Err(e) => output::refusal(number(e), 0),
+        Err(e) => output::refusal(u8::from(e), 0),
     }
 }
 

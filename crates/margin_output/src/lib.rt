@@ -25,23 +25,13 @@ pub(crate) struct Tally {
     pub above: u8,
 }
 
-// The number of a refusal.
-fn number(e: MarginsError) -> u8
-    ensures { result ≡ (told (Err e)).number }
-{
-    match e {
-        MarginsError::WrongRange => 4,
-        MarginsError::WrongLink => 5,
-    }
-}
-
 // The table of a plan, or the refusal of a record that is none with a bound f.
 fn answer(p: Plan) -> Text
     ensures { held result ≡ margins_answer p }
 {
     match partition::margins(p) {
         Ok(places) => table::with_counts(table::lines(places), counting::counted(places)),
-        Err(e) => output::refusal(number(e), 0),
+        Err(e) => output::refusal(u8::from(e), 0),
     }
 }
 

@@ -11,7 +11,7 @@ use frames::Refusal;
 use text::Text;
 
 // The number and line of a refused file, whose text says the same, or 12 where an accepted file's
-// text has no room; and the length of the text that was put.
+// text has no room; and the length of the text that was put: no Result, since beside a number a text may stand.
 #[derive(Clone, Copy)]
 pub struct Written {
     pub number: u8,

@@ -91,6 +91,8 @@ fn part_of_earlier(groups: [u32; 16], i: usize, s: u32) -> bool
 // has a member more (2^20 = 1048576). The parts of the first i groups are done with. First the sets
 // without one of the free terminals, then those with it; any choice of it is right, and a decisive one
 // makes the first part small.
+// The searches for a bound (branch.rt) and for margins (margin.rt) are cut in two likewise, but by other facts, each with a
+// promise of its own, so that one function for all would take each part's tests as closures.
 #[cycle(inside_split)]
 fn split(site: &Site, i: usize, inn: u32, out: u32, hopeful: u32, wanted: u32, best: u32) -> u32
     requires { Cutting site.now.plan inn out hopeful × (defeats site.now.plan inn ≡ false) × Earlier site.now.plan i best × (i ≤ 16) }

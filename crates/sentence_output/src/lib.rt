@@ -38,7 +38,7 @@ fn answer(n: usize, j: Result<Option<Witness>, VerdictError>) -> Text
     match j {
         Ok(None) => pass_line(),
         Ok(Some(w)) => fail_line(n, w.f, w.l, w.r),
-        Err(e) => output::refusal(verdict_output::number(e), 0),
+        Err(e) => output::refusal(u8::from(e), 0),
     }
 }
 

@@ -19,7 +19,8 @@ pub struct Text {
     pub len: usize,
 }
 
-// The number of a refusal, 0 for none, and the length of the text that was put.
+// The number of a refusal, 0 for none, and the length of the text that was put. It is no Result, since a text
+// may be put beside a refusal's number: the line that tells it (`written_of`).
 #[derive(Clone, Copy)]
 pub struct Written {
     pub number: u8,

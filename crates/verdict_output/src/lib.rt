@@ -25,18 +25,6 @@ pub fn line(failed: u8, f: u32, l: u32, r: u32) -> Text
         .raw(10)
 }
 
-// Why a record is no plan that its sender may send.
-pub fn number(e: VerdictError) -> u8
-    ensures { result ≡ (answered (Err e)).number }
-{
-    match e {
-        VerdictError::WrongRange => 4,
-        VerdictError::TooMany => 14,
-        VerdictError::WrongLink => 5,
-        VerdictError::WrongGroups => 17,
-    }
-}
-
 // The verdict's line, or the refusal of a record that is no plan.
 fn answer(j: Result<Option<Witness>, VerdictError>) -> Text
     requires { ((answered j).f < 16777216) × ((answered j).l < 16777216) × ((answered j).r < 16777216) }
@@ -45,7 +33,7 @@ fn answer(j: Result<Option<Witness>, VerdictError>) -> Text
     match j {
         Ok(None) => line(0, 0, 0, 0),
         Ok(Some(w)) => line(1, w.f, w.l, w.r),
-        Err(e) => output::refusal(number(e), 0),
+        Err(e) => output::refusal(u8::from(e), 0),
     }
 }
 

@@ -48,13 +48,15 @@ impl From<SentenceError> for HeardError {
     }
 }
 
-// The number of a refusal.
-fn number(e: SentenceError) -> u8
-    ensures { result ≡ number_of e }
-{
-    match e {
-        SentenceError::WrongRange => 4,
-        SentenceError::NoPartition => 2,
+// The documents' number.
+impl From<SentenceError> for u8 {
+    ghost from_gives = { λ e n. n ≡ number_of e };
+
+    fn from(e: SentenceError) -> u8 {
+        match e {
+            SentenceError::WrongRange => 4,
+            SentenceError::NoPartition => 2,
+        }
     }
 }
 
@@ -130,7 +132,7 @@ pub fn compose(n: usize, f: u32, l: u32, r: u32, out: &mut [u8]) -> Written
 {
     match sentence(n, f, l, r) {
         Ok(t) => t.put(0, out),
-        Err(e) => text::empty().put(number(e), out),
+        Err(e) => text::empty().put(u8::from(e), out),
     }
 }
 

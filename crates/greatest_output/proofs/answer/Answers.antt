@@ -21,4 +21,4 @@ returns-in-Ok-Some c = let e : c.in-Ok-Some.field-0 ≡ Some c.in-Ok-Some.f = rw
     says_found _ (Ok (Some _)) _ (c.in-Ok-Some.is ∙ ap Ok e) refl c.bound_line.ensures
 
 pub returns-in-Err : goal.returns-in-Err
-returns-in-Err c = says_refusal _ _ _ c.in-Err.is (c.refusal.ensures ∙ ap (λ (k : ℕ). refusal_line k 0) c.number.ensures)
+returns-in-Err c = says_refusal _ _ _ c.in-Err.is (c.refusal.ensures ∙ ap (λ (k : ℕ). refusal_line k 0) c.from.ensures)

@@ -12,4 +12,4 @@ pub returns-in-Ok : goal.returns-in-Ok
 returns-in-Ok c = answer_known _ _ (c.in-Ok.ensures {u = tt}) _ _ _ c.lines.ensures c.counted.ensures c.with_counts.ensures
 
 pub returns-in-Err : goal.returns-in-Err
-returns-in-Err c = answer_refused _ _ (c.in-Err.ensures {u = tt}) _ (c.refusal.ensures ∙ ap (λ (k : ℕ). refusal_line k 0) c.number.ensures)
+returns-in-Err c = answer_refused _ _ (c.in-Err.ensures {u = tt}) _ (c.refusal.ensures ∙ ap (λ (k : ℕ). refusal_line k 0) c.from.ensures)

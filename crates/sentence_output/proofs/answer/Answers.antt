@@ -20,4 +20,4 @@ returns-in-Ok-Some c = let e : c.in-Ok-Some.field-0 ≡ Some c.in-Ok-Some.w = rw
     says_failed _ _ _ _ (c.in-Ok-Some.is ∙ ap Ok e) c.fail_line.ensures
 
 pub returns-in-Err : goal.returns-in-Err
-returns-in-Err c = says_refused _ _ _ _ c.in-Err.is (c.refusal.ensures ∙ ap (λ (k : ℕ). refusal_line k 0) c.number.ensures)
+returns-in-Err c = says_refused _ _ _ _ c.in-Err.is (c.refusal.ensures ∙ ap (λ (k : ℕ). refusal_line k 0) c.from.ensures)
