@@ -36,9 +36,9 @@ fn lists_none(kind: BoundKind) -> bool
 }
 
 // What refuses the plan as links and groups have it.
-pub(crate) fn links_cause(reader: Reader, p: Progress) -> Result<(), Cause>
-    requires { p.plan.n ≤ most_terminals }
-    ensures { refused_by result ≡ links_cause reader p }
+pub(crate) fn links_cause(reader: Reader, p: &Progress) -> Result<(), Cause>
+    requires { p.now.plan.n ≤ most_terminals }
+    ensures { refused_by result ≡ links_cause reader p.now }
 {
     if !in_plan(p) {
         return Ok(());
@@ -53,9 +53,9 @@ pub(crate) fn links_cause(reader: Reader, p: Progress) -> Result<(), Cause>
 }
 
 // The same where a line with this frame follows.
-pub(crate) fn end_cause(reader: Reader, p: Progress, frame: Frame) -> Result<(), Cause>
-    requires { p.plan.n ≤ most_terminals }
-    ensures { refused_by result ≡ end_cause reader p frame }
+pub(crate) fn end_cause(reader: Reader, p: &Progress, frame: Frame) -> Result<(), Cause>
+    requires { p.now.plan.n ≤ most_terminals }
+    ensures { refused_by result ≡ end_cause reader p.now frame }
 {
     if ends_links(p.plan.bound.kind, frame) {
         links_cause(reader, p)

@@ -94,29 +94,29 @@ pub struct Archived {
     pub deaf: u32,
 }
 
-pub(crate) fn is_at(stage: Stage, p: Progress) -> bool
-    ensures { result ≡ is_at stage p }
+pub(crate) fn is_at(stage: Stage, p: &Progress) -> bool
+    ensures { result ≡ is_at stage p.now }
 {
     p.stage == stage
 }
 
 // After the head, and while nothing but links and groups has followed.
-pub(crate) fn in_plan(p: Progress) -> bool
-    ensures { result ≡ in_plan p }
+pub(crate) fn in_plan(p: &Progress) -> bool
+    ensures { result ≡ in_plan p.now }
 {
     is_at(Stage::Links, p) || is_at(Stage::Grouped, p)
 }
 
 // From the start on.
-pub(crate) fn is_started(p: Progress) -> bool
-    ensures { result ≡ is_started p }
+pub(crate) fn is_started(p: &Progress) -> bool
+    ensures { result ≡ is_started p.now }
 {
     is_at(Stage::Started, p) || is_at(Stage::Words, p)
 }
 
 // The start was of the other form.
-fn other_form(p: Progress, form: Form) -> bool
-    ensures { result ≡ other_form p form }
+fn other_form(p: &Progress, form: Form) -> bool
+    ensures { result ≡ other_form p.now form }
 {
     is_started(p) && form != p.form
 }
@@ -135,10 +135,10 @@ pub fn is_shared(p: Progress) -> bool
 }
 
 // The start was of the other form, or the channel is shared and the frame is barred from such a one.
-pub(crate) fn wrong_form(p: Progress, form: Form, barred: bool) -> bool
-    ensures { result ≡ wrong_form p form barred }
+pub(crate) fn wrong_form(p: &Progress, form: Form, barred: bool) -> bool
+    ensures { result ≡ wrong_form p.now form barred }
 {
-    other_form(p, form) || (is_shared(p) && barred)
+    other_form(p, form) || (is_shared(*p) && barred)
 }
 
 // What is known before the start, on a channel with this default layout.
@@ -201,7 +201,7 @@ fn pass(
     ensures { MatchResult result (λ _. Going reader text.now (both words.new later.new) at.new (i + 1)) (λ e. reading reader text.now ≡ refusal (number e.cause) e.line) }
 {
     let frame = lines::frame_of(reader.kinds, &text[at.from..i]);
-    if let Err(cause) = ends::end_cause(reader, at.progress, frame) {
+    if let Err(cause) = ends::end_cause(reader, &at.progress, frame) {
         return Err(Refusal { cause, line: 0 });
     }
     match told::tell(reader.heads, &mut at.progress, words, later, frame) {
@@ -244,7 +244,7 @@ fn read_lines(
             line: at.line,
         });
     }
-    match ends::links_cause(reader, at.progress) {
+    match ends::links_cause(reader, &at.progress) {
         Ok(()) => Ok(at.progress),
         Err(cause) => Err(Refusal { cause, line: 0 }),
     }
@@ -343,7 +343,7 @@ pub fn read_run(text: &[u8], words: &mut [u32], later: &mut [u32]) -> Result<Pro
         },
     };
     let progress = read(reader, text, &mut said, &mut issued)?;
-    if !is_started(progress) {
+    if !is_started(&progress) {
         return Err(Refusal {
             cause: Cause::OutOfPlace,
             line: 0,

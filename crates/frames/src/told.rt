@@ -51,7 +51,7 @@ fn head(heads: Heads, p: &mut Progress, n: u8, source: u8, f: u8) -> Result<(), 
     ensures next { IfOk result (λ _. p.new ≡ after p.old (Head n source f)) }
 {
     let kind = kind_read(f);
-    if !is_at(Stage::Nothing, *p) {
+    if !is_at(Stage::Nothing, p) {
         return Err(Cause::OutOfPlace);
     }
     if !quorum::in_range(n as usize, source as usize, kind) {
@@ -86,7 +86,7 @@ fn link(p: &mut Progress, from: usize, to: usize) -> Result<(), Cause>
     ensures cause { refused_by result ≡ link_cause p.old from to }
     ensures next { IfOk result (λ _. p.new ≡ after p.old (Link from to)) }
 {
-    if !is_at(Stage::Links, *p) {
+    if !is_at(Stage::Links, p) {
         return Err(Cause::OutOfPlace);
     }
     if p.plan.n <= from || p.plan.n <= to || from == to {
@@ -127,7 +127,7 @@ fn group(p: &mut Progress, s: u32) -> Result<(), Cause>
     ensures cause { refused_by result ≡ group_cause p.old s }
     ensures next { IfOk result (λ _. p.new ≡ after p.old (Group s)) }
 {
-    if !in_plan(*p) || !lists(p.plan.bound.kind) {
+    if !in_plan(p) || !lists(p.plan.bound.kind) {
         return Err(Cause::OutOfPlace);
     }
     if 16 <= quorum::listed(p.plan.bound.kind) || !quorum::others(p.plan.n, p.plan.source, s) {
@@ -142,7 +142,7 @@ fn channel(p: &mut Progress, default: u16) -> Result<(), Cause>
     ensures cause { refused_by result ≡ channel_cause p.old default }
     ensures next { IfOk result (λ _. p.new ≡ after p.old (Channel default)) }
 {
-    if !in_plan(*p) {
+    if !in_plan(p) {
         return Err(Cause::OutOfPlace);
     }
     if default == 0 {
@@ -153,10 +153,10 @@ fn channel(p: &mut Progress, default: u16) -> Result<(), Cause>
 }
 
 // What the library has against a bad set: on a shared channel the source may be bad too.
-fn bad_set_cause(p: Progress, s: u32) -> Result<(), Cause>
-    ensures { refused_by result ≡ bad_set_cause p s }
+fn bad_set_cause(p: &Progress, s: u32) -> Result<(), Cause>
+    ensures { refused_by result ≡ bad_set_cause p.now s }
 {
-    if is_shared(p) {
+    if is_shared(*p) {
         faults::check_shared_fault_set(p.plan, s)?;
     } else {
         faults::check_fault_set(p.plan, s)?;
@@ -169,10 +169,10 @@ fn fault_set(p: &mut Progress, s: u32) -> Result<(), Cause>
     ensures cause { refused_by result ≡ fault_set_cause p.old s }
     ensures next { IfOk result (λ _. p.new ≡ after p.old (FaultSet s)) }
 {
-    if !in_plan(*p) && !is_at(Stage::Shared, *p) {
+    if !in_plan(p) && !is_at(Stage::Shared, p) {
         return Err(Cause::OutOfPlace);
     }
-    bad_set_cause(*p, s)?;
+    bad_set_cause(p, s)?;
     *p = unstarted(Stage::Faults, p.plan, s, p.default);
     Ok(())
 }
@@ -198,10 +198,10 @@ fn start(
     ensures next { IfOk result (λ _. p.new ≡ after p.old (Start form edition layout rounds)) }
 {
     let rounds = rounds_of(p.plan.n, rounds);
-    if wrong_form(*p, form, has_edition(form)) {
+    if wrong_form(p, form, has_edition(form)) {
         return Err(Cause::Unknown);
     }
-    if !is_at(Stage::Faults, *p) {
+    if !is_at(Stage::Faults, p) {
         return Err(Cause::OutOfPlace);
     }
     if !quorum::start_sound(layout, rounds) {
@@ -235,10 +235,10 @@ fn later_notice(
     ensures next { IfOk result (λ _. p.new ≡ after p.old (Later round edition layout)) }
     ensures kept { later.new ≡ pick (eqb (refused_by result) 0) (set later.old (round - 1) (notice_of edition layout)) later.old }
 {
-    if wrong_form(*p, Form::New, true) {
+    if wrong_form(p, Form::New, true) {
         return Err(Cause::Unknown);
     }
-    if !is_at(Stage::Started, *p) || round <= p.issued || p.rounds < round {
+    if !is_at(Stage::Started, p) || round <= p.issued || p.rounds < round {
         return Err(Cause::OutOfPlace);
     }
     if layout == 0 {
@@ -258,9 +258,9 @@ fn later_notice(
 }
 
 // A word in a round that is played, on a link, from a bad sender, and not silence.
-fn is_word(p: Progress, round: u8, from: usize, to: usize, edition: u16, layout: u16) -> bool
-    requires { p.plan.n ≤ most_terminals }
-    ensures { result ≡ is_word p round from to edition layout }
+fn is_word(p: &Progress, round: u8, from: usize, to: usize, edition: u16, layout: u16) -> bool
+    requires { p.now.plan.n ≤ most_terminals }
+    ensures { result ≡ is_word p.now round from to edition layout }
 {
     1 <= round
         && round <= p.rounds
@@ -296,13 +296,13 @@ fn message(
     ensures next { IfOk result (λ _. p.new ≡ spoken p.old) }
     ensures kept { words.new ≡ pick (eqb (refused_by result) 0) (set words.old (place_of p.old.plan.n round from to) (notice_of edition layout)) words.old }
 {
-    if wrong_form(*p, form, true) {
+    if wrong_form(p, form, true) {
         return Err(Cause::Unknown);
     }
-    if !is_started(*p) {
+    if !is_started(p) {
         return Err(Cause::OutOfPlace);
     }
-    if !is_word(*p, round, from, to, edition, layout) {
+    if !is_word(p, round, from, to, edition, layout) {
         return Err(Cause::WrongWord);
     }
     let place = place_of(p.plan.n, round, from, to);
@@ -315,8 +315,8 @@ fn message(
 }
 
 // A word that names no hearer, in a round that is played, from a bad sender, and not silence.
-fn is_broadcast(p: Progress, round: u8, from: usize, layout: u16) -> bool
-    ensures { result ≡ is_broadcast p round from layout }
+fn is_broadcast(p: &Progress, round: u8, from: usize, layout: u16) -> bool
+    ensures { result ≡ is_broadcast p.now round from layout }
 {
     1 <= round
         && round <= p.rounds
@@ -347,13 +347,13 @@ fn broadcast(
     ensures next { IfOk result (λ _. p.new ≡ spoken p.old) }
     ensures kept { words.new ≡ pick (eqb (refused_by result) 0) (set words.old (shared_place_of p.old.plan.n round from) (notice_of 1 layout)) words.old }
 {
-    if !is_started(*p) {
+    if !is_started(p) {
         return Err(Cause::OutOfPlace);
     }
     if !is_shared(*p) {
         return Err(Cause::Unknown);
     }
-    if !is_broadcast(*p, round, from, layout) {
+    if !is_broadcast(p, round, from, layout) {
         return Err(Cause::WrongWord);
     }
     let k = shared_place_of(p.plan.n, round, from);
