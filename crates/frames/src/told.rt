@@ -365,7 +365,7 @@ fn broadcast(
     Ok(())
 }
 
-// What is known after a frame, or the cause that refuses it: then both lists stay as they are.
+// A frame is told: what is known changes, or a cause refuses it, and then both lists stay as they are.
 #[tactic(auto, using(crate::proofs::Rules::tests, crate::proofs::Limits::limit_below, crate::proofs::TellLaws::head_line_lem, crate::proofs::TellLaws::either), unfolding(crate::specs::Reading::cause_in, crate::specs::Reading::heads_cause, crate::specs::Reading::after, crate::specs::Reading::said_after))]
 pub(crate) fn tell(
     heads: Heads,
