@@ -59,7 +59,7 @@ pub fn heard_text(text: &[u8], out: &mut [u8]) -> Written
     ensures out_after { out.new ≡ put_into (heard_text text.now) out.old }
 {
     match entry::on_file(text) {
-        Ok(s) => output::on_line(0, verdict_output::line(1, s.f, s.l, s.r).put(0, out)),
+        Ok(s) => output::put(verdict_output::line(1, s.f, s.l, s.r), out),
         Err(e) => {
             let (number, line) = (entry::number(e), entry::line_of(e));
             output::on_line(line, output::refusal(number, line).put(number, out))
