@@ -69,6 +69,25 @@ module _ (before : BoardRecord) (r : Record) (e : r ≡ record_of before) (numbe
       ∙ ap (λ (x : Record). answer_of before (issue_cause r notice) x) a
       ∙ ap (λ (x : Record). answer_of before (issue_cause x notice) (record_issued x notice)) e
 
+  -- a refused record has come back as it went in
+  pub step_kept : (n source : ℕ) (bound : Bound) (own heard : ℕ) (said : List ℕ)
+      → number ≡ cause_of n source bound own heard r (length said)
+      → after ≡ record_after n source bound own heard r said
+      → (number ≡ 0 → ⊥) → after ≡ record_of before
+  unfolding record_after
+  step_kept n source bound own heard said k a z = a ∙ pick_no _ _ _ (ne_eqb _ 0 (λ y. z (k ∙ y))) ∙ e
+
+  pub shared_kept : (n source : ℕ) (bound : Bound) (own heard default : ℕ) (said : List ℕ)
+      → number ≡ shared_cause_of n source bound own heard default r (length said)
+      → after ≡ shared_record_after n source bound own heard default r said
+      → (number ≡ 0 → ⊥) → after ≡ record_of before
+  unfolding shared_record_after
+  shared_kept n source bound own heard default said k a z = a ∙ pick_no _ _ _ (ne_eqb _ 0 (λ y. z (k ∙ y))) ∙ e
+
+  pub issue_kept : (notice : Notice) → number ≡ issue_cause r notice → after ≡ record_issued r notice → (number ≡ 0 → ⊥) → after ≡ record_of before
+  unfolding record_issued
+  issue_kept notice k a z = a ∙ pick_no _ _ _ (ne_eqb _ 0 (λ y. z (k ∙ y))) ∙ e
+
 -- a refused record comes back as it went in, whatever the number
 pub refused : (before : BoardRecord) (number : ℕ) (after : Record) (k : ℕ) → number ≡ k → (k ≡ 0 → ⊥)
     → answer_of before number after ≡ record { number = k; after = before }
@@ -82,6 +101,20 @@ pub board_notes : (s : State) (round : ℕ) (notes : List Note) → (board_with 
 unfolding board_with
 board_notes Waiting round notes = refl
 board_notes (Taken at notice) round notes = refl
+
+board_round : (s : State) (round : ℕ) (notes : List Note) → (board_with s round notes).round ≡ round
+unfolding board_with
+board_round Waiting round notes = refl
+board_round (Taken at notice) round notes = refl
+
+-- a board's record, of which all but its state comes from what it stood for
+pub kept_board : (before x : BoardRecord) (r : Record) → x ≡ board_of r → r ≡ record_of before
+    → record { taken = before.taken; at = before.at; round = x.round; notice = before.notice; notes = x.notes } ≡ before
+unfolding board_of record_of
+kept_board before x r e k =
+    let q = ap (λ (y : BoardRecord). y.round) e ∙ board_round r.state r.round r.notes ∙ ap (λ (y : Record). y.round) k in
+    let p = ap (λ (y : BoardRecord). y.notes) e ∙ board_notes r.state r.round r.notes ∙ ap (λ (y : Record). y.notes) k in
+    λ i. record { taken = before.taken; at = before.at; round = q i; notice = before.notice; notes = p i }
 
 answer_notes : (before : BoardRecord) (number : ℕ) (after : Record) → after.notes ≡ before.notes → (answer_of before number after).after.notes ≡ before.notes
 unfolding answer_of board_of

@@ -107,21 +107,20 @@ fn bound_of(kind: usize, told: &BoardGroups) -> Bound
     }
 }
 
-// What a board is told of what a terminal answered.
+// What a board is told of what a terminal answered. A refused record has come back as it went in, but bytes that were
+// no state have not: those are put back. Its notes come from one place in both cases, so the compiler copies them less.
 fn answer_of(before: &BoardRecord, stepped: &Stepped) -> BoardAnswer
+    requires { (number_of stepped.now.outcome ≡ 0 → ⊥) → stepped.now.after ≡ record_of before.now }
     ensures { result ≡ answer_of before.now (number_of stepped.now.outcome) stepped.now.after }
 {
     let number = terminal::number(stepped.outcome);
-    if number == 0 {
-        return BoardAnswer {
-            number,
-            after: board_of(&stepped.after),
-        };
+    let mut after = board_of(&stepped.after);
+    if number != 0 {
+        after.taken = before.taken;
+        after.at = before.at;
+        after.notice = before.notice;
     }
-    BoardAnswer {
-        number,
-        after: *before,
-    }
+    BoardAnswer { number, after }
 }
 
 // The record of a terminal that is switched on.

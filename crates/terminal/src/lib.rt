@@ -192,6 +192,9 @@ impl Record {
     }
 
     // It takes what it chose, in the round that its record shows; where it chose nothing its state stays.
+    // Compiled into its caller, as `play` and `step` are: a call of a function that takes a record and gives one copies
+    // all notes, more than once.
+    #[inline(always)]
     fn decide(mut self, n: usize, source: usize, bound: Bound, heard: u32) -> Record
         requires { (n ≤ 20) × (source < n) × Whole self.notes × HavePlaces heard self.notes }
         ensures { result ≡ record { state = taking self.round self.state (chosen n source bound heard (map spoken_in self.notes) (held_by self.state)); round = self.round; notes = self.notes } }
@@ -321,6 +324,7 @@ fn first_cause(
 
 // The round of a record that can be stepped. It is raised first: a take keeps the raised number. The
 // source takes only what its office issues.
+#[inline(always)]
 pub(crate) fn play(
     n: usize,
     source: usize,
@@ -342,6 +346,7 @@ pub(crate) fn play(
 
 // One round of terminal `own`, which hears the set `heard`; said[j] is what terminal j said, 0 for
 // nothing. `bound` is the plan's f or its groups. A refused step gives the record back as it went in.
+#[inline(always)]
 pub fn step(
     n: usize,
     source: usize,
