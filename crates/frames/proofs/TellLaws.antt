@@ -1,5 +1,6 @@
 -- What refuses a head, and what an accepted frame keeps. Assumes nothing.
-use Prim.Native.Nat.{ℕ, ◌≤◌}
+use Prim.Native.Nat.{ℕ, ◌-◌, ◌≤◌}
+use Rattle.std.specs.Prelude.{Option, None}
 use mathlib.Core.Path.{◌≡◌, refl, sym, ap, ◌∙◌}
 use mathlib.Core.List.{[], ◌∷◌}
 use mathlib.Core.Bool.{Bool, true, false}
@@ -18,7 +19,7 @@ use Rattle.lines.specs.declared.Frame.TheVariants.{Foreign, Unknown, Head, Link,
 use Rattle.frames.specs.declared.Stage.TheVariants.{Nothing}
 use Rattle.frames.specs.declared.Heads.{Heads}
 use Rattle.frames.specs.declared.Progress.{Progress}
-use Rattle.frames.specs.Reading.{is_at, Lists, kind_read, head_cause, cause_in, untaken_cause, heads_cause, line_cause, linked, grouped, after}
+use Rattle.frames.specs.Reading.{is_at, Lists, kind_read, rounds_of, head_cause, cause_in, untaken_cause, heads_cause, line_cause, linked, grouped, after}
 use Rattle.frames.proofs.Limits.{limit_none}
 use Rattle.frames.proofs.Keeps.{head_accepted, start_accepted}
 
@@ -33,6 +34,10 @@ pub head_line_lem : (heads : Heads) (p : Progress) (said : Lists) (n source f : 
     → line_cause heads p said (Head n source f) ≡ first_cause (given (head_cause p n source f) ∷ given (untaken_cause heads n (kind_read f)) ∷ [])
 unfolding line_cause cause_in heads_cause
 head_line_lem heads p said n source f = refl
+
+-- a start that gives no rounds
+pub rounds_left : (n played : ℕ) (rounds : Option ℕ) → rounds ≡ None → played ≡ n - 1 → played ≡ rounds_of n rounds
+rounds_left n played rounds e h = h ∙ sym (ap (rounds_of n) e)
 
 -- a refused frame changes neither list
 pub either : (b : Bool) (said : Lists) → said ≡ pick b said said

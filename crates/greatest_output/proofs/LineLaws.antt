@@ -9,7 +9,7 @@ use Rattle.sets.proofs.Bools.{pick_yes, pick_no}
 use Rattle.std.specs.Prelude.{Option, Result, Ok, Err}
 use Rattle.tolerance.specs.declared.DrawingError.{DrawingError}
 use Rattle.tolerance.specs.declared.DrawingError.TheVariants.{WrongRange, WrongLink}
-use Rattle.tolerance.specs.Greatest.{drawing_of, up_to}
+use Rattle.tolerance.specs.Greatest.{drawing_of, none, up_to}
 use Rattle.tolerance.specs.Answer.{Told, told, greatest_of}
 use Rattle.text.specs.Digits.{decimal}
 use Rattle.text.specs.Texts.{joined, written_of, put_into}
@@ -25,6 +25,11 @@ use Rattle.output.proofs.Laws.{put_accepted, put_refused}
 use Rattle.greatest_output.specs.Greatest.{tolerance_line, greatest_answer, greatest_on}
 
 -- one part after the other, with room
+pub says_none : {a b c d e last : List ℕ} → a ≡ [] → b ≡ joined a (110 ∷ []) → c ≡ joined b (111 ∷ []) → d ≡ joined c (110 ∷ []) → e ≡ joined d (101 ∷ [])
+    → last ≡ joined e (10 ∷ []) → last ≡ tolerance_line none
+unfolding tolerance_line
+says_none z p q r s t = whole z (then _ _ (10 ∷ []) (then _ _ (101 ∷ []) (then _ _ (110 ∷ []) (then _ _ (111 ∷ []) p q) r) s) t) (omega arith)
+
 pub says_bound : (f : ℕ) {a b last : List ℕ} → a ≡ [] → b ≡ joined a (decimal f) → last ≡ joined b (10 ∷ []) → last ≡ tolerance_line (up_to f)
 unfolding tolerance_line
 says_bound f z p q = whole z (then _ (decimal f) (10 ∷ []) p q) (let h = decimal_short f in omega (arith, length-append (decimal f) (10 ∷ [])))

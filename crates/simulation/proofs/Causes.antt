@@ -9,7 +9,7 @@ use lib.Dec.{eqb}
 use lib.ListN.{length}
 use borrow.Author.Tests.{eqb-true, eqb-false, eq-eqb, ne_eqb}
 use Rattle.sets.proofs.Bools.{and_l, and_r, and_i, not_i, not_e, not_yes, not_no, pick_yes, pick_no}
-use Rattle.std.specs.Prelude.{Result, Err}
+use Rattle.std.specs.Prelude.{Result, Ok, Err}
 use Rattle.std.specs.Result.{IsErrAnd}
 use Rattle.std.proofs.lemmas.Result.{err_from_is_err_and}
 use Rattle.sets.specs.Causes.{first_cause, given}
@@ -39,6 +39,11 @@ refuses OverBound = refl
 refuses WrongStart = refl
 refuses WrongEdition = refl
 refuses WrongLength = refl
+
+-- an outcome other than `Ok` has a number that is not 0
+pub not_played : (o : Result Unit RunError) → (o ≡ Ok tt → ⊥) → eqb (number_of o) 0 ≡ false
+not_played (Ok u) h = absurd (h refl)
+not_played (Err e) h = refuses e
 
 pub refused_by : (e : RunError) (k : ℕ) → number_of (Err e) ≡ k → eqb k 0 ≡ false
 refused_by e k h = ap (λ (x : ℕ). eqb x 0) (sym h) ∙ refuses e
