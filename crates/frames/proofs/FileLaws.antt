@@ -19,7 +19,7 @@ use Rattle.frames.specs.declared.Progress.{Progress}
 use Rattle.frames.specs.declared.Reader.{Reader}
 use Rattle.frames.specs.declared.Refusal.{Refusal}
 use Rattle.frames.specs.Reading.{most_bytes, run_reader, is_started, Lists, Reading, refusal, FileRead, reading, whole, run_reading, run_file, file_read, archive_read, words_read, later_read}
-use Rattle.frames.specs.Pass.{answer, archive_answer}
+use Rattle.frames.specs.Causes.{answer, archive_answer}
 
 pub empty_file : (reader : Reader) (text : List ℕ) → length text < 1 → reading reader text ≡ refusal 1 0
 unfolding reading

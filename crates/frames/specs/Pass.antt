@@ -1,5 +1,4 @@
--- What a caller gets of a file by what a reader answers; and one pass over a file's bytes, for the private functions of the readers: what the file is told
--- to be from the byte at i on. Assumes nothing.
+-- One pass over a file's bytes, for the private functions of the readers: what the file is told to be from the byte at i on. Assumes nothing.
 use Rattle.std.specs.Prelude.{ℕ, ◌+◌, ◌-◌, ◌≤◌, Result, Ok, Err, List, ◌≡◌, length, take, drop}
 use Rattle.quorum.specs.Quorum.{most_terminals}
 use Rattle.quorum.specs.Words.{most_rounds, most_words}
@@ -7,9 +6,8 @@ use Rattle.frames.specs.declared.Progress.{Progress}
 use Rattle.frames.specs.declared.Reader.{Reader}
 use Rattle.frames.specs.declared.Cursor.{Cursor}
 use Rattle.frames.specs.declared.Refusal.{Refusal}
-use Rattle.frames.specs.declared.Archived.{Archived}
 use Rattle.frames.specs.Lines.{lines_from}
-use Rattle.frames.specs.Reading.{nothing_read, Lists, Reading, refusal, FileRead, ArchiveRead, told, reading}
+use Rattle.frames.specs.Reading.{Lists, Reading, refusal, told, reading}
 use Rattle.frames.specs.Causes.{number}
 
 -- the bytes so far of the line that the pass is in
@@ -30,16 +28,7 @@ pub record Going (reader : Reader) (text : List ℕ) (said : Lists) (at : Cursor
   pub entries : length said.later ≡ most_rounds
   pub same : ahead reader text at.progress said at.line at.from i ≡ reading reader text
 
--- what a file is by what a reader answers, with what was said, and what a caller gets of it
+-- what a file is by what a reader answers, with what was said
 abbrev pub reading_of : Result Progress Refusal → Lists → Reading
 reading_of (Ok p) said = record { number = 0; line = 0; progress = p; said = said }
 reading_of (Err e) said = refusal (number e.cause) e.line
-
-abbrev pub answer : Result Progress Refusal → FileRead
-answer (Ok p) = record { number = 0; line = 0; progress = p }
-answer (Err e) = record { number = number e.cause; line = e.line; progress = nothing_read }
-
--- the same of the archive's reader; of a refused file there are no deaf terminals
-abbrev pub archive_answer : Result Archived Refusal → ArchiveRead
-archive_answer (Ok a) = record { file = answer (Ok a.progress); deaf = a.deaf }
-archive_answer (Err e) = record { file = answer (Err e); deaf = 0 }

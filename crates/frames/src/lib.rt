@@ -9,8 +9,8 @@ mod told;
 
 ghost use Rattle.std.specs.Prelude.{◌≡◌, ◌+◌, ◌<◌, ◌≤◌, length, get_or, MatchResult};
 ghost use Rattle.frames.specs.Reading.{most_bytes, plan_kinds, has_edition, is_at, in_plan, is_started, other_form, is_shared, wrong_form, unstarted, planned, nothing_read, both, nothing_said, refusal, reading, plan_reading, archive_reading, quote_reading, margins_reading, drawing_reading, file_read, archive_read, run_file, words_read, later_read};
-ghost use Rattle.frames.specs.Causes.{number};
-ghost use Rattle.frames.specs.Pass.{Going, reading_of, answer, archive_answer};
+ghost use Rattle.frames.specs.Causes.{number, answer, archive_answer};
+ghost use Rattle.frames.specs.Pass.{Going, reading_of};
 
 pub use cause::Cause;
 use lines::Form;

@@ -17,8 +17,7 @@ use Rattle.text.proofs.Laws.{then, whole, decimal_short}
 use Rattle.frames.specs.declared.Progress.{Progress}
 use Rattle.frames.specs.declared.Refusal.{Refusal}
 use Rattle.frames.specs.Reading.{FileRead}
-use Rattle.frames.specs.Causes.{number}
-use Rattle.frames.specs.Pass.{answer}
+use Rattle.frames.specs.Causes.{number, answer}
 use Rattle.output.specs.declared.Written.{Written}
 use Rattle.output.specs.OnFile.{refusal_line, on_line, answer_on}
 use Rattle.output.proofs.Laws.{put_accepted, put_refused}

@@ -15,8 +15,7 @@ use Rattle.text.proofs.Laws as texts
 use Rattle.frames.specs.declared.Progress.{Progress}
 use Rattle.frames.specs.declared.Refusal.{Refusal}
 use Rattle.frames.specs.Reading.{nothing_read, FileRead}
-use Rattle.frames.specs.Causes.{number}
-use Rattle.frames.specs.Pass.{answer}
+use Rattle.frames.specs.Causes.{number, answer}
 use Rattle.frames.proofs.LineLaws.{numbered}
 use Rattle.output.specs.declared.Written.{Written}
 use Rattle.output.specs.OnFile.{refusal_line, text_on, on_line, answer_on}

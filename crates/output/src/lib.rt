@@ -3,8 +3,7 @@
 
 ghost use Rattle.std.specs.Prelude.{◌≡◌, Err, length};
 ghost use Rattle.text.specs.Texts.{held, written_of, put_into};
-ghost use Rattle.frames.specs.Causes.{number};
-ghost use Rattle.frames.specs.Pass.{answer};
+ghost use Rattle.frames.specs.Causes.{number, answer};
 ghost use Rattle.output.specs.OnFile.{refusal_line, on_line, answer_on};
 
 use frames::Refusal;

@@ -12,8 +12,7 @@ use Rattle.text.specs.Texts.{written_of, put_into}
 use Rattle.frames.specs.declared.Progress.{Progress}
 use Rattle.frames.specs.declared.Refusal.{Refusal}
 use Rattle.frames.specs.Reading.{FileRead, archive_reading, file_read}
-use Rattle.frames.specs.Causes.{number}
-use Rattle.frames.specs.Pass.{answer}
+use Rattle.frames.specs.Causes.{number, answer}
 use Rattle.frames.proofs.Accepted.{archived_sound}
 use Rattle.writer.specs.Written.{plan_text, written_text}
 use Rattle.writer.proofs.Laws.{text_short, sound_text}

@@ -28,8 +28,7 @@ use Rattle.lines.specs.declared.Form.TheVariants.{Old, New}
 use Rattle.frames.specs.declared.Progress.{Progress}
 use Rattle.frames.specs.declared.Refusal.{Refusal}
 use Rattle.frames.specs.Reading.{FileRead, is_shared, Lists, both, Reading, no_words, no_later, run_reading, run_file, file_read, words_read, later_read}
-use Rattle.frames.specs.Causes.{number}
-use Rattle.frames.specs.Pass.{answer}
+use Rattle.frames.specs.Causes.{number, answer}
 use Rattle.frames.proofs.Accepted.{run_accepted}
 use Rattle.frames.proofs.FileLaws.{run_file_lem, words_read_lem, later_read_lem}
 use Rattle.text.specs.Digits.{hex_byte, hex_pair}

@@ -23,8 +23,7 @@ use Rattle.partition.proofs.Laws.{Failed, answer_fails}
 use Rattle.frames.specs.declared.Progress.{Progress}
 use Rattle.frames.specs.declared.Refusal.{Refusal}
 use Rattle.frames.specs.Reading.{FileRead}
-use Rattle.frames.specs.Causes.{number}
-use Rattle.frames.specs.Pass.{answer}
+use Rattle.frames.specs.Causes.{number, answer}
 use Rattle.text.specs.Digits.{hex_byte, hex_pair, hex_triple}
 use Rattle.text.specs.Texts.{written_of, put_into}
 use Rattle.output.specs.declared.Written.{Written}
