@@ -9,7 +9,7 @@ use super::{Progress, Reader, deaf, in_plan, told};
 use lines::Frame;
 use quorum::BoundKind;
 
-// A frame that could be read, and is no link, nor a group where groups are listed.
+// A frame that could be read, and is no link, nor a group where groups are listed: arm by arm as the definition has it.
 fn ends_links(kind: BoundKind, frame: Frame) -> bool
     ensures { result ≡ ends_links kind frame }
 {

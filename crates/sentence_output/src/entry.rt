@@ -29,14 +29,16 @@ impl From<HeardError> for EntryError {
     }
 }
 
-// The number of a refusal.
-pub(crate) fn number(e: EntryError) -> u8
-    ensures { result ≡ number_of e }
-{
-    match e {
-        EntryError::WrongFile => 1,
-        EntryError::WrongRange => 4,
-        EntryError::OtherText => 2,
+// The documents' number.
+impl From<EntryError> for u8 {
+    ghost from_gives = { λ e n. n ≡ number_of e };
+
+    fn from(e: EntryError) -> u8 {
+        match e {
+            EntryError::WrongFile => 1,
+            EntryError::WrongRange => 4,
+            EntryError::OtherText => 2,
+        }
     }
 }
 

@@ -61,7 +61,7 @@ pub fn heard_text(text: &[u8], out: &mut [u8]) -> Written
     match entry::on_file(text) {
         Ok(s) => output::put(verdict_output::line(1, s.f, s.l, s.r), out),
         Err(e) => {
-            let (number, line) = (entry::number(e), entry::line_of(e));
+            let (number, line) = (u8::from(e), entry::line_of(e));
             output::on_line(line, output::refusal(number, line).put(number, out))
         }
     }

@@ -249,7 +249,8 @@ pub fn run(
 }
 
 // ---- On a shared channel, where every word reaches all who hear its sender and the source may be bad. Words,
-// the source's value and the default are layouts.
+// the source's value and the default are layouts. Causes, lists and lengths are others than above, so each function that
+// asks for them has its own here; the loop over the turns and the first of them are one for both.
 
 fn shared_start_sound(value: u16, default: u16, rounds: u8) -> bool
     ensures { result ≡ shared_start_sound value default rounds }

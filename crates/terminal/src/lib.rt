@@ -345,7 +345,8 @@ pub(crate) fn play(
 }
 
 // One round of terminal `own`, which hears the set `heard`; said[j] is what terminal j said, 0 for
-// nothing. `bound` is the plan's f or its groups. A refused step gives the record back as it went in.
+// nothing. `bound` is the plan's f or its groups. A refused step gives the record back as it went in. The arguments
+// are document 01's, each by itself: a struct of them would be one thing more for a board to fill in.
 #[inline(always)]
 pub fn step(
     n: usize,

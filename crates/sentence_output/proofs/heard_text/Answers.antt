@@ -17,5 +17,5 @@ returns-in-Ok c = let e = c.in-Ok.ensures {u = tt} in
 
 pub returns-in-Err : goal.returns-in-Err
 returns-in-Err c = let e = c.in-Err.e in
-    let p = entry_put c.args.text.now c.args.out.now _ (refused (number_of e)) _ _ _ _ (c.in-Err.ensures {u = tt}) c.line_of-line.ensures (answer_refused e c.number-number.ensures c.line_of-line.ensures c.refusal.ensures) (c.put-in-Err.ensures.value ∙ ap (λ (k : ℕ). written_of k (length (held c.refusal.result)) (length c.args.out.now)) c.number-number.ensures) c.put-in-Err.ensures.out_after c.on_line.ensures in
+    let p = entry_put c.args.text.now c.args.out.now _ (refused (number_of e)) _ _ _ _ (c.in-Err.ensures {u = tt}) c.line_of-line.ensures (answer_refused e c.from-number.ensures c.line_of-line.ensures c.refusal.ensures) (c.put-in-Err.ensures.value ∙ ap (λ (k : ℕ). written_of k (length (held c.refusal.result)) (length c.args.out.now)) c.from-number.ensures) c.put-in-Err.ensures.out_after c.on_line.ensures in
     record { value = p.0; out_after = p.1 }
