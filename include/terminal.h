@@ -5,8 +5,8 @@
  * convention. They are proved: for any bytes that are handed in they end, touch no memory but their
  * arguments, and answer as the words below say. They use no heap and no function from outside; their long copies
  * and fills are by a memcpy and a memset inside the archive, which no proof covers (tools/memory.c). Records and
- * answers go by value, so a step has several of them on the stack: under 30 KiB in all, and under 32 KiB on a
- * shared channel, measured. The caller's compiler may copy them by a call of memcpy, as clang does: a board
+ * answers go by value, so a step has several of them on the stack: under 14 KiB in all, on a shared channel too,
+ * measured. The caller's compiler may copy them by a call of memcpy, as clang does: a board
  * without a C library then has to supply that, for its own code and not for the archive.
  *
  * A notice is one number: its edition, 1 to 65535, and its layout, 1 to 65535 (HULMAYEK_NOTICE). The edition says

@@ -11,8 +11,7 @@ use Rattle.sets.specs.Sets.{all}
 use Rattle.sets.specs.Tables.{table}
 use Rattle.sets.proofs.Bools.{clash, and_l, and_r, not_e, pick_no, pick_case, every}
 use Rattle.sets.proofs.Laws.{all_at}
-use Rattle.digits.specs.declared.Digit.{Digit}
-use Rattle.digits.specs.declared.Digit.TheVariants.{Value, Foreign}
+use Rattle.std.specs.Prelude.{Option, Some, None}
 use Rattle.digits.specs.Digits.{Case, sixteen, by_case, digit_of, character_of, number_of, value_of, is_digit}
 use Rattle.digits.specs.BothWays.{BothWays}
 
@@ -53,10 +52,10 @@ all_right : every right sixteen ≡ true
 unfolding character_of by_case sixteen every right ◌and◌ pick
 all_right = refl
 
-Read : (b : ℕ) → Digit → Type 0
-Read b d = (v : ℕ) → d ≡ Value v → (v < 16) × (character_of v ≡ b)
+Read : (b : ℕ) → Option ℕ → Type 0
+Read b d = (v : ℕ) → d ≡ Some v → (v < 16) × (character_of v ≡ b)
 
-read_right : (b : ℕ) (case : Case) → right case ≡ true → b ≡ case.character → Read b (Value case.value)
+read_right : (b : ℕ) (case : Case) → right case ≡ true → b ≡ case.character → Read b (Some case.value)
 unfolding right Read
 read_right b case t e v h =
     let same : case.value ≡ v = cc in
@@ -64,25 +63,25 @@ read_right b case t e v h =
     let written : character_of case.value ≡ case.character = eqb-true (character_of case.value) case.character (and_r _ _ t) in
     (omega arith, sym (ap character_of same) ∙ written ∙ sym e)
 
-read_none : (b : ℕ) → Read b Foreign
+read_none : (b : ℕ) → Read b None
 unfolding Read
 read_none b v h = let z : ◌≡◌ {A = ℕ} 0 1 = cc in absurd (omega arith)
 
-pub out_after_in : (b v : ℕ) → digit_of b ≡ Value v → (v < 16) × (character_of v ≡ b)
+pub out_after_in : (b v : ℕ) → digit_of b ≡ Some v → (v < 16) × (character_of v ≡ b)
 unfolding digit_of Read
-out_after_in b = by_test (λ case. case.character) (λ case. Value case.value) Foreign (Read b) right b sixteen all_right (read_right b) (read_none b)
+out_after_in b = by_test (λ case. case.character) (λ case. Some case.value) None (Read b) right b sixteen all_right (read_right b) (read_none b)
 
 -- is it this digit?
-is : Digit → ℕ → Bool
-is (Value w) v = eqb w v
-is Foreign v = false
+is : Option ℕ → ℕ → Bool
+is (Some w) v = eqb w v
+is None v = false
 
-is_value : (d : Digit) (v : ℕ) → is d v ≡ true → d ≡ Value v
+is_value : (d : Option ℕ) (v : ℕ) → is d v ≡ true → d ≡ Some v
 unfolding is
-is_value (Value w) v h = ap Value (eqb-true w v h)
-is_value Foreign v h = clash h refl
+is_value (Some w) v h = ap Some (eqb-true w v h)
+is_value None v h = clash h refl
 
-pub in_after_out : (v : ℕ) → v < 16 → digit_of (character_of v) ≡ Value v
+pub in_after_out : (v : ℕ) → v < 16 → digit_of (character_of v) ≡ Some v
 unfolding all is digit_of character_of by_case sixteen ◌and◌ pick
 in_after_out v h = is_value (digit_of (character_of v)) v (all_at 16 (λ w. is (digit_of (character_of w)) w) refl v h)
 
@@ -92,13 +91,13 @@ both_ways = record { value = in_after_out; character = out_after_in; bytes = ref
 
 -- ---- what callers use
 
-pub digit_yes : (b v : ℕ) → digit_of b ≡ Value v → is_digit b ≡ true
+pub digit_yes : (b v : ℕ) → digit_of b ≡ Some v → is_digit b ≡ true
 unfolding is_digit
-digit_yes b v h = ap (λ (d : Digit). eqb (number_of d) 0) h
+digit_yes b v h = ap (λ (d : Option ℕ). eqb (number_of d) 0) h
 
-pub digit_no : (b : ℕ) → digit_of b ≡ Foreign → is_digit b ≡ false
+pub digit_no : (b : ℕ) → digit_of b ≡ None → is_digit b ≡ false
 unfolding is_digit
-digit_no b h = ap (λ (d : Digit). eqb (number_of d) 0) h
+digit_no b h = ap (λ (d : Option ℕ). eqb (number_of d) 0) h
 
 -- what is written of a value, whatever it is, does not end a line
 pub character_no_end : (v : ℕ) → character_of v ≡ 10 → ⊥
@@ -112,9 +111,9 @@ pub no_value : value_of (digit_of 0) ≡ 0
 unfolding digit_of by_case sixteen pick
 no_value = refl
 
-small : (d : Digit) → ((v : ℕ) → d ≡ Value v → v < 16) → value_of d < 16
-small (Value v) f = f v refl
-small Foreign f = omega arith
+small : (d : Option ℕ) → ((v : ℕ) → d ≡ Some v → v < 16) → value_of d < 16
+small (Some v) f = f v refl
+small None f = omega arith
 
 pub value_small : (b : ℕ) → value_of (digit_of b) < 16
 value_small b = small (digit_of b) (λ v h. (out_after_in b v h).0)

@@ -1,9 +1,7 @@
 -- Small hexadecimal digits, 0-9a-f (document 01, "Hexadecimal lines"), by the table of characters, ISO 646 (document 02, P3): sixteen cases, read from
 -- left to right on the way in and from right to left on the way out. Assumes nothing.
-use Rattle.std.specs.Prelude.{ℕ, Bool, List, [], ◌∷◌, eqb}
+use Rattle.std.specs.Prelude.{ℕ, Bool, List, [], ◌∷◌, Option, Some, None, eqb}
 use Rattle.sets.specs.Tests.{pick}
-use Rattle.digits.specs.declared.Digit.{Digit}
-use Rattle.digits.specs.declared.Digit.TheVariants.{Value, Foreign}
 
 -- a case: a character, by its number in the table of characters, and its value
 pub record Case : Type 0 where
@@ -39,23 +37,23 @@ unfoldable pub by_case : {A : Type 0} → (key : Case → ℕ) (gives : Case →
 by_case key gives other [] x = other
 by_case key gives other (case ∷ cases) x = pick (eqb x (key case)) (gives case) (by_case key gives other cases x)
 
--- in: the value of a character; every other one is foreign
-unfoldable pub digit_of : (b : ℕ) → Digit
-digit_of b = by_case (λ case. case.character) (λ case. Value case.value) Foreign sixteen b
+-- in: the value of a character; every other one is foreign, and has none
+unfoldable pub digit_of : (b : ℕ) → Option ℕ
+digit_of b = by_case (λ case. case.character) (λ case. Some case.value) None sixteen b
 
 -- out: the character of a value; 0, which is no digit, for every other one
 unfoldable pub character_of : (v : ℕ) → ℕ
 character_of v = by_case (λ case. case.value) (λ case. case.character) 0 sixteen v
 
 -- document 01's number of a foreign character, 0 for a digit
-abbrev pub number_of : Digit → ℕ
-number_of (Value v) = 0
-number_of Foreign = 1
+abbrev pub number_of : Option ℕ → ℕ
+number_of (Some v) = 0
+number_of None = 1
 
 -- the value of a digit, 0 where there is none
-abbrev pub value_of : Digit → ℕ
-value_of (Value v) = v
-value_of Foreign = 0
+abbrev pub value_of : Option ℕ → ℕ
+value_of (Some v) = v
+value_of None = 0
 
 -- a digit is a character that no number refuses
 unfoldable pub is_digit : (b : ℕ) → Bool

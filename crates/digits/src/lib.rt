@@ -5,35 +5,28 @@
 ghost use Rattle.std.specs.Prelude.{◌≡◌};
 ghost use Rattle.digits.specs.Digits.{digit_of, character_of};
 
-// What a character is: a digit of this value, or foreign, as every other one.
-#[derive(Clone, Copy)]
-pub enum Digit {
-    Value(u8),
-    Foreign,
-}
-
-// A character as a digit.
-pub fn digit_of(character: u8) -> Digit
+// The value of a character that is a digit; none of any other, which is foreign.
+pub fn digit_of(character: u8) -> Option<u8>
     ensures { result ≡ digit_of character }
 {
     match character {
-        b'0' => Digit::Value(0),
-        b'1' => Digit::Value(1),
-        b'2' => Digit::Value(2),
-        b'3' => Digit::Value(3),
-        b'4' => Digit::Value(4),
-        b'5' => Digit::Value(5),
-        b'6' => Digit::Value(6),
-        b'7' => Digit::Value(7),
-        b'8' => Digit::Value(8),
-        b'9' => Digit::Value(9),
-        b'a' => Digit::Value(10),
-        b'b' => Digit::Value(11),
-        b'c' => Digit::Value(12),
-        b'd' => Digit::Value(13),
-        b'e' => Digit::Value(14),
-        b'f' => Digit::Value(15),
-        _ => Digit::Foreign,
+        b'0' => Some(0),
+        b'1' => Some(1),
+        b'2' => Some(2),
+        b'3' => Some(3),
+        b'4' => Some(4),
+        b'5' => Some(5),
+        b'6' => Some(6),
+        b'7' => Some(7),
+        b'8' => Some(8),
+        b'9' => Some(9),
+        b'a' => Some(10),
+        b'b' => Some(11),
+        b'c' => Some(12),
+        b'd' => Some(13),
+        b'e' => Some(14),
+        b'f' => Some(15),
+        _ => None,
     }
 }
 

@@ -3,6 +3,10 @@ use Prim.Native.Nat.{ℕ, ◌^◌, ◌≤◌, ◌<◌}
 use mathlib.Core.Path.{◌≡◌, refl, sym, ap, ◌∙◌}
 use mathlib.Core.Logic.{⊎_elim}
 use mathlib.Core.Bool.{true, false, not}
+use Rattle.std.specs.Prelude.{Result, Err}
+use Rattle.std.specs.Result.{IsErrAnd}
+use Rattle.std.proofs.lemmas.Result.{err_from_is_err_and}
+use Rattle.faults.specs.declared.FaultSetError.{FaultSetError}
 use mathlib.Core.List.{[], ◌∷◌}
 use native.Mathlib.Omega.{arith}
 use lib.Dec.{eqb}
@@ -19,9 +23,14 @@ use Rattle.sets.proofs.Operations.{mem_without}
 use Rattle.quorum.specs.Quorum.{others}
 use Rattle.plan.proofs.Laws.{sound}
 use Rattle.plan.specs.declared.Plan.{Plan}
-use Rattle.plan.specs.Plan.{cause_of}
+use Rattle.plan.specs.Plan.{number_of, cause_of}
+use Rattle.plan.specs.declared.Unsound.{Unsound}
+use Rattle.plan.specs.declared.Unsound.TheVariants as unsound
 use Rattle.closure.specs.FaultSet.{is_bounded, is_fault_set, beside_source, is_shared_fault_set}
-use Rattle.faults.specs.Check.{fault_cause_of, shared_fault_cause_of}
+use Rattle.faults.specs.Check.{of_plan, fault_number_of, fault_cause_of, shared_fault_cause_of}
+
+err_of : (r : Result Unit FaultSetError) (x : FaultSetError) → IsErrAnd r (λ y. y ≡ x) → r ≡ Err x
+err_of r x k = let e = err_from_is_err_and r k in e.1 ∙ ap Err e.2
 
 module _ (p : Plan) (s : ℕ) where
   -- a fault set of a sound plan has no cause against it
@@ -46,6 +55,13 @@ module _ (p : Plan) (s : ℕ) where
   pub fault_refused : (k : ℕ) → k ≡ cause_of p → (k ≡ 0 → ⊥) → k ≡ fault_cause_of p s
   unfolding fault_cause_of
   fault_refused k e z = e ∙ sym (given_decides (cause_of p) _ (λ y. z (e ∙ y)))
+
+  -- what refuses the plan, handed on as the answer
+  pub plan_refused : (e : Unsound) (r : Result Unit FaultSetError) → IsErrAnd r (λ x. x ≡ of_plan e) → number_of (Err e) ≡ cause_of p
+      → fault_number_of r ≡ fault_cause_of p s
+  plan_refused unsound.WrongRange r k h = rw (err_of r _ k) (fault_refused 4 h (λ z. omega arith))
+  plan_refused unsound.WrongLink r k h = rw (err_of r _ k) (fault_refused 5 h (λ z. omega arith))
+  plan_refused unsound.WrongGroups r k h = rw (err_of r _ k) (fault_refused 17 h (λ z. omega arith))
 
   -- what no cause means: a sound plan, and a fault set of it
   pub fault_sound : fault_cause_of p s ≡ 0 → (cause_of p ≡ 0) × (is_fault_set p s ≡ true)

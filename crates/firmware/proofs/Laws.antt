@@ -8,8 +8,6 @@ use borrow.Author.Tests.{ne_eqb, leb-true, ltb-true, lt-ltb}
 use lib.Dec.{eqb, leb}
 use lib.ListN.{length}
 use Rattle.sets.specs.Tests.{◌and◌, pick}
-use Rattle.sets.specs.Tables.{table}
-use Rattle.sets.proofs.Tables.{table_is}
 use Rattle.sets.proofs.Bools.{pick_no, pick_case, no_by, not_i, not_yes, and_l, and_r, and_no_r}
 use Rattle.sets.proofs.Causes.{cause_here, cause_later}
 use Rattle.quorum.specs.declared.BoundKind.TheVariants.{Most, Groups}
@@ -22,12 +20,12 @@ use Rattle.terminal.specs.declared.State.TheVariants.{Waiting, Taken}
 use Rattle.terminal.specs.declared.Note.{Note}
 use Rattle.terminal.specs.declared.Record.{Record}
 use Rattle.terminal.specs.Rule.{held_by}
-use Rattle.terminal.specs.Shown.{note_of}
 use Rattle.terminal.specs.Answer.{state_sound, cause_of, record_after, issue_cause, record_issued}
+use Rattle.terminal.specs.Channel.{shared_cause_of, shared_record_after}
 use Rattle.firmware.specs.declared.BoardRecord.{BoardRecord}
 use Rattle.firmware.specs.declared.BoardAnswer.{BoardAnswer}
 use Rattle.firmware.specs.declared.BoardGroups.{BoardGroups}
-use Rattle.firmware.specs.Board.{state_of, record_of, board_with, board_of, kind_of, bound_of, answer_of, board_answer, board_issued}
+use Rattle.firmware.specs.Board.{state_of, record_of, board_with, board_of, kind_of, bound_of, answer_of, board_answer, board_shared, board_issued}
 
 -- what a board keeps of a record stands for that record, so that the answer of one call is what the next is given
 state_again : (s : State) (round : ℕ) (notes : List Note) → record_of (board_with s round notes) ≡ record { state = s; round = round; notes = notes }
@@ -38,10 +36,6 @@ state_again (Taken at notice) round notes = refl
 pub again : (r : Record) → record_of (board_of r) ≡ r
 unfolding board_of
 again r = state_again r.state r.round r.notes
-
--- twenty notes, one after the other, are the notes
-pub notes_again : (notes : List Note) → length notes ≡ 20 → table 20 (note_of notes) ≡ notes
-notes_again notes e = sym (table_is 20 (note_of notes) _ notes e (λ j k. refl))
 
 -- ---- the answers, by the terminal's
 
@@ -57,12 +51,42 @@ module _ (before : BoardRecord) (r : Record) (e : r ≡ record_of before) (numbe
       ∙ ap (λ (x : Bound). answer_of before (cause_of n source x own heard r (length said)) (record_after n source x own heard r said)) q
       ∙ ap (λ (x : Record). answer_of before (cause_of n source bound own heard x (length said)) (record_after n source bound own heard x said)) e
 
+  pub shared_answered : (n source : ℕ) (bound : Bound) (own heard default : ℕ) (said : List ℕ) (b : Bound) → b ≡ bound
+      → number ≡ shared_cause_of n source b own heard default r (length said)
+      → after ≡ shared_record_after n source b own heard default r said
+      → answer_of before number after ≡ board_shared n source bound own heard default before said
+  unfolding board_shared
+  shared_answered n source bound own heard default said b q k a =
+      ap (λ (x : ℕ). answer_of before x after) k
+      ∙ ap (λ (x : Record). answer_of before (shared_cause_of n source b own heard default r (length said)) x) a
+      ∙ ap (λ (x : Bound). answer_of before (shared_cause_of n source x own heard default r (length said)) (shared_record_after n source x own heard default r said)) q
+      ∙ ap (λ (x : Record). answer_of before (shared_cause_of n source bound own heard default x (length said)) (shared_record_after n source bound own heard default x said)) e
+
   pub issue_answered : (notice : Notice) → number ≡ issue_cause r notice → after ≡ record_issued r notice → answer_of before number after ≡ board_issued before notice
   unfolding board_issued
   issue_answered notice k a =
       ap (λ (x : ℕ). answer_of before x after) k
       ∙ ap (λ (x : Record). answer_of before (issue_cause r notice) x) a
       ∙ ap (λ (x : Record). answer_of before (issue_cause x notice) (record_issued x notice)) e
+
+  -- a refused record has come back as it went in
+  pub step_kept : (n source : ℕ) (bound : Bound) (own heard : ℕ) (said : List ℕ)
+      → number ≡ cause_of n source bound own heard r (length said)
+      → after ≡ record_after n source bound own heard r said
+      → (number ≡ 0 → ⊥) → after ≡ record_of before
+  unfolding record_after
+  step_kept n source bound own heard said k a z = a ∙ pick_no _ _ _ (ne_eqb _ 0 (λ y. z (k ∙ y))) ∙ e
+
+  pub shared_kept : (n source : ℕ) (bound : Bound) (own heard default : ℕ) (said : List ℕ)
+      → number ≡ shared_cause_of n source bound own heard default r (length said)
+      → after ≡ shared_record_after n source bound own heard default r said
+      → (number ≡ 0 → ⊥) → after ≡ record_of before
+  unfolding shared_record_after
+  shared_kept n source bound own heard default said k a z = a ∙ pick_no _ _ _ (ne_eqb _ 0 (λ y. z (k ∙ y))) ∙ e
+
+  pub issue_kept : (notice : Notice) → number ≡ issue_cause r notice → after ≡ record_issued r notice → (number ≡ 0 → ⊥) → after ≡ record_of before
+  unfolding record_issued
+  issue_kept notice k a z = a ∙ pick_no _ _ _ (ne_eqb _ 0 (λ y. z (k ∙ y))) ∙ e
 
 -- a refused record comes back as it went in, whatever the number
 pub refused : (before : BoardRecord) (number : ℕ) (after : Record) (k : ℕ) → number ≡ k → (k ≡ 0 → ⊥)
@@ -77,6 +101,20 @@ pub board_notes : (s : State) (round : ℕ) (notes : List Note) → (board_with 
 unfolding board_with
 board_notes Waiting round notes = refl
 board_notes (Taken at notice) round notes = refl
+
+board_round : (s : State) (round : ℕ) (notes : List Note) → (board_with s round notes).round ≡ round
+unfolding board_with
+board_round Waiting round notes = refl
+board_round (Taken at notice) round notes = refl
+
+-- a board's record, of which all but its state comes from what it stood for
+pub kept_board : (before x : BoardRecord) (r : Record) → x ≡ board_of r → r ≡ record_of before
+    → record { taken = before.taken; at = before.at; round = x.round; notice = before.notice; notes = x.notes } ≡ before
+unfolding board_of record_of
+kept_board before x r e k =
+    let q = ap (λ (y : BoardRecord). y.round) e ∙ board_round r.state r.round r.notes ∙ ap (λ (y : Record). y.round) k in
+    let p = ap (λ (y : BoardRecord). y.notes) e ∙ board_notes r.state r.round r.notes ∙ ap (λ (y : Record). y.notes) k in
+    λ i. record { taken = before.taken; at = before.at; round = q i; notice = before.notice; notes = p i }
 
 answer_notes : (before : BoardRecord) (number : ℕ) (after : Record) → after.notes ≡ before.notes → (answer_of before number after).after.notes ≡ before.notes
 unfolding answer_of board_of

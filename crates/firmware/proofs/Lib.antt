@@ -1,3 +1,2 @@
--- The laws of a board's record, and of the step on a shared channel.
+-- The laws of a board's record.
 pub mod Laws
-mod Shared

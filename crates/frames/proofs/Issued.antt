@@ -7,6 +7,7 @@ use mathlib.Core.List.{List}
 use native.Mathlib.Omega.{arith}
 use lib.ListN.{length, get_or, set, replicate, length-set, length-replicate, get_or-replicate, get_or-eq_default}
 use borrow.Author.Tests.{ltb-true}
+use Rattle.std.specs.Prelude.{Option}
 use Rattle.sets.proofs.Laws.{below_or_not}
 use Rattle.quorum.specs.Notice.{notice_of, edition_of, layout_of, silent, rising}
 use Rattle.quorum.specs.Words.{most_rounds, most_words, start_sound, place_of, shared_place_of}
@@ -14,7 +15,6 @@ use Rattle.quorum.proofs.Notices.{edition_notice, layout_notice, said_i}
 use Rattle.quorum.proofs.Words.{start_parts}
 use Rattle.lines.specs.declared.Form.{Form}
 use Rattle.lines.specs.declared.Form.TheVariants.{Old, New}
-use Rattle.lines.specs.declared.Rounds.{Rounds}
 use Rattle.lines.specs.declared.Frame.{Frame}
 use Rattle.lines.specs.declared.Frame.TheVariants.{Foreign, Unknown, Head, Link, Group, Channel, FaultSet, Start, Later, Message, Broadcast}
 use Rattle.lines.specs.Frames.{fits, paired}
@@ -53,7 +53,7 @@ module _ (p : Progress) (said : Lists) (i : Issued p said) where
   early q s t d = record { places = i.places; entries = i.entries; before = λ h. i.before s; first = λ h. absurd (omega arith); small = d }
 
   -- the start
-  module _ (form : Form) (edition layout : ℕ) (rounds : Rounds) (f : paired form edition layout ≡ true)
+  module _ (form : Form) (edition layout : ℕ) (rounds : Option ℕ) (f : paired form edition layout ≡ true)
       (h : cause_in p said (Start form edition layout rounds) ≡ 0) where
     start_first : First (after p (Start form edition layout rounds)) said.later
     unfolding after

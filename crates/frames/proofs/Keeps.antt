@@ -8,6 +8,7 @@ use native.Mathlib.Omega.{arith}
 use lib.Dec.{eqb, leb}
 use lib.ListN.{length, length-append}
 use borrow.Author.Tests.{eq-eqb, ne_eqb, eqb-true, eqb-false, ltb-true, leb-true, leb-false}
+use Rattle.std.specs.Prelude.{Option}
 use Rattle.sets.specs.Tests.{◌and◌, ◌or◌}
 use Rattle.sets.specs.Causes.{◌gives◌, first_cause}
 use Rattle.sets.proofs.Bools.{clash, and_l, and_r, and_i, and_yes, or_l, or_r, or_e, not_i, not_yes, not_no, pick_case}
@@ -18,7 +19,6 @@ use Rattle.quorum.specs.Words.{start_sound}
 use Rattle.plan.specs.Plan.{hears}
 use Rattle.lines.specs.declared.Form.{Form}
 use Rattle.lines.specs.declared.Form.TheVariants.{Old, New}
-use Rattle.lines.specs.declared.Rounds.{Rounds}
 use Rattle.lines.specs.declared.Frame.{Frame}
 use Rattle.lines.specs.declared.Frame.TheVariants.{Foreign, Unknown, Head, Link, Group, Channel, FaultSet, Start, Later, Message, Broadcast}
 use Rattle.lines.specs.Frames.{frame_of, fits}
@@ -137,7 +137,7 @@ module _ (p : Progress) (said : Lists) where
       let e = set_stage p (not_no _ a.0) in
       (e.0, e.1, row_none (bad_set_cause p s) a.1)
 
-  pub start_accepted : (form : Form) (edition layout : ℕ) (rounds : Rounds) → cause_in p said (Start form edition layout rounds) ≡ 0
+  pub start_accepted : (form : Form) (edition layout : ℕ) (rounds : Option ℕ) → cause_in p said (Start form edition layout rounds) ≡ 0
       → (stage_of p.stage ≡ 4) × (start_sound layout (rounds_of p.plan.n rounds) ≡ true) × (edition ≡ 0 → ⊥) × (is_shared p ≡ true → form ≡ Old)
   unfolding cause_in start_cause
   start_accepted form edition layout rounds h =

@@ -6,8 +6,8 @@ use native.Mathlib.Nat.{sub_self}
 use native.Mathlib.Numerals.{add-one}
 use native.Mathlib.Omega.{arith}
 use lib.Dec.{eqb}
-use lib.ListN.{length, get_or, take, drop, set, length-take, length-drop, length-replicate, drop_of_length-le}
-use lib.Seq.{drop-cons, take-suc, take-suc-set, get_or-drop}
+use lib.ListN.{length, get_or, take, drop, length-take, length-drop, length-replicate, drop_of_length-le}
+use lib.Seq.{drop-cons, take-suc, get_or-drop}
 use borrow.Author.Tests.{eq-eqb, ne_eqb, le-leb}
 use Rattle.sets.specs.Tests.{pick}
 use Rattle.sets.proofs.Bools.{and_i, pick_yes, pick_no}
@@ -15,21 +15,36 @@ use Rattle.quorum.specs.Quorum.{most_terminals}
 use Rattle.quorum.specs.Words.{most_rounds, most_words}
 use Rattle.lines.specs.declared.Frame.{Frame}
 use Rattle.lines.specs.Frames.{frame_of}
+use Rattle.frames.specs.declared.cause.Cause.{Cause}
+use Rattle.frames.specs.declared.cause.Cause.TheVariants.{Foreign, Unknown, OutOfPlace, WrongRange, WrongLink, LinkTwice, WrongMember, OverBound, WrongNotice, WrongWord, WordTwice, WrongRoom, TooMany, Deaf, WrongEdition, WrongGroups}
 use Rattle.frames.specs.declared.Progress.{Progress}
 use Rattle.frames.specs.declared.Reader.{Reader}
 use Rattle.frames.specs.declared.Cursor.{Cursor}
-use Rattle.frames.specs.declared.FileRead.{FileRead}
 use Rattle.frames.specs.Lines.{ended, last_line, lines_from}
-use Rattle.frames.specs.Reading.{most_bytes, nothing_read, Lists, nothing_said, line_cause, links_cause, end_cause, after, said_after, Reading, refusal, unless, told, reading, file_read}
+use Rattle.frames.specs.Reading.{most_bytes, nothing_read, Lists, nothing_said, line_cause, links_cause, end_cause, after, said_after, Reading, refusal, unless, told, reading}
+use Rattle.frames.specs.Causes.{number}
 use Rattle.frames.specs.Pass.{current, ahead, Going}
 use Rattle.frames.proofs.Unless.{unless_none, unless_some}
 use Rattle.frames.proofs.TellLaws.{kept_next}
 
--- ---- a copy, one word a turn
-
-pub copied : (from to : List ℕ) (i : ℕ) → i < length from → i < length to → take i to ≡ take i from
-    → take (i + 1) (set to i (get_or from i 0)) ≡ take (i + 1) from
-copied from to i f t e = rw (add-one, take-suc-set to i (get_or from i 0), take-suc from i 0) (ap (λ (l : List ℕ). l ++ (get_or from i 0 ∷ [])) e)
+-- every cause has a number
+pub numbered : (cause : Cause) → number cause ≡ 0 → ⊥
+numbered Foreign z = absurd (omega arith)
+numbered Unknown z = absurd (omega arith)
+numbered OutOfPlace z = absurd (omega arith)
+numbered WrongRange z = absurd (omega arith)
+numbered WrongLink z = absurd (omega arith)
+numbered LinkTwice z = absurd (omega arith)
+numbered WrongMember z = absurd (omega arith)
+numbered OverBound z = absurd (omega arith)
+numbered WrongNotice z = absurd (omega arith)
+numbered WrongWord z = absurd (omega arith)
+numbered WordTwice z = absurd (omega arith)
+numbered WrongRoom z = absurd (omega arith)
+numbered TooMany z = absurd (omega arith)
+numbered Deaf z = absurd (omega arith)
+numbered WrongEdition z = absurd (omega arith)
+numbered WrongGroups z = absurd (omega arith)
 
 -- ---- the line that the pass is in
 
@@ -145,11 +160,10 @@ starts reader text p said h e =
     ∙ sym (pick_yes _ _ _ (and_i _ _ (le-leb 1 (length text) h.0) (le-leb (length text) most_bytes h.1)))
 
 pub going_starts : (reader : Reader) (text : List ℕ) (p : Progress) (said : Lists) → (1 ≤ length text) × (length text ≤ most_bytes) × (said ≡ nothing_said)
-    → p ≡ nothing_read → Going reader text said (record { progress = p; line = 1; from = 0; cause = 0 }) 0
+    → p ≡ nothing_read → Going reader text said (record { progress = p; line = 1; from = 0 }) 0
 going_starts reader text p said h e =
     let s = starts_small p e in
     record {
-      accepted = refl;
       begun = omega arith;
       within = omega arith;
       counted = omega arith;
@@ -166,7 +180,6 @@ module _ (reader : Reader) (text : List ℕ) (said : Lists) (at : Cursor) (i : �
   -- it is one more of the line
   pub pass_grows : (get_or text i 0 ≡ 10 → ⊥) → Going reader text said at (i + 1)
   pass_grows h = record {
-    accepted = g.accepted;
     begun = omega (arith, g.begun);
     within = omega arith;
     counted = g.counted;
@@ -190,11 +203,10 @@ module _ (reader : Reader) (text : List ℕ) (said : Lists) (at : Cursor) (i : �
       pub pass_told : (next : Progress) (last : Lists) → cause ≡ 0 → next ≡ after at.progress frame
           → last ≡ pick (eqb cause 0) (said_after at.progress said frame) said
           → length last.words ≡ length said.words → length last.later ≡ length said.later
-          → Going reader text last (record { progress = next; line = at.line + 1; from = i + 1; cause = 0 }) (i + 1)
+          → Going reader text last (record { progress = next; line = at.line + 1; from = i + 1 }) (i + 1)
       pass_told next last z q w l m =
           let small = kept_next reader.heads at.progress said g.twenty g.forty frame cause next e z q in
           record {
-            accepted = refl;
             begun = omega arith;
             within = omega arith;
             counted = omega (arith, g.counted, g.begun);
@@ -206,14 +218,3 @@ module _ (reader : Reader) (text : List ℕ) (said : Lists) (at : Cursor) (i : �
                 sym (line_told reader text at.progress said at.line at.from i k h frame f end d o cause e next last z q w)
                 ∙ g.same;
           }
-
--- ---- what comes back
-
-pub file_refused : (r : FileRead) (number line : ℕ) (file : Reading) (said : Lists) → r ≡ record { number = number; line = line; progress = nothing_read }
-    → file ≡ refusal number line → (number ≡ 0 → ⊥) → (r ≡ file_read file) × (r.number ≡ 0 → said ≡ file.said)
-file_refused r number line file said e h n =
-    (e ∙ sym (ap (λ (x : Reading). file_read x) h), λ z. absurd (n (sym (ap (λ (x : FileRead). x.number) e) ∙ z)))
-
-pub file_told : (r : FileRead) (p : Progress) (file : Reading) (said : Lists) → r ≡ record { number = 0; line = 0; progress = p }
-    → file ≡ record { number = 0; line = 0; progress = p; said = said } → (r ≡ file_read file) × (r.number ≡ 0 → said ≡ file.said)
-file_told r p file said e h = (e ∙ sym (ap (λ (x : Reading). file_read x) h), λ z. sym (ap (λ (x : Reading). x.said) h))

@@ -7,10 +7,10 @@ use mathlib.Core.Bool.{false}
 use mathlib.Core.List.{List, [], ◌∷◌}
 use native.Mathlib.Omega.{arith}
 use borrow.Author.Tests.{eq-eqb}
+use Rattle.std.specs.Prelude.{Option}
 use Rattle.sets.proofs.Bools.{not_yes}
 use Rattle.quorum.specs.Notice.{notice_of}
 use Rattle.lines.specs.declared.Form.{Form}
-use Rattle.lines.specs.declared.Rounds.{Rounds}
 use Rattle.lines.specs.declared.Frame.{Frame}
 use Rattle.lines.specs.declared.Frame.TheVariants.{Foreign, Unknown, Head, Link, Group, Channel, FaultSet, Start, Later, Message, Broadcast}
 use Rattle.lines.specs.Frames.{frame_of}
@@ -25,10 +25,10 @@ use Rattle.frames.proofs.Accepted.{run_is}
 -- ---- the start
 
 -- what is known has this notice, the rounds that are meant, and this form
-abbrev pub Started : Form → (edition layout : ℕ) → Rounds → Progress → Type 0
+abbrev pub Started : Form → (edition layout : ℕ) → Option ℕ → Progress → Type 0
 Started form edition layout rounds p = (p.notice ≡ notice_of edition layout) × (p.rounds ≡ rounds_of p.plan.n rounds) × (p.form ≡ form)
 
-module _ (reader : Reader) (form : Form) (edition layout : ℕ) (rounds : Rounds) where
+module _ (reader : Reader) (form : Form) (edition layout : ℕ) (rounds : Option ℕ) where
   abbrev Known : Progress → Type 0
   Known p = (5 ≤ stage_of p.stage) × Started form edition layout rounds p
 
@@ -71,7 +71,7 @@ module _ (reader : Reader) (form : Form) (edition layout : ℕ) (rounds : Rounds
       text_read reader text (λ (r : Reading). Started form edition layout rounds r.progress)
       (λ one. told_starts nothing_read nothing_said 1 (lines_from [] text) t)
 
-pub run_starts : (text : List ℕ) → (run_reading text).number ≡ 0 → (form : Form) (edition layout : ℕ) (rounds : Rounds)
+pub run_starts : (text : List ℕ) → (run_reading text).number ≡ 0 → (form : Form) (edition layout : ℕ) (rounds : Option ℕ)
     → Tells run_kinds (Start form edition layout rounds) (lines_from [] text) → Started form edition layout rounds (run_reading text).progress
 run_starts text h form edition layout rounds t =
     let e = run_is text h in

@@ -1,6 +1,6 @@
 -- A file read line by line: what each frame does, and the causes for which it is refused (document 01, the table of causes, with document 02's).
 -- Assumes nothing.
-use Rattle.std.specs.Prelude.{ℕ, ◌+◌, ◌-◌, ◌^◌, Bool, true, false, not, List, [], ◌∷◌, eqb, leb, ltb, length, get_or, set, replicate}
+use Rattle.std.specs.Prelude.{ℕ, ◌+◌, ◌-◌, ◌^◌, Bool, true, false, not, Option, Some, None, List, [], ◌∷◌, eqb, leb, ltb, length, get_or, set, replicate}
 use Rattle.sets.specs.Tests.{◌and◌, ◌or◌, pick}
 use Rattle.sets.specs.Causes.{◌gives◌, first_cause, given}
 use Rattle.sets.specs.Sets.{Terminal, Set, mem, with}
@@ -15,16 +15,12 @@ use Rattle.plan.specs.Deaf.{deaf_set}
 use Rattle.faults.specs.Check.{fault_cause_of, shared_fault_cause_of}
 use Rattle.lines.specs.declared.Form.{Form}
 use Rattle.lines.specs.declared.Form.TheVariants.{Old, New}
-use Rattle.lines.specs.declared.Rounds.{Rounds}
-use Rattle.lines.specs.declared.Rounds.TheVariants.{Given, Left}
 use Rattle.lines.specs.declared.Frame.{Frame}
 use Rattle.lines.specs.declared.Frame.TheVariants.{Foreign, Unknown, Head, Link, Group, Channel, FaultSet, Start, Later, Message, Broadcast}
 use Rattle.lines.specs.Frames.{frame_of, number_of}
 use Rattle.frames.specs.declared.Stage.{Stage}
 use Rattle.frames.specs.declared.Stage.TheVariants.{Nothing, Links, Grouped, Shared, Faults, Started, Words}
 use Rattle.frames.specs.declared.Progress.{Progress}
-use Rattle.frames.specs.declared.FileRead.{FileRead}
-use Rattle.frames.specs.declared.ArchiveRead.{ArchiveRead}
 use Rattle.frames.specs.declared.Heads.{Heads}
 use Rattle.frames.specs.declared.Reader.{Reader}
 use Rattle.frames.specs.Lines.{Line, ended, cut, lines_from}
@@ -161,9 +157,9 @@ lists_none (Most f) = false
 lists_none (Groups count) = eqb count 0
 
 -- the rounds that a start frame means on n terminals: those of its rounds byte, and without it n - 1 (document 02, P2)
-abbrev pub rounds_of : (n : ℕ) → Rounds → ℕ
-rounds_of n (Given rounds) = rounds
-rounds_of n Left = n - 1
+abbrev pub rounds_of : (n : ℕ) → Option ℕ → ℕ
+rounds_of n (Some rounds) = rounds
+rounds_of n None = n - 1
 
 -- ---- the number of the first cause that refuses a frame, 0 for none
 
@@ -194,7 +190,7 @@ unfoldable pub fault_set_cause : Progress → (s : Set) → ℕ
 fault_set_cause p s = first_cause (not (in_plan p or is_at Shared p) gives 3 ∷ given (bad_set_cause p s) ∷ [])
 
 -- 2: there was a start of the other form, or it has an edition on a shared channel; 16: edition 0 (document 02, P8)
-unfoldable pub start_cause : Progress → Form → Edition → Layout → Rounds → ℕ
+unfoldable pub start_cause : Progress → Form → Edition → Layout → Option ℕ → ℕ
 start_cause p form edition layout rounds =
     first_cause
     (wrong_form p form (has_edition form) gives 2
@@ -439,7 +435,17 @@ drawing_reading text = reading drawing_reader text
 unfoldable pub run_reading : (text : List ℕ) → Reading
 run_reading text = whole (reading run_reader text)
 
--- what a caller gets beside the lists
+-- what a caller gets beside the lists: the number of a refusal and its line, 0 and 0 where the file is read; beside them a refused file gives only zeros
+pub record FileRead : Type 0 where
+  pub number : ℕ
+  pub line : ℕ
+  pub progress : Progress
+
+-- what the archive's caller gets: the deaf terminals too
+pub record ArchiveRead : Type 0 where
+  pub file : FileRead
+  pub deaf : ℕ
+
 abbrev pub file_read : Reading → FileRead
 file_read r = record { number = r.number; line = r.line; progress = r.progress }
 

@@ -10,23 +10,12 @@ fn is_deaf(p: Plan, b: usize) -> bool
     requires { b < most_terminals }
     ensures { result ≡ is_deaf p b }
 {
-    let rows = p.rows;
-    if b == p.source {
-        return false;
-    }
-    rows[b] == 0
+    b != p.source && p.rows[b] == 0
 }
 
 pub(crate) fn deaf_set(p: Plan) -> u32
     requires { p.n ≤ most_terminals }
     ensures { result ≡ deaf_set p }
 {
-    let mut found: u32 = 0;
-    let mut b: usize = 0;
-    while b < p.n {
-        let one = is_deaf(p, b) as u32;
-        found = found | (one << b);
-        b += 1;
-    }
-    found
+    sets::those(p.n, |b| is_deaf(p, b))
 }

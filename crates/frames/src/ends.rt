@@ -2,12 +2,14 @@
 ghost use Rattle.std.specs.Prelude.{◌≡◌, ◌≤◌};
 ghost use Rattle.quorum.specs.Quorum.{most_terminals};
 ghost use Rattle.frames.specs.Reading.{lists_none, ends_links, links_cause, end_cause};
+ghost use Rattle.frames.specs.Causes.{refused_by};
 
+use super::cause::Cause;
 use super::{Progress, Reader, deaf, in_plan, told};
 use lines::Frame;
 use quorum::BoundKind;
 
-// A frame that could be read, and is no link, nor a group where groups are listed.
+// A frame that could be read, and is no link, nor a group where groups are listed: arm by arm as the definition has it.
 fn ends_links(kind: BoundKind, frame: Frame) -> bool
     ensures { result ≡ ends_links kind frame }
 {
@@ -30,44 +32,34 @@ fn ends_links(kind: BoundKind, frame: Frame) -> bool
 fn lists_none(kind: BoundKind) -> bool
     ensures { result ≡ lists_none kind }
 {
-    match kind {
-        BoundKind::Most(_) => false,
-        BoundKind::Groups(count) => count == 0,
-    }
+    matches!(kind, BoundKind::Groups(0))
 }
 
-// The cause that refuses the plan as links and groups have it, 0 for none.
-pub(crate) fn links_cause(reader: Reader, p: Progress) -> u8
-    requires { p.plan.n ≤ most_terminals }
-    ensures { result ≡ links_cause reader p }
+// What refuses the plan as links and groups have it.
+pub(crate) fn links_cause(reader: Reader, p: &Progress) -> Result<(), Cause>
+    requires { p.now.plan.n ≤ most_terminals }
+    ensures { refused_by result ≡ links_cause reader p.now }
 {
-    let plan = p.plan;
-    let bound = plan.bound;
-    let kind = bound.kind;
-    if in_plan(p) {
-        if lists_none(kind) {
-            return 17;
-        }
-        if reader.archive {
-            return 0;
-        }
-        if deaf::deaf_set(plan) != 0 {
-            return 15;
-        }
+    if !in_plan(p) {
+        return Ok(());
     }
-    0
+    if lists_none(p.plan.bound.kind) {
+        return Err(Cause::WrongGroups);
+    }
+    if !reader.archive && deaf::deaf_set(p.plan) != 0 {
+        return Err(Cause::Deaf);
+    }
+    Ok(())
 }
 
 // The same where a line with this frame follows.
-pub(crate) fn end_cause(reader: Reader, p: Progress, frame: Frame) -> u8
-    requires { p.plan.n ≤ most_terminals }
-    ensures { result ≡ end_cause reader p frame }
+pub(crate) fn end_cause(reader: Reader, p: &Progress, frame: Frame) -> Result<(), Cause>
+    requires { p.now.plan.n ≤ most_terminals }
+    ensures { refused_by result ≡ end_cause reader p.now frame }
 {
-    let plan = p.plan;
-    let bound = plan.bound;
-    let kind = bound.kind;
-    if ends_links(kind, frame) {
-        return links_cause(reader, p);
+    if ends_links(p.plan.bound.kind, frame) {
+        links_cause(reader, p)
+    } else {
+        Ok(())
     }
-    0
 }

@@ -1,15 +1,18 @@
 // Hexadecimal lines: the readers of plan files, new ones, those of the archive, of the quoting desk, of
 // margins and of drawings, and of run files.
-#![tactic(auto)]
+#![tactic(auto, using(crate::proofs::Rules::tests), unfolding(plan::specs::Plan::heard_by, plan::specs::Deaf::is_deaf, plan::specs::Deaf::deaf_set, crate::specs::Reading::plan_reading, crate::specs::Reading::archive_reading, crate::specs::Reading::quote_reading, crate::specs::Reading::margins_reading, crate::specs::Reading::drawing_reading, crate::specs::Reading::is_at, crate::specs::Reading::in_plan, crate::specs::Reading::is_started, crate::specs::Reading::other_form, crate::specs::Reading::is_shared, crate::specs::Reading::wrong_form, crate::specs::Reading::ends_links, crate::specs::Reading::links_cause, crate::specs::Reading::end_cause))]
 
+mod cause;
 mod deaf;
 mod ends;
 mod told;
 
-ghost use Rattle.std.specs.Prelude.{◌≡◌, ◌+◌, ◌<◌, ◌≤◌, length};
-ghost use Rattle.frames.specs.Reading.{most_bytes, plan_kinds, stage_of, form_of, has_edition, is_at, in_plan, is_started, other_form, is_shared, wrong_form, unstarted, planned, nothing_read, both, nothing_said, refusal, reading, plan_reading, archive_reading, quote_reading, margins_reading, drawing_reading, file_read, archive_read, run_file, words_read, later_read};
-ghost use Rattle.frames.specs.Pass.{Going};
+ghost use Rattle.std.specs.Prelude.{◌≡◌, ◌+◌, ◌<◌, ◌≤◌, length, get_or, MatchResult};
+ghost use Rattle.frames.specs.Reading.{most_bytes, plan_kinds, has_edition, is_at, in_plan, is_started, other_form, is_shared, wrong_form, unstarted, planned, nothing_read, both, nothing_said, refusal, reading, plan_reading, archive_reading, quote_reading, margins_reading, drawing_reading, file_read, archive_read, run_file, words_read, later_read};
+ghost use Rattle.frames.specs.Causes.{number, answer, archive_answer};
+ghost use Rattle.frames.specs.Pass.{Going, reading_of};
 
+pub use cause::Cause;
 use lines::Form;
 use plan::Plan;
 use quorum::{Bound, BoundKind};
@@ -49,7 +52,7 @@ pub struct Reader {
 
 // How far a file was read: nothing; the head and perhaps links; groups too; the default layout of a
 // shared channel too; the fault set too; the start too and perhaps later notices; words too.
-#[derive(Clone, Copy)]
+#[derive(Clone, Copy, Debug, PartialEq, Eq)]
 pub enum Stage {
     Nothing,
     Links,
@@ -77,92 +80,51 @@ pub struct Progress {
     pub default: u16,
 }
 
-// The number of a refusal and its line, 0 and 0 where the file is read. A refused file gives only
-// zeros beside them.
+// Why a file is refused, and its line: 0 for the whole file, as where the links are refused.
 #[derive(Clone, Copy)]
-pub struct FileRead {
-    pub number: u8,
+pub struct Refusal {
+    pub cause: Cause,
     pub line: u16,
-    pub progress: Progress,
 }
 
-// What the reader of the archive answers: the deaf terminals too.
+// What the reader of the archive gives of a file: the deaf terminals too.
 #[derive(Clone, Copy)]
-pub struct ArchiveRead {
-    pub file: FileRead,
+pub struct Archived {
+    pub progress: Progress,
     pub deaf: u32,
 }
 
-// The stages in their order.
-fn order(stage: Stage) -> u8
-    ensures { result ≡ stage_of stage }
+pub(crate) fn is_at(stage: Stage, p: &Progress) -> bool
+    ensures { result ≡ is_at stage p.now }
 {
-    match stage {
-        Stage::Nothing => 0,
-        Stage::Links => 1,
-        Stage::Grouped => 2,
-        Stage::Shared => 3,
-        Stage::Faults => 4,
-        Stage::Started => 5,
-        Stage::Words => 6,
-    }
-}
-
-// The two forms as numbers.
-fn form_of(form: Form) -> u8
-    ensures { result ≡ form_of form }
-{
-    match form {
-        Form::Old => 0,
-        Form::New => 1,
-    }
-}
-
-pub(crate) fn is_at(stage: Stage, p: Progress) -> bool
-    ensures { result ≡ is_at stage p }
-{
-    let now = p.stage;
-    order(now) == order(stage)
+    p.stage == stage
 }
 
 // After the head, and while nothing but links and groups has followed.
-pub(crate) fn in_plan(p: Progress) -> bool
-    ensures { result ≡ in_plan p }
+pub(crate) fn in_plan(p: &Progress) -> bool
+    ensures { result ≡ in_plan p.now }
 {
-    if is_at(Stage::Links, p) {
-        return true;
-    }
-    is_at(Stage::Grouped, p)
+    is_at(Stage::Links, p) || is_at(Stage::Grouped, p)
 }
 
 // From the start on.
-pub(crate) fn is_started(p: Progress) -> bool
-    ensures { result ≡ is_started p }
+pub(crate) fn is_started(p: &Progress) -> bool
+    ensures { result ≡ is_started p.now }
 {
-    if is_at(Stage::Started, p) {
-        return true;
-    }
-    is_at(Stage::Words, p)
+    is_at(Stage::Started, p) || is_at(Stage::Words, p)
 }
 
 // The start was of the other form.
-fn other_form(p: Progress, form: Form) -> bool
-    ensures { result ≡ other_form p form }
+fn other_form(p: &Progress, form: Form) -> bool
+    ensures { result ≡ other_form p.now form }
 {
-    let known = p.form;
-    if is_started(p) {
-        return form_of(form) != form_of(known);
-    }
-    false
+    is_started(p) && form != p.form
 }
 
 pub(crate) fn has_edition(form: Form) -> bool
     ensures { result ≡ has_edition form }
 {
-    match form {
-        Form::Old => false,
-        Form::New => true,
-    }
+    form == Form::New
 }
 
 // One channel is shared by all: a default layout was given.
@@ -173,16 +135,10 @@ pub fn is_shared(p: Progress) -> bool
 }
 
 // The start was of the other form, or the channel is shared and the frame is barred from such a one.
-pub(crate) fn wrong_form(p: Progress, form: Form, barred: bool) -> bool
-    ensures { result ≡ wrong_form p form barred }
+pub(crate) fn wrong_form(p: &Progress, form: Form, barred: bool) -> bool
+    ensures { result ≡ wrong_form p.now form barred }
 {
-    if other_form(p, form) {
-        return true;
-    }
-    if is_shared(p) {
-        return barred;
-    }
-    false
+    other_form(p, form) || (is_shared(*p) && barred)
 }
 
 // What is known before the start, on a channel with this default layout.
@@ -190,15 +146,15 @@ pub(crate) fn unstarted(stage: Stage, plan: Plan, faulty: u32, default: u16) -> 
     ensures { result ≡ unstarted stage plan faulty default }
 {
     Progress {
-        stage: stage,
-        plan: plan,
-        faulty: faulty,
+        stage,
+        plan,
+        faulty,
         form: Form::Old,
         notice: 0,
         rounds: 0,
         issued: 0,
         edition: 0,
-        default: default,
+        default,
     }
 }
 
@@ -209,9 +165,8 @@ pub(crate) fn planned(stage: Stage, plan: Plan, faulty: u32) -> Progress
     unstarted(stage, plan, faulty, 0)
 }
 
-// A refused file: its number and line, and only zeros beside them.
-fn refusal(number: u8, line: u16) -> FileRead
-    ensures { result ≡ record { number = number; line = line; progress = nothing_read } }
+fn nothing_read() -> Progress
+    ensures { result ≡ nothing_read }
 {
     let plan = Plan {
         n: 0,
@@ -222,194 +177,158 @@ fn refusal(number: u8, line: u16) -> FileRead
         },
         rows: [0u32; 20],
     };
-    FileRead {
-        number: number,
-        line: line,
-        progress: planned(Stage::Nothing, plan, 0),
-    }
+    planned(Stage::Nothing, plan, 0)
 }
 
-// Where the pass over a file's bytes stands: what is known, the line's number and its first byte; and
-// the cause that refused the line before, 0 for none. Where the links are refused the number is 0.
+// Where the pass over a file's bytes stands: what is known, the line's number and its first byte.
 #[derive(Clone, Copy)]
 struct Cursor {
     progress: Progress,
     line: u16,
     from: usize,
-    cause: u8,
 }
 
-// The byte at i: it ends a line, where the links may end too and whose frame is then told, or it is
-// one more of the line.
+// The line that ends at i: the links may end before it, and its frame is told.
 fn pass(
     reader: Reader,
     text: &[u8],
     words: &mut [u32],
     later: &mut [u32],
-    at: Cursor,
+    at: &mut Cursor,
     i: usize,
-) -> Cursor
-    requires { Going reader text.now (both words.old later.old) at i × (i < length text.now) × (length text.now ≤ most_bytes) }
-    ensures going { result.cause ≡ 0 → Going reader text.now (both words.new later.new) result (i + 1) }
-    ensures refused { (result.cause ≡ 0 → ⊥) → reading reader text.now ≡ refusal result.cause result.line }
+) -> Result<(), Refusal>
+    requires { Going reader text.now (both words.old later.old) at.old i × (i < length text.now) × (length text.now ≤ most_bytes) × (get_or text.now i 0 ≡ 10) }
+    ensures { MatchResult result (λ _. Going reader text.now (both words.new later.new) at.new (i + 1)) (λ e. reading reader text.now ≡ refusal (number e.cause) e.line) }
 {
-    if text[i] == 10 {
-        let from = at.from;
-        let known = at.progress;
-        let frame = lines::frame_of(reader.kinds, &text[from..i]);
-        let end = ends::end_cause(reader, known, frame);
-        if end != 0 {
-            return Cursor {
-                progress: known,
-                line: 0,
-                from: from,
-                cause: end,
-            };
-        }
-        let told = told::tell(reader.heads, known, words, later, frame);
-        if told.cause != 0 {
-            return Cursor {
-                progress: known,
-                line: at.line,
-                from: from,
-                cause: told.cause,
-            };
-        }
-        let next = told.progress;
-        return Cursor {
-            progress: next,
-            line: at.line + 1,
-            from: i + 1,
-            cause: 0,
-        };
+    let frame = lines::frame_of(reader.kinds, &text[at.from..i]);
+    if let Err(cause) = ends::end_cause(reader, &at.progress, frame) {
+        return Err(Refusal { cause, line: 0 });
     }
-    at
+    match told::tell(reader.heads, &mut at.progress, words, later, frame) {
+        Ok(()) => {
+            at.line += 1;
+            at.from = i + 1;
+            Ok(())
+        }
+        Err(cause) => Err(Refusal {
+            cause,
+            line: at.line,
+        }),
+    }
 }
 
 // The lines of a file of fitting length, from the first: each is told as its end is met.
-fn read_lines(reader: Reader, text: &[u8], words: &mut [u32], later: &mut [u32]) -> FileRead
+fn read_lines(
+    reader: Reader,
+    text: &[u8],
+    words: &mut [u32],
+    later: &mut [u32],
+) -> Result<Progress, Refusal>
     requires { (1 ≤ length text.now) × (length text.now ≤ most_bytes) × (both words.old later.old ≡ nothing_said) }
-    ensures { (result ≡ file_read (reading reader text.now)) × (result.number ≡ 0 → both words.new later.new ≡ (reading reader text.now).said) }
+    ensures { reading reader text.now ≡ reading_of result (both words.new later.new) }
 {
-    let nothing = refusal(0, 0);
-    let start = nothing.progress;
     let mut at = Cursor {
-        progress: start,
+        progress: nothing_read(),
         line: 1,
         from: 0,
-        cause: 0,
     };
-    let mut i = 0;
-    while i < text.len() {
-        at = pass(reader, text, words, later, at, i);
-        if at.cause != 0 {
-            return refusal(at.cause, at.line);
+    for i in 0..text.len() {
+        if text[i] != 10 {
+            continue;
         }
-        i += 1;
+        pass(reader, text, words, later, &mut at, i)?;
     }
-    if at.from < i {
-        return refusal(1, at.line);
+    if at.from < text.len() {
+        return Err(Refusal {
+            cause: Cause::Foreign,
+            line: at.line,
+        });
     }
-    let end = ends::links_cause(reader, at.progress);
-    if end != 0 {
-        return refusal(end, 0);
-    }
-    let progress = at.progress;
-    FileRead {
-        number: 0,
-        line: 0,
-        progress: progress,
+    match ends::links_cause(reader, &at.progress) {
+        Ok(()) => Ok(at.progress),
+        Err(cause) => Err(Refusal { cause, line: 0 }),
     }
 }
 
 // The file's own length is looked at first of all.
-fn read(reader: Reader, text: &[u8], words: &mut [u32], later: &mut [u32]) -> FileRead
+fn read(
+    reader: Reader,
+    text: &[u8],
+    words: &mut [u32],
+    later: &mut [u32],
+) -> Result<Progress, Refusal>
     requires { both words.old later.old ≡ nothing_said }
-    ensures { (result ≡ file_read (reading reader text.now)) × (result.number ≡ 0 → both words.new later.new ≡ (reading reader text.now).said) }
+    ensures { reading reader text.now ≡ reading_of result (both words.new later.new) }
 {
-    if text.len() < 1 {
-        return refusal(1, 0);
-    }
-    if MOST_BYTES < text.len() {
-        return refusal(1, 0);
+    if text.is_empty() || MOST_BYTES < text.len() {
+        return Err(Refusal {
+            cause: Cause::Foreign,
+            line: 0,
+        });
     }
     read_lines(reader, text, words, later)
 }
 
 // A plan file, by a reader that opens plans with a deaf terminal too or does not (`archive`), and takes
 // the heads with so many terminals at most, with groups too or not.
-fn read_plan_file(archive: bool, most: u8, groups: bool, text: &[u8]) -> FileRead
-    ensures { result ≡ file_read (reading (record { kinds = plan_kinds; archive = archive; heads = record { most = most; groups = groups } }) text.now) }
+fn read_plan_file(archive: bool, most: u8, groups: bool, text: &[u8]) -> Result<Progress, Refusal>
+    ensures { answer result ≡ file_read (reading (record { kinds = plan_kinds; archive = archive; heads = record { most = most; groups = groups } }) text.now) }
 {
     let mut words = [0u32; MOST_WORDS];
     let mut later = [0u32; MOST_ROUNDS];
     let reader = Reader {
         kinds: PLAN_KINDS,
-        archive: archive,
-        heads: Heads {
-            most: most,
-            groups: groups,
-        },
+        archive,
+        heads: Heads { most, groups },
     };
     read(reader, text, &mut words, &mut later)
 }
 
 // The plan of a file with head, links and groups only, of which every terminal but the source hears
 // somebody.
-pub fn read_plan(text: &[u8]) -> FileRead
-    ensures { result ≡ file_read (plan_reading text.now) }
+pub fn read_plan(text: &[u8]) -> Result<Progress, Refusal>
+    ensures { answer result ≡ file_read (plan_reading text.now) }
 {
     read_plan_file(false, MOST_TERMINALS, true, text)
 }
 
 // The same for the quoting desk: the plan has at most twelve terminals.
-pub fn read_quote(text: &[u8]) -> FileRead
-    ensures { result ≡ file_read (quote_reading text.now) }
+pub fn read_quote(text: &[u8]) -> Result<Progress, Refusal>
+    ensures { answer result ≡ file_read (quote_reading text.now) }
 {
     read_plan_file(false, MOST_QUOTED, true, text)
 }
 
 // The same for margins: the plan has a bound f, and lists no groups.
-pub fn read_margins(text: &[u8]) -> FileRead
-    ensures { result ≡ file_read (margins_reading text.now) }
+pub fn read_margins(text: &[u8]) -> Result<Progress, Refusal>
+    ensures { answer result ≡ file_read (margins_reading text.now) }
 {
     read_plan_file(false, MOST_TERMINALS, false, text)
 }
 
 // The plan of a plan file, whoever is deaf, and the deaf terminals.
-pub fn read_archive(text: &[u8]) -> ArchiveRead
-    ensures { result ≡ archive_read (archive_reading text.now) }
+pub fn read_archive(text: &[u8]) -> Result<Archived, Refusal>
+    ensures { archive_answer result ≡ archive_read (archive_reading text.now) }
 {
-    let file = read_plan_file(true, MOST_TERMINALS, true, text);
-    ArchiveRead {
-        file: file,
-        deaf: deaf::deaf_set(file.progress.plan),
-    }
+    let progress = read_plan_file(true, MOST_TERMINALS, true, text)?;
+    Ok(Archived {
+        progress,
+        deaf: deaf::deaf_set(progress.plan),
+    })
 }
 
 // The plan of a plan file for drawings, whoever is deaf: it has a bound f, and lists no groups.
-pub fn read_drawing(text: &[u8]) -> FileRead
-    ensures { result ≡ file_read (drawing_reading text.now) }
+pub fn read_drawing(text: &[u8]) -> Result<Progress, Refusal>
+    ensures { answer result ≡ file_read (drawing_reading text.now) }
 {
     read_plan_file(true, MOST_TERMINALS, false, text)
-}
-
-fn copy_notices(from: &[u32], to: &mut [u32])
-    requires { length from.now ≡ length to.old }
-    ensures { to.new ≡ from.now }
-{
-    let mut i = 0;
-    while i < to.len() {
-        to[i] = from[i];
-        i += 1;
-    }
 }
 
 // A run file: what it holds; the liars' words in the lent list of 16,000 places, of which those of a
 // shared channel need the first 800, and the office's later notices in that of 40, entry r - 1 being what
 // it issues in round r.
-pub fn read_run(text: &[u8], words: &mut [u32], later: &mut [u32]) -> FileRead
-    ensures value { result ≡ file_read (run_file text.now (length words.old) (length later.old)) }
+pub fn read_run(text: &[u8], words: &mut [u32], later: &mut [u32]) -> Result<Progress, Refusal>
+    ensures value { answer result ≡ file_read (run_file text.now (length words.old) (length later.old)) }
     ensures words_after { words.new ≡ words_read (run_file text.now (length words.old) (length later.old)) words.old }
     ensures later_after { later.new ≡ later_read (run_file text.now (length words.old) (length later.old)) later.old }
 {
@@ -423,19 +342,20 @@ pub fn read_run(text: &[u8], words: &mut [u32], later: &mut [u32]) -> FileRead
             groups: true,
         },
     };
-    let file = read(reader, text, &mut said, &mut issued);
-    if file.number != 0 {
-        return file;
+    let progress = read(reader, text, &mut said, &mut issued)?;
+    if !is_started(&progress) {
+        return Err(Refusal {
+            cause: Cause::OutOfPlace,
+            line: 0,
+        });
     }
-    if is_started(file.progress) {
-        if words.len() == MOST_WORDS {
-            if later.len() == MOST_ROUNDS {
-                copy_notices(&said, words);
-                copy_notices(&issued, later);
-                return file;
-            }
-        }
-        return refusal(12, 0);
+    if words.len() != MOST_WORDS || later.len() != MOST_ROUNDS {
+        return Err(Refusal {
+            cause: Cause::WrongRoom,
+            line: 0,
+        });
     }
-    refusal(3, 0)
+    words.copy_from_slice(&said);
+    later.copy_from_slice(&issued);
+    Ok(progress)
 }

@@ -1,5 +1,7 @@
 // What each frame does to what is known so far, or why it is refused.
-ghost use Rattle.std.specs.Prelude.{◌≡◌, not, ◌-◌, ◌<◌, ◌≤◌, eqb, [], ◌∷◌, length, set};
+#![tactic(auto, using(crate::proofs::Rules::tests), unfolding(quorum::specs::Words::place_of, quorum::specs::Words::shared_place_of, plan::specs::Plan::heard_by, plan::specs::Plan::hears, crate::specs::Reading::kind_read, crate::specs::Reading::lists, crate::specs::Reading::head_cause, crate::specs::Reading::link_cause, crate::specs::Reading::group_cause, crate::specs::Reading::channel_cause, crate::specs::Reading::bad_set_cause, crate::specs::Reading::fault_set_cause, crate::specs::Reading::start_cause, crate::specs::Reading::later_cause, crate::specs::Reading::is_word, crate::specs::Reading::message_cause, crate::specs::Reading::is_broadcast, crate::specs::Reading::broadcast_cause, crate::specs::Reading::untaken_cause, crate::specs::Reading::linked, crate::specs::Reading::grouped, crate::specs::Reading::after))]
+
+ghost use Rattle.std.specs.Prelude.{◌≡◌, not, ◌-◌, ◌<◌, ◌≤◌, eqb, [], ◌∷◌, length, set, IfOk};
 ghost use Rattle.sets.specs.Tests.{pick};
 ghost use Rattle.sets.specs.Causes.{◌gives◌, first_cause, given};
 ghost use Rattle.lines.specs.declared.Frame.TheVariants.{Head, Link, Group, Channel, FaultSet, Start, Later};
@@ -7,91 +9,66 @@ ghost use Rattle.quorum.specs.Quorum.{most_terminals, most_groups, listed, in_ra
 ghost use Rattle.quorum.specs.Notice.{notice_of};
 ghost use Rattle.quorum.specs.Words.{most_rounds, most_words, place_of, shared_place_of};
 ghost use Rattle.frames.specs.Reading.{kind_read, lists, rounds_of, head_cause, link_cause, group_cause, channel_cause, bad_set_cause, fault_set_cause, start_cause, later_cause, is_word, message_cause, is_broadcast, broadcast_cause, untaken_cause, line_cause, linked, grouped, spoken, after, both, said_after};
+ghost use Rattle.frames.specs.Causes.{refused_by};
 
+use super::cause::Cause;
 use super::{
     Heads, Progress, Stage, has_edition, in_plan, is_at, is_shared, is_started, planned, unstarted,
     wrong_form,
 };
-use lines::{Form, Frame, Rounds};
+use lines::{Form, Frame};
 use plan::Plan;
 use quorum::{Bound, BoundKind};
-
-// The cause that refuses a frame, 0 for none; and what is known after it where it is accepted.
-#[derive(Clone, Copy)]
-pub(crate) struct Told {
-    pub cause: u8,
-    pub progress: Progress,
-}
 
 // The head's last byte: f, or ff where groups are listed instead.
 fn kind_read(f: u8) -> BoundKind
     ensures { result ≡ kind_read f }
 {
     if f == 255 {
-        return BoundKind::Groups(0);
+        BoundKind::Groups(0)
+    } else {
+        BoundKind::Most(f as usize)
     }
-    BoundKind::Most(f as usize)
 }
 
-// Why a reader does not take a head in range, 0 where it does: it has more terminals than the reader
-// takes, or lists groups, and the reader takes none.
-fn untaken_cause(heads: Heads, n: u8, kind: BoundKind) -> u8
-    ensures { result ≡ untaken_cause heads n kind }
+// Why a reader does not take a head in range: it has more terminals than the reader takes, or lists
+// groups, and the reader takes none.
+fn untaken_cause(heads: Heads, n: u8, kind: BoundKind) -> Result<(), Cause>
+    ensures { refused_by result ≡ untaken_cause heads n kind }
 {
     if heads.most < n {
-        return 14;
+        Err(Cause::TooMany)
+    } else if lists(kind) && !heads.groups {
+        Err(Cause::WrongRange)
+    } else {
+        Ok(())
     }
-    if heads.groups {
-        return 0;
-    }
-    if lists(kind) {
-        return 4;
-    }
-    0
-}
-
-// The cause that refuses a head in its place, 0 for none: n, source or f out of range, or the reader does
-// not take it.
-fn range_cause(heads: Heads, n: u8, source: u8, kind: BoundKind) -> u8
-    ensures { result ≡ first_cause (not (in_range n source kind) gives 4 ∷ given (untaken_cause heads n kind) ∷ []) }
-{
-    if quorum::in_range(n as usize, source as usize, kind) {
-        return untaken_cause(heads, n, kind);
-    }
-    4
 }
 
 // A head, by a reader that takes these.
-fn head(heads: Heads, p: Progress, n: u8, source: u8, f: u8) -> Told
-    ensures { (result.cause ≡ first_cause (given (head_cause p n source f) ∷ given (untaken_cause heads n (kind_read f)) ∷ [])) × (result.cause ≡ 0 → result.progress ≡ after p (Head n source f)) }
+fn head(heads: Heads, p: &mut Progress, n: u8, source: u8, f: u8) -> Result<(), Cause>
+    ensures cause { refused_by result ≡ first_cause (given (head_cause p.old n source f) ∷ given (untaken_cause heads n (kind_read f)) ∷ []) }
+    ensures next { IfOk result (λ _. p.new ≡ after p.old (Head n source f)) }
 {
     let kind = kind_read(f);
-    if is_at(Stage::Nothing, p) {
-        let cause = range_cause(heads, n, source, kind);
-        if cause != 0 {
-            return Told {
-                cause: cause,
-                progress: p,
-            };
-        }
-        let plan = Plan {
-            n: n as usize,
-            source: source as usize,
-            bound: Bound {
-                kind: kind,
-                groups: [0u32; 16],
-            },
-            rows: [0u32; 20],
-        };
-        return Told {
-            cause: 0,
-            progress: planned(Stage::Links, plan, 0),
-        };
+    if !is_at(Stage::Nothing, p) {
+        return Err(Cause::OutOfPlace);
     }
-    Told {
-        cause: 3,
-        progress: p,
+    if !quorum::in_range(n as usize, source as usize, kind) {
+        return Err(Cause::WrongRange);
     }
+    untaken_cause(heads, n, kind)?;
+    let plan = Plan {
+        n: n as usize,
+        source: source as usize,
+        bound: Bound {
+            kind,
+            groups: [0u32; 16],
+        },
+        rows: [0u32; 20],
+    };
+    *p = planned(Stage::Links, plan, 0);
+    Ok(())
 }
 
 // The plan with one link more.
@@ -100,66 +77,33 @@ fn with_link(p: Plan, from: usize, to: usize) -> Plan
     ensures { result ≡ linked p from to }
 {
     let mut rows = p.rows;
-    let bound = p.bound;
     rows[to] = sets::with(rows[to], from);
-    Plan {
-        n: p.n,
-        source: p.source,
-        bound: bound,
-        rows: rows,
-    }
+    Plan { rows, ..p }
 }
 
-fn link_cause(p: Progress, from: usize, to: usize) -> u8
-    requires { p.plan.n ≤ most_terminals }
-    ensures { result ≡ link_cause p from to }
+fn link(p: &mut Progress, from: usize, to: usize) -> Result<(), Cause>
+    requires { p.old.plan.n ≤ most_terminals }
+    ensures cause { refused_by result ≡ link_cause p.old from to }
+    ensures next { IfOk result (λ _. p.new ≡ after p.old (Link from to)) }
 {
-    let plan = p.plan;
-    let rows = plan.rows;
-    if is_at(Stage::Links, p) {
-        if plan.n <= from {
-            return 5;
-        }
-        if plan.n <= to {
-            return 5;
-        }
-        if from == to {
-            return 5;
-        }
-        if sets::member(rows[to], from) {
-            return 6;
-        }
-        return 0;
+    if !is_at(Stage::Links, p) {
+        return Err(Cause::OutOfPlace);
     }
-    3
-}
-
-fn link(p: Progress, from: usize, to: usize) -> Told
-    requires { p.plan.n ≤ most_terminals }
-    ensures { (result.cause ≡ link_cause p from to) × (result.cause ≡ 0 → result.progress ≡ after p (Link from to)) }
-{
-    let plan = p.plan;
-    let cause = link_cause(p, from, to);
-    if cause != 0 {
-        return Told {
-            cause: cause,
-            progress: p,
-        };
+    if p.plan.n <= from || p.plan.n <= to || from == to {
+        return Err(Cause::WrongLink);
     }
-    Told {
-        cause: 0,
-        progress: planned(Stage::Links, with_link(plan, from, to), 0),
+    if sets::member(p.plan.rows[to], from) {
+        return Err(Cause::LinkTwice);
     }
+    *p = planned(Stage::Links, with_link(p.plan, from, to), 0);
+    Ok(())
 }
 
 // Groups are listed, not f.
 pub(crate) fn lists(kind: BoundKind) -> bool
     ensures { result ≡ lists kind }
 {
-    match kind {
-        BoundKind::Most(_) => false,
-        BoundKind::Groups(_) => true,
-    }
+    matches!(kind, BoundKind::Groups(_))
 }
 
 // The plan with one group more, after those that are listed.
@@ -167,258 +111,165 @@ fn with_group(p: Plan, s: u32) -> Plan
     requires { listed p.bound.kind < most_groups }
     ensures { result ≡ grouped p s }
 {
-    let bound = p.bound;
-    let rows = p.rows;
-    let kind = bound.kind;
-    let count = quorum::listed(kind);
-    let mut groups = bound.groups;
+    let count = quorum::listed(p.bound.kind);
+    let mut groups = p.bound.groups;
     groups[count] = s;
     Plan {
-        n: p.n,
-        source: p.source,
         bound: Bound {
             kind: BoundKind::Groups(count + 1),
-            groups: groups,
+            groups,
         },
-        rows: rows,
+        ..p
     }
 }
 
-fn group_cause(p: Progress, s: u32) -> u8
-    ensures { result ≡ group_cause p s }
+fn group(p: &mut Progress, s: u32) -> Result<(), Cause>
+    ensures cause { refused_by result ≡ group_cause p.old s }
+    ensures next { IfOk result (λ _. p.new ≡ after p.old (Group s)) }
 {
-    let plan = p.plan;
-    let bound = plan.bound;
-    let kind = bound.kind;
-    if in_plan(p) {
-        if lists(kind) {
-            if quorum::listed(kind) < 16 {
-                if quorum::others(plan.n, plan.source, s) {
-                    return 0;
-                }
-            }
-            return 17;
-        }
+    if !in_plan(p) || !lists(p.plan.bound.kind) {
+        return Err(Cause::OutOfPlace);
     }
-    3
-}
-
-fn group(p: Progress, s: u32) -> Told
-    ensures { (result.cause ≡ group_cause p s) × (result.cause ≡ 0 → result.progress ≡ after p (Group s)) }
-{
-    let plan = p.plan;
-    let cause = group_cause(p, s);
-    if cause != 0 {
-        return Told {
-            cause: cause,
-            progress: p,
-        };
+    if 16 <= quorum::listed(p.plan.bound.kind) || !quorum::others(p.plan.n, p.plan.source, s) {
+        return Err(Cause::WrongGroups);
     }
-    Told {
-        cause: 0,
-        progress: planned(Stage::Grouped, with_group(plan, s), 0),
-    }
+    *p = planned(Stage::Grouped, with_group(p.plan, s), 0);
+    Ok(())
 }
 
 // The default layout of a shared channel: it comes once, where links and groups end.
-fn channel(p: Progress, layout: u16) -> Told
-    ensures { (result.cause ≡ channel_cause p layout) × (result.cause ≡ 0 → result.progress ≡ after p (Channel layout)) }
+fn channel(p: &mut Progress, default: u16) -> Result<(), Cause>
+    ensures cause { refused_by result ≡ channel_cause p.old default }
+    ensures next { IfOk result (λ _. p.new ≡ after p.old (Channel default)) }
 {
-    let plan = p.plan;
-    if in_plan(p) {
-        if layout == 0 {
-            return Told {
-                cause: 9,
-                progress: p,
-            };
-        }
-        return Told {
-            cause: 0,
-            progress: unstarted(Stage::Shared, plan, 0, layout),
-        };
+    if !in_plan(p) {
+        return Err(Cause::OutOfPlace);
     }
-    Told {
-        cause: 3,
-        progress: p,
+    if default == 0 {
+        return Err(Cause::WrongNotice);
     }
+    *p = unstarted(Stage::Shared, p.plan, 0, default);
+    Ok(())
 }
 
-// The cause that the library has against a bad set, 0 for none: on a shared channel the source may be
-// bad too.
-fn bad_set_cause(p: Progress, s: u32) -> u8
-    ensures { result ≡ bad_set_cause p s }
+// What the library has against a bad set: on a shared channel the source may be bad too.
+fn bad_set_cause(p: &Progress, s: u32) -> Result<(), Cause>
+    ensures { refused_by result ≡ bad_set_cause p.now s }
 {
-    let plan = p.plan;
-    if is_shared(p) {
-        return faults::number(faults::check_shared_fault_set(plan, s));
+    if is_shared(*p) {
+        faults::check_shared_fault_set(p.plan, s)?;
+    } else {
+        faults::check_fault_set(p.plan, s)?;
     }
-    faults::number(faults::check_fault_set(plan, s))
+    Ok(())
 }
 
-// The same for a bad set in its place, which is after links, groups and a default layout.
-fn fault_set_cause(p: Progress, s: u32) -> u8
-    ensures { result ≡ fault_set_cause p s }
+// A bad set in its place, which is after links, groups and a default layout.
+fn fault_set(p: &mut Progress, s: u32) -> Result<(), Cause>
+    ensures cause { refused_by result ≡ fault_set_cause p.old s }
+    ensures next { IfOk result (λ _. p.new ≡ after p.old (FaultSet s)) }
 {
-    if in_plan(p) {
-        return bad_set_cause(p, s);
+    if !in_plan(p) && !is_at(Stage::Shared, p) {
+        return Err(Cause::OutOfPlace);
     }
-    if is_at(Stage::Shared, p) {
-        return bad_set_cause(p, s);
-    }
-    3
-}
-
-fn fault_set(p: Progress, s: u32) -> Told
-    ensures { (result.cause ≡ fault_set_cause p s) × (result.cause ≡ 0 → result.progress ≡ after p (FaultSet s)) }
-{
-    let plan = p.plan;
-    Told {
-        cause: fault_set_cause(p, s),
-        progress: unstarted(Stage::Faults, plan, s, p.default),
-    }
+    bad_set_cause(p, s)?;
+    *p = unstarted(Stage::Faults, p.plan, s, p.default);
+    Ok(())
 }
 
 // The rounds of a start frame on n terminals: n - 1 where they are left out. Before the head n is 0,
 // and a start is refused whatever it means.
-fn rounds_of(n: usize, rounds: Rounds) -> u8
+fn rounds_of(n: usize, rounds: Option<u8>) -> u8
     requires { n ≤ most_terminals }
     ensures { result ≡ rounds_of n rounds }
 {
-    match rounds {
-        Rounds::Given(r) => r,
-        Rounds::Left => {
-            if n < 1 {
-                return 0;
-            }
-            (n - 1) as u8
-        }
-    }
+    rounds.unwrap_or(n.saturating_sub(1) as u8)
 }
 
-// The cause that refuses a start, 0 for none.
-fn start_cause(p: Progress, form: Form, edition: u16, layout: u16, rounds: Rounds) -> u8
-    requires { p.plan.n ≤ most_terminals }
-    ensures { result ≡ start_cause p form edition layout rounds }
+fn start(
+    p: &mut Progress,
+    form: Form,
+    edition: u16,
+    layout: u16,
+    rounds: Option<u8>,
+) -> Result<(), Cause>
+    requires { p.old.plan.n ≤ most_terminals }
+    ensures cause { refused_by result ≡ start_cause p.old form edition layout rounds }
+    ensures next { IfOk result (λ _. p.new ≡ after p.old (Start form edition layout rounds)) }
 {
-    let plan = p.plan;
+    let rounds = rounds_of(p.plan.n, rounds);
     if wrong_form(p, form, has_edition(form)) {
-        return 2;
+        return Err(Cause::Unknown);
     }
-    if is_at(Stage::Faults, p) {
-        if quorum::start_sound(layout, rounds_of(plan.n, rounds)) {
-            if edition == 0 {
-                return 16;
-            }
-            return 0;
-        }
-        return 9;
+    if !is_at(Stage::Faults, p) {
+        return Err(Cause::OutOfPlace);
     }
-    3
-}
-
-fn start(p: Progress, form: Form, edition: u16, layout: u16, rounds: Rounds) -> Told
-    requires { p.plan.n ≤ most_terminals }
-    ensures { (result.cause ≡ start_cause p form edition layout rounds) × (result.cause ≡ 0 → result.progress ≡ after p (Start form edition layout rounds)) }
-{
-    let plan = p.plan;
-    Told {
-        cause: start_cause(p, form, edition, layout, rounds),
-        progress: Progress {
-            stage: Stage::Started,
-            plan: plan,
-            faulty: p.faulty,
-            form: form,
-            notice: quorum::notice_of(edition, layout),
-            rounds: rounds_of(plan.n, rounds),
-            issued: 0,
-            edition: edition,
-            default: p.default,
-        },
+    if !quorum::start_sound(layout, rounds) {
+        return Err(Cause::WrongNotice);
     }
-}
-
-// The cause that refuses a later notice, 0 for none.
-fn later_cause(p: Progress, round: u8, edition: u16, layout: u16) -> u8
-    ensures { result ≡ later_cause p round edition layout }
-{
-    if wrong_form(p, Form::New, true) {
-        return 2;
+    if edition == 0 {
+        return Err(Cause::WrongEdition);
     }
-    if is_at(Stage::Started, p) {
-        if p.issued < round {
-            if round <= p.rounds {
-                if layout == 0 {
-                    return 9;
-                }
-                if p.edition < edition {
-                    return 0;
-                }
-                return 16;
-            }
-        }
-    }
-    3
+    *p = Progress {
+        stage: Stage::Started,
+        form,
+        notice: quorum::notice_of(edition, layout),
+        rounds,
+        issued: 0,
+        edition,
+        ..*p
+    };
+    Ok(())
 }
 
 // A later notice, which is kept where it is accepted.
-fn later_notice(p: Progress, later: &mut [u32], round: u8, edition: u16, layout: u16) -> Told
-    requires { (p.rounds ≤ most_rounds) × (length later.old ≡ most_rounds) }
-    ensures { (result.cause ≡ later_cause p round edition layout) × (result.cause ≡ 0 → result.progress ≡ after p (Later round edition layout)) × (later.new ≡ pick (eqb result.cause 0) (set later.old (round - 1) (notice_of edition layout)) later.old) }
+fn later_notice(
+    p: &mut Progress,
+    later: &mut [u32],
+    round: u8,
+    edition: u16,
+    layout: u16,
+) -> Result<(), Cause>
+    requires { (p.old.rounds ≤ most_rounds) × (length later.old ≡ most_rounds) }
+    ensures cause { refused_by result ≡ later_cause p.old round edition layout }
+    ensures next { IfOk result (λ _. p.new ≡ after p.old (Later round edition layout)) }
+    ensures kept { later.new ≡ pick (eqb (refused_by result) 0) (set later.old (round - 1) (notice_of edition layout)) later.old }
 {
-    let plan = p.plan;
-    let form = p.form;
-    let cause = later_cause(p, round, edition, layout);
-    if cause != 0 {
-        return Told {
-            cause: cause,
-            progress: p,
-        };
+    if wrong_form(p, Form::New, true) {
+        return Err(Cause::Unknown);
+    }
+    if !is_at(Stage::Started, p) || round <= p.issued || p.rounds < round {
+        return Err(Cause::OutOfPlace);
+    }
+    if layout == 0 {
+        return Err(Cause::WrongNotice);
+    }
+    if edition <= p.edition {
+        return Err(Cause::WrongEdition);
     }
     later[(round as usize) - 1] = quorum::notice_of(edition, layout);
-    Told {
-        cause: 0,
-        progress: Progress {
-            stage: Stage::Started,
-            plan: plan,
-            faulty: p.faulty,
-            form: form,
-            notice: p.notice,
-            rounds: p.rounds,
-            issued: round,
-            edition: edition,
-            default: p.default,
-        },
-    }
+    *p = Progress {
+        stage: Stage::Started,
+        issued: round,
+        edition,
+        ..*p
+    };
+    Ok(())
 }
 
 // A word in a round that is played, on a link, from a bad sender, and not silence.
-fn is_word(p: Progress, round: u8, from: usize, to: usize, edition: u16, layout: u16) -> bool
-    requires { p.plan.n ≤ most_terminals }
-    ensures { result ≡ is_word p round from to edition layout }
+fn is_word(p: &Progress, round: u8, from: usize, to: usize, edition: u16, layout: u16) -> bool
+    requires { p.now.plan.n ≤ most_terminals }
+    ensures { result ≡ is_word p.now round from to edition layout }
 {
-    let plan = p.plan;
-    let rows = plan.rows;
-    if round < 1 {
-        return false;
-    }
-    if p.rounds < round {
-        return false;
-    }
-    if plan.n <= from {
-        return false;
-    }
-    if plan.n <= to {
-        return false;
-    }
-    if sets::member(rows[to], from) {
-        if sets::member(p.faulty, from) {
-            if edition == 0 {
-                return false;
-            }
-            return layout != 0;
-        }
-    }
-    false
+    1 <= round
+        && round <= p.rounds
+        && from < p.plan.n
+        && to < p.plan.n
+        && sets::member(p.plan.rows[to], from)
+        && sets::member(p.faulty, from)
+        && edition != 0
+        && layout != 0
 }
 
 // Where the word of a round, a sender and a hearer stands.
@@ -429,9 +280,9 @@ fn place_of(n: usize, round: u8, from: usize, to: usize) -> usize
     ((round as usize) - 1) * (n * n) + from * n + to
 }
 
-// The cause that refuses a word, 0 for none: then it is kept.
+// A word that a liar says to a hearer: it is kept where it is accepted.
 fn message(
-    p: Progress,
+    p: &mut Progress,
     words: &mut [u32],
     form: Form,
     round: u8,
@@ -439,46 +290,39 @@ fn message(
     to: usize,
     edition: u16,
     layout: u16,
-) -> u8
-    requires { (p.plan.n ≤ most_terminals) × (p.rounds ≤ most_rounds) × (length words.old ≡ most_words) }
-    ensures { (result ≡ message_cause p words.old form round from to edition layout) × (words.new ≡ pick (eqb result 0) (set words.old (place_of p.plan.n round from to) (notice_of edition layout)) words.old) }
+) -> Result<(), Cause>
+    requires { (p.old.plan.n ≤ most_terminals) × (p.old.rounds ≤ most_rounds) × (length words.old ≡ most_words) }
+    ensures cause { refused_by result ≡ message_cause p.old words.old form round from to edition layout }
+    ensures next { IfOk result (λ _. p.new ≡ spoken p.old) }
+    ensures kept { words.new ≡ pick (eqb (refused_by result) 0) (set words.old (place_of p.old.plan.n round from to) (notice_of edition layout)) words.old }
 {
-    let plan = p.plan;
     if wrong_form(p, form, true) {
-        return 2;
+        return Err(Cause::Unknown);
     }
-    if is_started(p) {
-        if is_word(p, round, from, to, edition, layout) {
-            let k = place_of(plan.n, round, from, to);
-            if words[k] != 0 {
-                return 11;
-            }
-            words[k] = quorum::notice_of(edition, layout);
-            return 0;
-        }
-        return 10;
+    if !is_started(p) {
+        return Err(Cause::OutOfPlace);
     }
-    3
+    if !is_word(p, round, from, to, edition, layout) {
+        return Err(Cause::WrongWord);
+    }
+    let place = place_of(p.plan.n, round, from, to);
+    if words[place] != 0 {
+        return Err(Cause::WordTwice);
+    }
+    words[place] = quorum::notice_of(edition, layout);
+    p.stage = Stage::Words;
+    Ok(())
 }
 
 // A word that names no hearer, in a round that is played, from a bad sender, and not silence.
-fn is_broadcast(p: Progress, round: u8, from: usize, layout: u16) -> bool
-    ensures { result ≡ is_broadcast p round from layout }
+fn is_broadcast(p: &Progress, round: u8, from: usize, layout: u16) -> bool
+    ensures { result ≡ is_broadcast p.now round from layout }
 {
-    let plan = p.plan;
-    if round < 1 {
-        return false;
-    }
-    if p.rounds < round {
-        return false;
-    }
-    if plan.n <= from {
-        return false;
-    }
-    if sets::member(p.faulty, from) {
-        return layout != 0;
-    }
-    false
+    1 <= round
+        && round <= p.rounds
+        && from < p.plan.n
+        && sets::member(p.faulty, from)
+        && layout != 0
 }
 
 // Where the word of a round and a sender stands on a shared channel.
@@ -489,91 +333,72 @@ fn shared_place_of(n: usize, round: u8, from: usize) -> usize
     ((round as usize) - 1) * n + from
 }
 
-// The cause that refuses a word without a hearer, 0 for none: then it is kept, as one of edition 1.
-fn broadcast(p: Progress, words: &mut [u32], round: u8, from: usize, layout: u16) -> u8
-    requires { (p.plan.n ≤ most_terminals) × (p.rounds ≤ most_rounds) × (length words.old ≡ most_words) }
-    ensures { (result ≡ broadcast_cause p words.old round from layout) × (words.new ≡ pick (eqb result 0) (set words.old (shared_place_of p.plan.n round from) (notice_of 1 layout)) words.old) }
+// A word without a hearer: it is kept where it is accepted, as one of edition 1. Beside `message` the two
+// causes before the word's own change places, so each has its own tests.
+fn broadcast(
+    p: &mut Progress,
+    words: &mut [u32],
+    round: u8,
+    from: usize,
+    layout: u16,
+) -> Result<(), Cause>
+    requires { (p.old.plan.n ≤ most_terminals) × (p.old.rounds ≤ most_rounds) × (length words.old ≡ most_words) }
+    ensures cause { refused_by result ≡ broadcast_cause p.old words.old round from layout }
+    ensures next { IfOk result (λ _. p.new ≡ spoken p.old) }
+    ensures kept { words.new ≡ pick (eqb (refused_by result) 0) (set words.old (shared_place_of p.old.plan.n round from) (notice_of 1 layout)) words.old }
 {
-    let plan = p.plan;
-    if is_started(p) {
-        if is_shared(p) {
-            if is_broadcast(p, round, from, layout) {
-                let k = shared_place_of(plan.n, round, from);
-                if words[k] != 0 {
-                    return 11;
-                }
-                words[k] = quorum::notice_of(1, layout);
-                return 0;
-            }
-            return 10;
-        }
-        return 2;
+    if !is_started(p) {
+        return Err(Cause::OutOfPlace);
     }
-    3
+    if !is_shared(*p) {
+        return Err(Cause::Unknown);
+    }
+    if !is_broadcast(p, round, from, layout) {
+        return Err(Cause::WrongWord);
+    }
+    let k = shared_place_of(p.plan.n, round, from);
+    if words[k] != 0 {
+        return Err(Cause::WordTwice);
+    }
+    words[k] = quorum::notice_of(1, layout);
+    p.stage = Stage::Words;
+    Ok(())
 }
 
-// What is known once a word was said.
-fn spoken(p: Progress) -> Progress
-    ensures { result ≡ spoken p }
-{
-    let plan = p.plan;
-    let form = p.form;
-    Progress {
-        stage: Stage::Words,
-        plan: plan,
-        faulty: p.faulty,
-        form: form,
-        notice: p.notice,
-        rounds: p.rounds,
-        issued: p.issued,
-        edition: p.edition,
-        default: p.default,
-    }
-}
-
-// What a frame does, or the cause that refuses it: then both lists stay as they are.
+// A frame is told: what is known changes, or a cause refuses it, and then both lists stay as they are.
+#[tactic(auto, using(crate::proofs::Rules::tests, crate::proofs::Limits::limit_below, crate::proofs::TellLaws::head_line_lem, crate::proofs::TellLaws::either), unfolding(crate::specs::Reading::cause_in, crate::specs::Reading::heads_cause, crate::specs::Reading::after, crate::specs::Reading::said_after))]
 pub(crate) fn tell(
     heads: Heads,
-    p: Progress,
+    p: &mut Progress,
     words: &mut [u32],
     later: &mut [u32],
     frame: Frame,
-) -> Told
-    requires { (p.plan.n ≤ most_terminals) × (p.rounds ≤ most_rounds) × (length words.old ≡ most_words) × (length later.old ≡ most_rounds) }
-    ensures { (result.cause ≡ line_cause heads p (both words.old later.old) frame) × (result.cause ≡ 0 → result.progress ≡ after p frame) × (both words.new later.new ≡ pick (eqb result.cause 0) (said_after p (both words.old later.old) frame) (both words.old later.old)) }
+) -> Result<(), Cause>
+    requires { (p.old.plan.n ≤ most_terminals) × (p.old.rounds ≤ most_rounds) × (length words.old ≡ most_words) × (length later.old ≡ most_rounds) }
+    ensures cause { refused_by result ≡ line_cause heads p.old (both words.old later.old) frame }
+    ensures next { IfOk result (λ _. p.new ≡ after p.old frame) }
+    ensures said { both words.new later.new ≡ pick (eqb (refused_by result) 0) (said_after p.old (both words.old later.old) frame) (both words.old later.old) }
 {
     match frame {
-        Frame::Foreign => Told {
-            cause: 1,
-            progress: p,
-        },
-        Frame::Unknown => Told {
-            cause: 2,
-            progress: p,
-        },
+        Frame::Foreign => Err(Cause::Foreign),
+        Frame::Unknown => Err(Cause::Unknown),
         Frame::Head(n, source, f) => head(heads, p, n, source, f),
         Frame::Link(from, to) => link(p, from as usize, to as usize),
         Frame::Group(s) => group(p, s),
-        Frame::Channel(layout) => channel(p, layout),
+        Frame::Channel(default) => channel(p, default),
         Frame::FaultSet(s) => fault_set(p, s),
         Frame::Start(form, edition, layout, rounds) => start(p, form, edition, layout, rounds),
         Frame::Later(round, edition, layout) => later_notice(p, later, round, edition, layout),
-        Frame::Message(form, round, from, to, edition, layout) => Told {
-            cause: message(
-                p,
-                words,
-                form,
-                round,
-                from as usize,
-                to as usize,
-                edition,
-                layout,
-            ),
-            progress: spoken(p),
-        },
-        Frame::Broadcast(round, from, layout) => Told {
-            cause: broadcast(p, words, round, from as usize, layout),
-            progress: spoken(p),
-        },
+        Frame::Message(form, round, from, to, edition, layout) => message(
+            p,
+            words,
+            form,
+            round,
+            from as usize,
+            to as usize,
+            edition,
+            layout,
+        ),
+        Frame::Broadcast(round, from, layout) => broadcast(p, words, round, from as usize, layout),
     }
 }

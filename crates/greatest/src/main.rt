@@ -2,6 +2,8 @@
 // greatest bound for which its drawing passes to standard output.
 #![tactic(auto)]
 
+// The other programs' mains are alike. Nothing can be promised of what is read and written, so that one function for
+// all would be a public one without a contract.
 fn main() {
     let mut file = [0u8; 24577];
     let n = io::read_full(0, &mut file);

@@ -4,8 +4,7 @@ use Rattle.sets.specs.Tests.{pick}
 use Rattle.tolerance.specs.Greatest.{drawing_of, Tolerance, none, up_to}
 use Rattle.tolerance.specs.Answer.{Told, greatest_of}
 use Rattle.text.specs.Digits.{decimal}
-use Rattle.frames.specs.declared.FileRead.{FileRead}
-use Rattle.frames.specs.Reading.{drawing_reading, file_read}
+use Rattle.frames.specs.Reading.{FileRead, drawing_reading, file_read}
 use Rattle.output.specs.OnFile.{refusal_line, text_on}
 
 -- the word none

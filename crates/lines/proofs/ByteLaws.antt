@@ -13,7 +13,7 @@ use borrow.Author.Tests.{lt-ltb, le-ltb}
 use Rattle.sets.specs.Tests.{pick}
 use Rattle.sets.proofs.Bools.{and_yes, and_no_l, pick_yes, pick_no}
 use Rattle.sets.proofs.Laws.{below_or_not, equal_or_not}
-use Rattle.digits.specs.declared.Digit.TheVariants.{Value}
+use Rattle.std.specs.Prelude.{Some}
 use Rattle.digits.specs.Digits.{digit_of, value_of, is_digit}
 use Rattle.digits.proofs.Laws.{no_value, value_small}
 use Rattle.lines.specs.Bytes.{all_digits, digit_at, byte_at}
@@ -60,7 +60,7 @@ module _ (line : List ℕ) where
       begun_not i k (omega arith) ∙ sym (begun_not (i + 1) k (omega arith)))
       (below_or_not (2 * k + 1) i)
 
-  pub said : (i v : ℕ) → digit_of (get_or line i 0) ≡ Value v → v ≡ digit_at line i
+  pub said : (i v : ℕ) → digit_of (get_or line i 0) ≡ Some v → v ≡ digit_at line i
   unfolding digit_at
   said i v h = sym (ap value_of h)
 

@@ -1,10 +1,9 @@
 -- One line's frame, by the table of kinds of document 01, with document 02's. A program knows a set of kinds. Assumes nothing.
-use Rattle.std.specs.Prelude.{ℕ, ◌+◌, ◌*◌, Bool, true, List, eqb, ltb, length, get_or}
+use Rattle.std.specs.Prelude.{ℕ, ◌+◌, ◌*◌, Bool, true, Some, None, List, eqb, ltb, length, get_or}
 use Rattle.sets.specs.Tests.{◌and◌, pick}
 use Rattle.sets.specs.Sets.{Set, mem}
 use Rattle.lines.specs.declared.Form.{Form}
 use Rattle.lines.specs.declared.Form.TheVariants.{Old, New}
-use Rattle.lines.specs.declared.Rounds.TheVariants.{Given, Left}
 use Rattle.lines.specs.declared.Frame.{Frame}
 use Rattle.lines.specs.declared.Frame.TheVariants.{Foreign, Unknown, Head, Link, Group, Channel, FaultSet, Start, Later, Message, Broadcast}
 use Rattle.lines.specs.Bytes.{well_formed, bytes_of}
@@ -54,10 +53,10 @@ fault_set_of bytes = pick (eqb (length bytes) 4) (FaultSet (triple_at bytes 1)) 
 -- In both the rounds have one byte, which may be left out
 unfoldable pub start_of : (bytes : List ℕ) → Frame
 start_of bytes =
-    pick (eqb (length bytes) 4) (Start Old 1 (pair_at bytes 1) (Given (get_or bytes 3 0)))
-    (pick (eqb (length bytes) 3) (Start Old 1 (pair_at bytes 1) Left)
-    (pick (eqb (length bytes) 6) (Start New (pair_at bytes 1) (pair_at bytes 3) (Given (get_or bytes 5 0)))
-    (pick (eqb (length bytes) 5) (Start New (pair_at bytes 1) (pair_at bytes 3) Left) Unknown)))
+    pick (eqb (length bytes) 4) (Start Old 1 (pair_at bytes 1) (Some (get_or bytes 3 0)))
+    (pick (eqb (length bytes) 3) (Start Old 1 (pair_at bytes 1) None)
+    (pick (eqb (length bytes) 6) (Start New (pair_at bytes 1) (pair_at bytes 3) (Some (get_or bytes 5 0)))
+    (pick (eqb (length bytes) 5) (Start New (pair_at bytes 1) (pair_at bytes 3) None) Unknown)))
 
 -- 08: round, then edition and layout in two bytes each (document 02, P8)
 unfoldable pub later_of : (bytes : List ℕ) → Frame

@@ -6,7 +6,7 @@ use mathlib.Core.List.{List}
 use native.Mathlib.Omega.{arith}
 use lib.Dec.{eqb, ltb}
 use lib.IntN.{ℤ, pos}
-use lib.ListN.{get_or}
+use lib.ListN.{length, get_or}
 use lib.Signed.{lt_z, le_z}
 use borrow.Author.Tests.{eq-eqb, ne_eqb, lt-ltb}
 use Rattle.sets.specs.Tests.{◌and◌, pick}
@@ -20,17 +20,22 @@ use Rattle.plan.proofs.Laws.{sound}
 use Rattle.closure.specs.Margin.{margin, is_direct, has_margin, direct_ones, below_zero, at_zero, above_zero}
 use Rattle.partition.specs.declared.Standing.{Standing}
 use Rattle.partition.specs.declared.Standing.TheVariants.{Source, Direct, Margin, Absent}
-use Rattle.partition.specs.declared.Place.{Place}
-use Rattle.partition.specs.declared.Outcome.{Outcome}
-use Rattle.partition.specs.declared.Outcome.TheVariants.{Known}
-use Rattle.partition.specs.declared.Sheet.{Sheet}
-use Rattle.partition.specs.Margins.{standing_of, place_of, margins_cause, outcome_number, margins_of, told}
+use Rattle.std.specs.Prelude.{Ok, Err}
+use Rattle.partition.specs.declared.MarginsError.{MarginsError}
+use Rattle.partition.specs.declared.MarginsError.TheVariants.{WrongRange, WrongLink}
+use Rattle.partition.specs.Margins.{standing_of, margins_cause, margins_of, told}
 use Rattle.partition.proofs.Sheets.{stands_absent, bounded_plan, margin_small, sheet_known, sheet_refused}
-use Rattle.text.specs.Texts.{joined}
+use Rattle.text.specs.Texts.{joined, written_of, put_into}
 use Rattle.text.proofs.Laws.{room_for}
-use Rattle.output.specs.OnFile.{refusal_line}
+use Rattle.frames.specs.declared.Progress.{Progress}
+use Rattle.frames.specs.declared.Refusal.{Refusal}
+use Rattle.frames.specs.Reading.{FileRead}
+use Rattle.frames.specs.Causes.{number, answer}
+use Rattle.output.specs.declared.Written.{Written}
+use Rattle.output.specs.OnFile.{refusal_line, on_line, answer_on}
+use Rattle.output.proofs.Laws.{put_accepted, put_refused}
 use Rattle.margin_output.specs.declared.Tally.{Tally}
-use Rattle.margin_output.specs.Margins.{standing_lines, counts_line, margins_lines, margins_answer}
+use Rattle.margin_output.specs.Margins.{standing_lines, counts_line, margins_lines, margins_answer, margins_on}
 use Rattle.margin_output.specs.Counts.{standing_in, stands_direct, stands_below, stands_level, stands_above, tally_of, Small}
 use Rattle.margin_output.proofs.TableLaws.{lines_short, same_lines, lines_absent, counts_short}
 
@@ -85,36 +90,34 @@ module _ (p : Plan) where
 
 -- ---- the answer
 
-module _ (p : Plan) (sheet : Sheet) (e : told sheet ≡ margins_of p) where
-  module _ (o : sheet.outcome ≡ Known) where
+module _ (p : Plan) where
+  module _ (places : List Standing) (e : told (Ok places) ≡ margins_of p) where
     cause : margins_cause p ≡ 0
-    cause = (sheet_known p sheet e o).0
+    cause = (sheet_known p places e).0
 
     twenty : p.n ≤ 20
     twenty = (sound p (bounded_plan p cause).0).twenty
 
-    standing_at : (b : ℕ) → b < 20 → standing_in sheet.places b ≡ standing_of p b
-    standing_at b k =
-        ap (λ (l : List Place). (get_or l b (record { standing = Source })).standing) (sheet_known p sheet e o).1
-        ∙ ap (λ (x : Place). x.standing) (table_at 20 (place_of p) (record { standing = Source }) b k)
+    standing_at : (b : ℕ) → b < 20 → standing_in places b ≡ standing_of p b
+    standing_at b k = ap (λ (l : List Standing). get_or l b Source) (sheet_known p places e).1 ∙ table_at 20 (standing_of p) Source b k
 
-    pub places_small : (b : ℕ) → b < 20 → Small (standing_in sheet.places b)
+    pub places_small : (b : ℕ) → b < 20 → Small (standing_in places b)
     places_small b k = subst Small (sym (standing_at b k)) (standing_small p cause b)
 
-    tally_is : tally_of 20 (standing_in sheet.places) ≡ tally_of 20 (standing_of p)
+    tally_is : tally_of 20 (standing_in places) ≡ tally_of 20 (standing_of p)
     unfolding tally_of
     tally_is = λ i. record {
-      direct = count_cong 20 (λ b. stands_direct (standing_in sheet.places b)) (λ b. stands_direct (standing_of p b)) (λ b k. ap stands_direct (standing_at b k)) i;
-      below = count_cong 20 (λ b. stands_below (standing_in sheet.places b)) (λ b. stands_below (standing_of p b)) (λ b k. ap stands_below (standing_at b k)) i;
-      level = count_cong 20 (λ b. stands_level (standing_in sheet.places b)) (λ b. stands_level (standing_of p b)) (λ b k. ap stands_level (standing_at b k)) i;
-      above = count_cong 20 (λ b. stands_above (standing_in sheet.places b)) (λ b. stands_above (standing_of p b)) (λ b k. ap stands_above (standing_at b k)) i;
+      direct = count_cong 20 (λ b. stands_direct (standing_in places b)) (λ b. stands_direct (standing_of p b)) (λ b k. ap stands_direct (standing_at b k)) i;
+      below = count_cong 20 (λ b. stands_below (standing_in places b)) (λ b. stands_below (standing_of p b)) (λ b k. ap stands_below (standing_at b k)) i;
+      level = count_cong 20 (λ b. stands_level (standing_in places b)) (λ b. stands_level (standing_of p b)) (λ b k. ap stands_level (standing_at b k)) i;
+      above = count_cong 20 (λ b. stands_above (standing_in places b)) (λ b. stands_above (standing_of p b)) (λ b k. ap stands_above (standing_at b k)) i;
     }
 
-    lines_are : standing_lines 20 (standing_in sheet.places) ≡ standing_lines p.n (standing_of p)
+    lines_are : standing_lines 20 (standing_in places) ≡ standing_lines p.n (standing_of p)
     lines_are =
-        same_lines 20 (standing_in sheet.places) (standing_of p) standing_at ∙ lines_absent p.n 20 (standing_of p) (λ b l. sym (stands_absent p b l)) twenty
+        same_lines 20 (standing_in places) (standing_of p) standing_at ∙ lines_absent p.n 20 (standing_of p) (λ b l. sym (stands_absent p b l)) twenty
 
-    pub answer_known : (text last : List ℕ) (t : Tally) → text ≡ standing_lines 20 (standing_in sheet.places) → t ≡ tally_of 20 (standing_in sheet.places)
+    pub answer_known : (text last : List ℕ) (t : Tally) → text ≡ standing_lines 20 (standing_in places) → t ≡ tally_of 20 (standing_in places)
         → last ≡ joined text (counts_line t.direct t.below t.level t.above) → last ≡ margins_answer p
     unfolding margins_answer margins_lines
     answer_known text last t a q h =
@@ -128,8 +131,24 @@ module _ (p : Plan) (sheet : Sheet) (e : told sheet ≡ margins_of p) where
         omega arith)
         ∙ sym (pick_yes _ _ _ (eq-eqb (margins_cause p) 0 cause))
 
-  pub answer_refused : (o : Outcome) → sheet.outcome ≡ o → (outcome_number o ≡ 0 → ⊥) → (last : List ℕ) → last ≡ refusal_line (outcome_number o) 0 → last ≡ margins_answer p
+  some_number : (o : MarginsError) → (told (Err o)).number ≡ 0 → ⊥
+  some_number WrongRange z = omega arith
+  some_number WrongLink z = omega arith
+
+  pub answer_refused : (o : MarginsError) → told (Err o) ≡ margins_of p → (last : List ℕ) → last ≡ refusal_line (told (Err o)).number 0 → last ≡ margins_answer p
   unfolding margins_answer
-  answer_refused o q z last h =
-      let c = sheet_refused p sheet e o q z in
-      h ∙ ap (λ (k : ℕ). refusal_line k 0) c ∙ sym (pick_no _ _ _ (ne_eqb (margins_cause p) 0 (λ y. z (c ∙ y))))
+  answer_refused o e last h =
+      let c = sheet_refused p o e in
+      h ∙ ap (λ (k : ℕ). refusal_line k 0) c ∙ sym (pick_no _ _ _ (ne_eqb (margins_cause p) 0 (λ y. some_number o (c ∙ y))))
+
+-- the table on a plan file, where it is accepted and where it is refused
+module _ {w : Written} {last : List ℕ} (out : List ℕ) (file : FileRead) where
+  pub put_margins : (p : Progress) (said : List ℕ) → answer (Ok p) ≡ file → said ≡ margins_answer p.plan
+      → w ≡ on_line 0 (written_of 0 (length said) (length out)) → last ≡ put_into said out → (w ≡ answer_on file (margins_on file) (length out)) × (last ≡ put_into (margins_on file) out)
+  unfolding margins_on
+  put_margins = put_accepted w last out file (λ (x : Progress). margins_answer x.plan)
+
+  pub put_refusal : (e : Refusal) → answer (Err e) ≡ file → w ≡ answer_on (answer (Err e)) (refusal_line (number e.cause) e.line) (length out) → last ≡ put_into (refusal_line (number e.cause) e.line) out
+      → (w ≡ answer_on file (margins_on file) (length out)) × (last ≡ put_into (margins_on file) out)
+  unfolding margins_on
+  put_refusal = put_refused w last out file (λ (x : Progress). margins_answer x.plan)

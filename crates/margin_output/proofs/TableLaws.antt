@@ -3,16 +3,11 @@ use Prim.Native.Nat.{ℕ, zero, suc, ◌+◌, ◌*◌, ◌≤◌, ◌<◌}
 use mathlib.Core.Path.{◌≡◌, refl, sym, ap, ◌∙◌, subst}
 use mathlib.Core.Logic.{◌⊎◌, inl, inr, ⊎_elim}
 use mathlib.Core.Bool.{Bool, true, false}
-use mathlib.Core.List.{List, [], ◌∷◌, ◌++◌, append-nil}
-use native.Mathlib.Nat.{lt_of_le_of_lt}
+use mathlib.Core.List.{List, [], ◌∷◌, ◌++◌, append-nil, append_assoc}
 use native.Mathlib.Omega.{arith}
-use lib.Dec.{T, lit<}
-use lib.IntN.{ℤ, pos, negsuc, nat_abs, ◌-ℤ◌}
+use lib.IntN.{ℤ, pos, negsuc, nat_abs}
 use lib.ListN.{length, length-append}
-use lib.Signed.{mag, lt_z, le_z, non_neg}
-use mir.Syntax.{w8, w32}
-use mir.Val.{Fits, SFits, to_z, of_z}
-use mir.Facts.{to_z-of_z}
+use lib.Signed.{lt_z, le_z}
 use borrow.Author.Tests.{ltb-true, ltb-false, lt-leb, le-leb}
 use Rattle.sets.specs.Tests.{◌and◌}
 use Rattle.sets.specs.Sets.{bit, count}
@@ -140,70 +135,25 @@ tally_few k standing t e =
 -- ---- a margin in decimal
 
 -- a margin below zero, and another, by its size
-module _ (m : ℤ) (small : mag m ≤ 20) where
-  pub size_small : nat_abs m ≤ 21
-  size_small = go m small
-    where
-      go : (z : ℤ) → mag z ≤ 20 → nat_abs z ≤ 21
-      go (pos v) h = omega arith
-      go (negsuc v) h = omega arith
+pub signed_below : (m : ℤ) → lt_z m (pos 0) ≡ true → 45 ∷ decimal (nat_abs m) ≡ signed m
+unfolding signed
+signed_below (pos v) h = absurd (let l = ltb-true v 0 h in omega arith)
+signed_below (negsuc v) h = refl
 
-  read_back : to_z w32 (of_z w32 m) ≡ m
-  read_back = to_z-of_z {w = w32} (record { sfits = omega arith })
-
-  pub signed_below : lt_z m (pos 0) ≡ true → 45 ∷ decimal (nat_abs m) ≡ signed m
-  unfolding signed
-  signed_below = go m
-    where
-      go : (z : ℤ) → lt_z z (pos 0) ≡ true → 45 ∷ decimal (nat_abs z) ≡ signed z
-      go (pos v) h = absurd (let l = ltb-true v 0 h in omega arith)
-      go (negsuc v) h = refl
-
-  pub signed_above : lt_z m (pos 0) ≡ false → decimal (nat_abs m) ≡ signed m
-  unfolding signed
-  signed_above = go m
-    where
-      go : (z : ℤ) → lt_z z (pos 0) ≡ false → decimal (nat_abs z) ≡ signed z
-      go (pos v) h = refl
-      go (negsuc v) h = clash refl h
-
-  size_above : lt_z m (pos 0) ≡ false → m ≡ pos (nat_abs m)
-  size_above = go m
-    where
-      go : (z : ℤ) → lt_z z (pos 0) ≡ false → z ≡ pos (nat_abs z)
-      go (pos v) h = refl
-      go (negsuc v) h = clash refl h
-
-  size_below : lt_z m (pos 0) ≡ true → pos 0 -ℤ m ≡ pos (nat_abs m)
-  size_below = go m
-    where
-      go : (z : ℤ) → lt_z z (pos 0) ≡ true → pos 0 -ℤ z ≡ pos (nat_abs z)
-      go (pos v) h = absurd (let l = ltb-true v 0 h in omega arith)
-      go (negsuc v) h = let e : 0 + suc v ≡ suc v = omega arith in ap pos e
-
-  size_fits : SFits w32 (pos (nat_abs m))
-  size_fits = record { sfits = lt_of_le_of_lt size_small (lit< tt) }
-
-  pub less_fits : lt_z m (pos 0) ≡ true → SFits w32 (pos 0 -ℤ to_z w32 (of_z w32 m))
-  less_fits h = subst (SFits w32) (sym (ap (λ (z : ℤ). pos 0 -ℤ z) read_back ∙ size_below h)) size_fits
-
-  pub less_is : lt_z m (pos 0) ≡ true → to_z w32 (of_z w32 (pos 0 -ℤ to_z w32 (of_z w32 m))) ≡ pos (nat_abs m)
-  less_is h = to_z-of_z (less_fits h) ∙ ap (λ (z : ℤ). pos 0 -ℤ z) read_back ∙ size_below h
-
-  pub same_is : lt_z m (pos 0) ≡ false → to_z w32 (of_z w32 m) ≡ pos (nat_abs m)
-  same_is h = read_back ∙ size_above h
-
-  -- what is read as such a size is one, and a byte holds it
-  pub size_read : (z : ℤ) → z ≡ pos (nat_abs m) → T (non_neg z) × Fits w8 (nat_abs z)
-  size_read z e = subst (λ (x : ℤ). T (non_neg x) × Fits w8 (nat_abs x)) (sym e) (tt, record { fits = lt_of_le_of_lt size_small (lit< tt) })
+pub signed_above : (m : ℤ) → lt_z m (pos 0) ≡ false → decimal (nat_abs m) ≡ signed m
+unfolding signed
+signed_above (pos v) h = refl
+signed_above (negsuc v) h = clash refl h
 
 -- ---- lines
 
 -- one part after the other, each with room
-pub line_direct : (xs : List ℕ) (b : ℕ) {one two three last : List ℕ} → one ≡ joined xs (decimal b) → two ≡ joined one (32 ∷ [])
-    → three ≡ joined two direct_word → last ≡ joined three (10 ∷ []) → last ≡ joined xs (standing_line b Direct)
+pub line_direct : (xs : List ℕ) (b : ℕ) {one last : List ℕ} → one ≡ joined xs (decimal b) → last ≡ joined one (32 ∷ (direct_word ++ (10 ∷ [])))
+    → last ≡ joined xs (standing_line b Direct)
 unfolding standing_line
-line_direct xs b a c d e = then xs _ (10 ∷ []) (then xs _ direct_word (then xs (decimal b) (32 ∷ []) a c) d) e
+line_direct xs b a c =
+    then xs (decimal b) (32 ∷ (direct_word ++ (10 ∷ []))) a c
+    ∙ ap (joined xs) (sym (append_assoc (decimal b ++ (32 ∷ [])) direct_word (10 ∷ []) ∙ append_assoc (decimal b) (32 ∷ []) (direct_word ++ (10 ∷ []))))
 
 pub line_margin : (xs : List ℕ) (b : ℕ) (m : ℤ) {one two three last : List ℕ} → one ≡ joined xs (decimal b) → two ≡ joined one (32 ∷ [])
     → three ≡ joined two (signed m) → last ≡ joined three (10 ∷ []) → last ≡ joined xs (standing_line b (Margin m))

@@ -5,12 +5,11 @@ use Rattle.sets.specs.Tests.{◌and◌}
 use Rattle.sets.specs.Sets.{Terminal, bit, count}
 use Rattle.partition.specs.declared.Standing.{Standing}
 use Rattle.partition.specs.declared.Standing.TheVariants.{Source, Direct, Margin, Absent}
-use Rattle.partition.specs.declared.Place.{Place}
 use Rattle.margin_output.specs.declared.Tally.{Tally}
 
 -- how terminal b stands in a list of places
-abbrev pub standing_in : (places : List Place) (b : Terminal) → Standing
-standing_in places b = (get_or places b (record { standing = Source })).standing
+abbrev pub standing_in : (places : List Standing) (b : Terminal) → Standing
+standing_in places b = get_or places b Source
 
 -- on which side of zero one stands
 unfoldable pub stands_direct : Standing → Bool

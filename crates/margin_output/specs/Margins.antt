@@ -8,8 +8,7 @@ use Rattle.partition.specs.declared.Standing.{Standing}
 use Rattle.partition.specs.declared.Standing.TheVariants.{Source, Direct, Margin, Absent}
 use Rattle.partition.specs.Margins.{standing_of, margins_cause}
 use Rattle.text.specs.Digits.{decimal}
-use Rattle.frames.specs.declared.FileRead.{FileRead}
-use Rattle.frames.specs.Reading.{margins_reading, file_read}
+use Rattle.frames.specs.Reading.{FileRead, margins_reading, file_read}
 use Rattle.output.specs.OnFile.{refusal_line, text_on}
 
 -- a minus sign before one below zero

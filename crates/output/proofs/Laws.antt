@@ -1,17 +1,22 @@
 -- The text on a file that is refused or accepted, and what was put of it: what is written lies within the lent list, and a list that has room for the text
 -- gets it. Assumes nothing.
 use Prim.Native.Nat.{ℕ, ◌≤◌}
-use mathlib.Core.Path.{◌≡◌, refl, ap}
+use mathlib.Core.Path.{◌≡◌, refl, sym, ap, ◌∙◌}
 use mathlib.Core.List.{List}
 use native.Mathlib.Omega.{arith}
 use lib.Dec.{eqb}
 use lib.ListN.{length, take, length-take}
 use borrow.Author.Tests.{eq-eqb, ne_eqb, eqb-true}
+use Rattle.std.specs.Prelude.{Ok, Err}
 use Rattle.sets.proofs.Bools.{pick_yes, pick_no, pick_case}
 use Rattle.text.specs.Digits.{hex_byte, hex_pair}
 use Rattle.text.specs.Texts.{written_of, put_into}
 use Rattle.text.proofs.Laws as texts
-use Rattle.frames.specs.declared.FileRead.{FileRead}
+use Rattle.frames.specs.declared.Progress.{Progress}
+use Rattle.frames.specs.declared.Refusal.{Refusal}
+use Rattle.frames.specs.Reading.{nothing_read, FileRead}
+use Rattle.frames.specs.Causes.{number, answer}
+use Rattle.frames.proofs.LineLaws.{numbered}
 use Rattle.output.specs.declared.Written.{Written}
 use Rattle.output.specs.OnFile.{refusal_line, text_on, on_line, answer_on}
 
@@ -45,6 +50,22 @@ on_length read said most k s =
 pub put_as : (w : Written) (last out : List ℕ) (read file : FileRead) (text said : List ℕ) → read ≡ file → text ≡ said → w ≡ answer_on read text (length out)
     → last ≡ put_into text out → (w ≡ answer_on file said (length out)) × (last ≡ put_into said out)
 put_as w last out read file text said e t a b = rw (← e, ← t) (a, b)
+
+-- what the text on a file is where it is accepted, and where it is refused, and with it what was put of it
+module _ (w : Written) (last out : List ℕ) (file : FileRead) (said : Progress → List ℕ) where
+  pub put_accepted : (p : Progress) (text : List ℕ) → answer (Ok p) ≡ file → text ≡ said p → w ≡ on_line 0 (written_of 0 (length text) (length out)) → last ≡ put_into text out
+      → (w ≡ answer_on file (text_on file (said file.progress)) (length out)) × (last ≡ put_into (text_on file (said file.progress)) out)
+  unfolding answer_on
+  put_accepted p text e t a b =
+      let k : text ≡ text_on file (said file.progress) = t ∙ sym (answered_is (answer (Ok p)) (said p) refl) ∙ ap (λ (r : FileRead). text_on r (said r.progress)) e in
+      put_as w last out (answer (Ok p)) file text _ e k a b
+
+  pub put_refused : (e : Refusal) → answer (Err e) ≡ file → w ≡ answer_on (answer (Err e)) (refusal_line (number e.cause) e.line) (length out)
+      → last ≡ put_into (refusal_line (number e.cause) e.line) out
+      → (w ≡ answer_on file (text_on file (said file.progress)) (length out)) × (last ≡ put_into (text_on file (said file.progress)) out)
+  put_refused e r a b =
+      let k : refusal_line (number e.cause) e.line ≡ text_on file (said file.progress) = sym (refused_is (answer (Err e)) (said nothing_read) (numbered e.cause)) ∙ ap (λ (f : FileRead). text_on f (said f.progress)) r in
+      put_as w last out (answer (Err e)) file _ _ r k a b
 
 -- a list that has room gets the text: what comes back is the file's number and line, and the text's length
 pub whole_text : (read : FileRead) (text : List ℕ) (room : ℕ) → length text ≤ room

@@ -4,7 +4,7 @@ use Rattle.sets.specs.Tests.{pick}
 use Rattle.text.specs.declared.Written as text
 use Rattle.text.specs.Digits.{hex_byte, hex_pair}
 use Rattle.text.specs.Texts.{written_of}
-use Rattle.frames.specs.declared.FileRead.{FileRead}
+use Rattle.frames.specs.Reading.{FileRead}
 use Rattle.output.specs.declared.Written.{Written}
 
 -- ff: the number of a refusal, and its line

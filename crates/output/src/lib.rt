@@ -1,15 +1,16 @@
-// What the programs' texts share: the line that refuses a file, and the answer on a file.
+// What the programs' texts share: the line that refuses a file, and what is put of a text on a file.
 #![tactic(auto)]
 
-ghost use Rattle.std.specs.Prelude.{◌≡◌, length};
-ghost use Rattle.text.specs.Texts.{held, put_into};
+ghost use Rattle.std.specs.Prelude.{◌≡◌, Err, length};
+ghost use Rattle.text.specs.Texts.{held, written_of, put_into};
+ghost use Rattle.frames.specs.Causes.{number, answer};
 ghost use Rattle.output.specs.OnFile.{refusal_line, on_line, answer_on};
 
-use frames::FileRead;
+use frames::Refusal;
 use text::Text;
 
 // The number and line of a refused file, whose text says the same, or 12 where an accepted file's
-// text has no room; and the length of the text that was put.
+// text has no room; and the length of the text that was put: no Result, since beside a number a text may stand.
 #[derive(Clone, Copy)]
 pub struct Written {
     pub number: u8,
@@ -23,7 +24,7 @@ pub fn on_line(line: u16, w: text::Written) -> Written
 {
     Written {
         number: w.number,
-        line: line,
+        line,
         len: w.len,
     }
 }
@@ -35,10 +36,19 @@ pub fn refusal(number: u8, line: u16) -> Text
     text::empty().byte(255).byte(number).pair(line).raw(10)
 }
 
-// The text on a file at the front of the list, if it has room.
-pub fn put(read: FileRead, t: Text, out: &mut [u8]) -> Written
-    ensures value { result ≡ answer_on read (held t) (length out.old) }
-    ensures out_after { out.new ≡ put_into (held t) out.old }
+// What is said of an accepted file, at the front of the list, if it has room.
+pub fn put(said: Text, out: &mut [u8]) -> Written
+    ensures value { result ≡ on_line 0 (written_of 0 (length (held said)) (length out.old)) }
+    ensures out_after { out.new ≡ put_into (held said) out.old }
 {
-    on_line(read.line, t.put(read.number, out))
+    on_line(0, said.put(0, out))
+}
+
+// Why a file is refused, likewise.
+pub fn refused(e: Refusal, out: &mut [u8]) -> Written
+    ensures value { result ≡ answer_on (answer (Err e)) (refusal_line (number e.cause) e.line) (length out.old) }
+    ensures out_after { out.new ≡ put_into (refusal_line (number e.cause) e.line) out.old }
+{
+    let number = u8::from(e.cause);
+    on_line(e.line, refusal(number, e.line).put(number, out))
 }

@@ -1,12 +1,13 @@
 -- The least key, read as the best set of the definition. Assumes nothing.
-use Prim.Native.Nat.{ℕ, ◌/◌, ◌%◌, ◌≤◌, ◌<◌, ◌^◌}
-use mathlib.Core.Path.{◌≡◌, sym, ap, ◌∙◌, subst}
+use Prim.Native.Nat.{ℕ, ◌%◌, ◌≤◌, ◌<◌, ◌^◌}
+use mathlib.Core.Path.{◌≡◌, refl, sym, ap, ◌∙◌, subst}
 use mathlib.Core.Logic.{◌⊎◌, inl, inr, ⊎_elim}
 use mathlib.Core.Bool.{true, false}
 use native.Mathlib.Nat.{lt_of_lt_of_le}
 use native.Mathlib.Omega.{arith}
 use lib.Bits.{bit_or, or_lt}
 use lib.Pow.{pow_mono, pow_pos}
+use Rattle.std.specs.Prelude.{Some, None}
 use Rattle.sets.specs.Sets.{mem, size, singleton}
 use Rattle.sets.proofs.Bools.{clash, decide, or_e}
 use Rattle.sets.proofs.Laws.{mem_below, mem_zero}
@@ -20,19 +21,17 @@ use Rattle.closure.specs.Verdict.{Ahead, defeats, Found, none, found, best_below
 use Rattle.closure.proofs.Faults.{fault_below, fault_source}
 use Rattle.closure.proofs.Growth.{joins_source, reached_closed, reached_source}
 use Rattle.closure.proofs.Witness.{IsBest, best_below_lem, defeats_fault}
-use Rattle.partition.specs.declared.search.Best.{Best}
 use Rattle.partition.specs.Search.{direct, key, StandsFor, Between, Part, Least, Any}
 use Rattle.partition.proofs.Rows.{direct_mem, direct_below, one_below, one_only, one_mem}
 use Rattle.partition.proofs.Leasts.{least_among}
-use Rattle.partition.proofs.Members.{key_low, key_members, key_set, size_twenty}
+use Rattle.partition.proofs.Members.{key_low, key_set, size_twenty}
 
 module _ (p : Plan) (e : cause_of p ≡ 0) (one : ℕ) (q : one ≡ singleton 32 p.source) where
   -- the whole search: no fault set has the source, and the source and its hearers are settled
-  pub whole : (f : ℕ) → p.bound.kind ≡ Most f → (hearers : ℕ) → hearers ≡ direct p.rows p.source → Part p f hearers 0 one (bit_or one hearers)
+  pub whole : (f : ℕ) → p.bound.kind ≡ Most f → (hearers : ℕ) → hearers ≡ direct p.rows p.source → Part p f 0 one (bit_or one hearers)
   whole f m hearers d = record {
     plan = e;
     bound_is = m;
-    hearers_are = d;
     inn_below = pow_pos p.n;
     out_below = one_below p (sound p e) one q;
     known_below = or_lt p.n one hearers (one_below p (sound p e) one q) (direct_below p (sound p e) hearers d);
@@ -78,24 +77,29 @@ module _ (p : Plan) (e : cause_of p ≡ 0) where
       ⊎_elim (λ l. omega arith) (λ l. omega arith) a
 
   -- the least key is the definition's best set
-  pub stands : (r : ℕ) → Least p Any 22020096 r → (made : Best) → made.members ≡ r / 1048576 → made.set ≡ r % 1048576
-      → StandsFor p.n made (best_below p (2 ^ p.n))
-  unfolding StandsFor IsBest
-  stands r h made m c = go (best_below p (2 ^ p.n)) (best_below_lem p (2 ^ p.n))
-    where
-      go : (x : Found) → IsBest p (2 ^ p.n) x → StandsFor p.n made x
-      go none b =
-          ⊎_elim (λ v. m ∙ ap (λ (y : ℕ). y / 1048576) v) (λ v. clash v.1 (b v.0 (below v.0 v.1))) h.comes
-      go (found t) b = same h.comes
-        where
-          same : (r ≡ 22020096) ⊎ ((s : ℕ) × (defeats p s ≡ true) × (r ≡ key s)) → StandsFor p.n made (found t)
-          same (inl v) =
-              let l : r ≤ key t = h.below t b.1 tt in
-              absurd (omega (arith, key_low t (low t b.1)))
-          same (inr (s, d, v)) =
-              let l : r ≤ key t = h.below t b.1 tt in
-              let g : key t ≤ key s = ahead_key t s b.1 d (b.2 s (below s d) d) in
-              let w : r ≡ key t = omega arith in (
-                c ∙ ap (λ (y : ℕ). y % 1048576) w ∙ key_set t (low t b.1),
-                m ∙ ap (λ (y : ℕ). y / 1048576) w ∙ key_members t (low t b.1) ∙ narrow t b.1,
-              )
+  module _ (r : ℕ) (h : Least p Any 22020096 r) where
+    pub stands_none : 22020096 ≤ r → StandsFor None (best_below p (2 ^ p.n))
+    unfolding StandsFor IsBest
+    stands_none l = go (best_below p (2 ^ p.n)) (best_below_lem p (2 ^ p.n))
+      where
+        go : (x : Found) → IsBest p (2 ^ p.n) x → StandsFor None x
+        go none b = refl
+        go (found t) b =
+            let k : r ≤ key t = h.below t b.1 tt in
+            absurd (omega (arith, key_low t (low t b.1)))
+
+    pub stands_some : r < 22020096 → (s : ℕ) → s ≡ r % 1048576 → StandsFor (Some s) (best_below p (2 ^ p.n))
+    unfolding StandsFor IsBest
+    stands_some l s c = go (best_below p (2 ^ p.n)) (best_below_lem p (2 ^ p.n))
+      where
+        go : (x : Found) → IsBest p (2 ^ p.n) x → StandsFor (Some s) x
+        go none b = ⊎_elim (λ v. absurd (omega arith)) (λ v. clash v.1 (b v.0 (below v.0 v.1))) h.comes
+        go (found t) b = same h.comes
+          where
+            same : (r ≡ 22020096) ⊎ ((u : ℕ) × (defeats p u ≡ true) × (r ≡ key u)) → StandsFor (Some s) (found t)
+            same (inl v) = absurd (omega arith)
+            same (inr (u, d, v)) =
+                let m : r ≤ key t = h.below t b.1 tt in
+                let g : key t ≤ key u = ahead_key t u b.1 d (b.2 u (below u d) d) in
+                let w : r ≡ key t = omega arith in
+                ap Some (c ∙ ap (λ (y : ℕ). y % 1048576) w ∙ key_set t (low t b.1))

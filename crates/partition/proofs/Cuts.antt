@@ -32,7 +32,7 @@ use Rattle.partition.proofs.Members.{outside_mem, outside_i, outside_below, insi
 use Rattle.partition.proofs.Halves.{left_to, only_inn, Half, out_low, keeps_out, out_why, fewer_without, inn_low, keeps_inn, inn_why, fewer_with, half_of}
 use Rattle.partition.proofs.Leasts.{stays, least_among, least_then}
 
-module _ {p : Plan} {hearers inn out hopeful : ℕ} (part : Cutting p hearers inn out hopeful) where
+module _ {p : Plan} {inn out hopeful : ℕ} (part : Cutting p inn out hopeful) where
   low : (s : ℕ) → s < 2 ^ p.n → s < 2 ^ 20
   low s h = lt_of_lt_of_le h (pow_mono (sound p part.plan).twenty)
 
@@ -122,10 +122,9 @@ module _ {p : Plan} {hearers inn out hopeful : ℕ} (part : Cutting p hearers in
             (not_e (mem c inn) (and_l _ _ f), not_e (mem c out) (and_r _ _ f))
 
         module _ (o : ℕ) (q : o ≡ with 32 out c) where
-          pub cutting_without : Cutting p hearers inn o left
+          pub cutting_without : Cutting p inn o left
           cutting_without = record {
             plan = part.plan;
-            hearers_are = part.hearers_are;
             inn_below = part.inn_below;
             out_below = out_low halves o q;
             hopeful_below = h.below;
@@ -138,10 +137,9 @@ module _ {p : Plan} {hearers inn out hopeful : ℕ} (part : Cutting p hearers in
           left_without = fewer_without halves o q
 
         module _ (i : ℕ) (q : i ≡ with 32 inn c) where
-          pub cutting_with : Cutting p hearers i out left
+          pub cutting_with : Cutting p i out left
           cutting_with = record {
             plan = part.plan;
-            hearers_are = part.hearers_are;
             inn_below = inn_low halves i q;
             out_below = part.out_below;
             hopeful_below = h.below;
@@ -194,10 +192,9 @@ hopeful_none p all hopeful rest h z = subst (λ (x : ℕ). Hopeful p all hopeful
 module _ (p : Plan) (plan : cause_of p ≡ 0) (hearers group : ℕ) (d : hearers ≡ direct p.rows p.source) (together : Together p group) (out hopeful : ℕ)
     (e : out ≡ outside p.n group 0) (q : hopeful ≡ outside p.n hearers 0) where
   -- whoever hears the source is never cut off, nor is the source
-  pub cutting_start : Cutting p hearers 0 out hopeful
+  pub cutting_start : Cutting p 0 out hopeful
   cutting_start = record {
     plan = plan;
-    hearers_are = d;
     inn_below = pow_pos p.n;
     out_below = subst (λ (x : ℕ). x < 2 ^ p.n) (sym e) (mask_lt p.n (λ i. not (mem i group) and not (mem i 0)));
     hopeful_below = subst (λ (x : ℕ). x < 2 ^ p.n) (sym q) (mask_lt p.n (λ i. not (mem i hearers) and not (mem i 0)));

@@ -1,59 +1,62 @@
 -- The laws of the verdict for its callers: what a pass and a fail mean. Assumes nothing.
-use Prim.Native.Nat.{ℕ, ◌≤◌, ◌<◌, ◌^◌}
+use Prim.Native.Nat.{ℕ, ◌<◌, ◌^◌}
 use mathlib.Core.Path.{◌≡◌, refl, sym, ap, ◌∙◌, subst}
 use mathlib.Core.Bool.{Bool, true, false, not}
 use native.Mathlib.Omega.{arith}
 use lib.Dec.{eqb}
 use borrow.Author.Tests.{eqb-true, eq-eqb, ne_eqb}
+use Rattle.std.specs.Prelude.{Option, Some, None, Result, Ok, Err}
+use Rattle.std.specs.Result.{IsErrAnd}
+use Rattle.std.proofs.lemmas.Result.{err_from_is_err_and}
+use Rattle.partition.specs.declared.Witness.{Witness}
+use Rattle.partition.specs.declared.VerdictError.{VerdictError}
 use Rattle.sets.specs.Tests.{◌and◌, pick}
-use Rattle.sets.specs.Sets.{mem, mask, size}
+use Rattle.sets.specs.Sets.{mem, mask}
 use Rattle.sets.proofs.Bools.{pick_yes, pick_no, pick_case}
-use Rattle.sets.proofs.Laws.{count_le}
 use Rattle.plan.specs.declared.Plan.{Plan}
-use Rattle.plan.specs.Plan.{cause_within, cause_of, too_many}
-use Rattle.plan.proofs.Laws.{Sound, sound, few_cause, within_sound}
+use Rattle.plan.specs.declared.Unsound.{Unsound}
+use Rattle.plan.specs.declared.Unsound.TheVariants.{WrongRange, WrongLink, WrongGroups}
+use Rattle.plan.specs.Plan.{number_of, cause_within, cause_of, too_many}
+use Rattle.plan.proofs.Laws.{sound, few_cause, within_sound}
 use Rattle.closure.specs.Closure.{reached, cut_off}
 use Rattle.closure.specs.Verdict.{Ahead, defeats, Found, none, found, best_below, verdict_of, verdict, accepts}
 use Rattle.closure.proofs.Witness.{IsBest, best_below_lem, verdict_fail, witness_accepted}
-use Rattle.partition.specs.declared.Judgement.TheVariants.{Pass, Fail}
-use Rattle.partition.specs.declared.search.Best.{Best}
-use Rattle.partition.specs.Answer.{answered, Reply, reply_of}
+use Rattle.partition.specs.Answer.{answered, of_plan, Reply, replied, reply_of}
 use Rattle.closure.specs.Answer.{Answer, refused, judged, answer_within}
 use Rattle.partition.specs.Search.{StandsFor}
 
--- ---- the search's memory read as a verdict
+-- the error that `?` handed on
+pub err_of : {T E : Type 0} (r : Result T E) (x : E) → IsErrAnd r (λ y. y ≡ x) → r ≡ Err x
+err_of r x k = let e = err_from_is_err_and r k in e.1 ∙ ap Err e.2
 
-pub memory_passes : (p : Plan) → Sound p → (best : Best) (x : Found) → StandsFor p.n best x → 20 < best.members
-    → answered Pass ≡ judged (verdict_of p x)
-unfolding StandsFor judged verdict_of pick size
-memory_passes p s best none h l = refl
-memory_passes p s best (found b) h l =
-    let t = s.twenty in
-    let q : best.members ≡ size p.n b = h.1 in
-    absurd (omega (arith, count_le p.n (λ i. mem i b)))
+-- ---- what the search gives, read as a verdict
 
-pub memory_fails : (p : Plan) (best : Best) (x : Found) → StandsFor p.n best x → best.members ≤ 20
-    → (l r : ℕ) → l ≡ reached p best.set → r ≡ mask p.n (λ b. not (mem b best.set) and not (mem b l))
-    → answered (Fail (record { f = best.set; l = l; r = r })) ≡ judged (verdict_of p x)
+pub memory_passes : (p : Plan) (x : Found) → StandsFor None x → answered (Ok None) ≡ judged (verdict_of p x)
+unfolding StandsFor judged verdict_of pick
+memory_passes p none h = refl
+memory_passes p (found b) h = absurd (cc)
+
+pub memory_fails : (p : Plan) (f : ℕ) (x : Found) → StandsFor (Some f) x
+    → (l r : ℕ) → l ≡ reached p f → r ≡ mask p.n (λ b. not (mem b f) and not (mem b l))
+    → answered (Ok (Some (record { f = f; l = l; r = r }))) ≡ judged (verdict_of p x)
 unfolding StandsFor judged verdict_of pick cut_off
-memory_fails p best none h m l r e q = absurd (omega arith)
-memory_fails p best (found b) h m l r e q = same l r e q h.0
+memory_fails p f none h l r e q = absurd (cc)
+memory_fails p f (found b) h l r e q = same (cc)
   where
-    same : (l r : ℕ) → l ≡ reached p best.set → r ≡ mask p.n (λ b. not (mem b best.set) and not (mem b l)) → best.set ≡ b
-        → answered (Fail (record { f = best.set; l = l; r = r })) ≡ judged (verdict_of p (found b))
-    same l r e q z =
+    same : f ≡ b → answered (Ok (Some (record { f = f; l = l; r = r }))) ≡ judged (verdict_of p (found b))
+    same z =
         let e' : l ≡ reached p b = e ∙ ap (reached p) z in
         let q' : r ≡ cut_off p b =
         q ∙ ap (λ (s : ℕ). mask p.n (λ i. not (mem i s) and not (mem i l))) z ∙ ap (λ (s : ℕ). mask p.n (λ i. not (mem i b) and not (mem i s))) e' in
         λ i. record { number = 0; failed = 1; f = z i; l = e' i; r = q' i }
 
-pub memory_below : (p : Plan) (best : Best) → StandsFor p.n best (best_below p (2 ^ p.n)) → best.members ≤ 20 → best.set < 2 ^ p.n
+pub memory_below : (p : Plan) (f : ℕ) → StandsFor (Some f) (best_below p (2 ^ p.n)) → f < 2 ^ p.n
 unfolding StandsFor IsBest
-memory_below p best = go (best_below p (2 ^ p.n)) (best_below_lem p (2 ^ p.n))
+memory_below p f = go (best_below p (2 ^ p.n)) (best_below_lem p (2 ^ p.n))
   where
-    go : (x : Found) → IsBest p (2 ^ p.n) x → StandsFor p.n best x → best.members ≤ 20 → best.set < 2 ^ p.n
-    go none b h m = absurd (omega arith)
-    go (found t) b h m = subst (λ (s : ℕ). s < 2 ^ p.n) (sym h.0) b.0
+    go : (x : Found) → IsBest p (2 ^ p.n) x → StandsFor (Some f) x → f < 2 ^ p.n
+    go none b h = absurd (cc)
+    go (found t) b h = let z : f ≡ t = cc in subst (λ (s : ℕ). s < 2 ^ p.n) (sym z) b.0
 
 -- ---- the answer by the plan's cause, where the limit refuses nothing
 
@@ -67,6 +70,12 @@ module _ (most : ℕ) (p : Plan) (few : too_many most p ≡ false) where
   answer_refused k e z =
       let w : k ≡ cause_within most p = e ∙ sym (few_cause most p few) in
       ap refused w ∙ sym (pick_no _ _ _ (ne_eqb (cause_within most p) 0 (λ y. z (w ∙ y))))
+
+  -- what refuses the plan, handed on as the answer
+  pub plan_refused : (e : Unsound) (r : Result (Option Witness) VerdictError) → IsErrAnd r (λ x. x ≡ of_plan e) → number_of (Err e) ≡ cause_of p → answered r ≡ answer_within most p
+  plan_refused WrongRange r k q = rw (err_of r _ k) (answer_refused 4 q (λ z. omega arith))
+  plan_refused WrongLink r k q = rw (err_of r _ k) (answer_refused 5 q (λ z. omega arith))
+  plan_refused WrongGroups r k q = rw (err_of r _ k) (answer_refused 17 q (λ z. omega arith))
 
 -- ---- for callers
 
@@ -115,12 +124,23 @@ with_check most p a e =
 
 -- ---- the witness check's reply by the plan's cause
 
-pub reply_checked : (p : Plan) (f l r a : ℕ) → cause_of p ≡ 0 → a ≡ pick (accepts p f l r) 1 0 → ◌≡◌ {A = Reply} (record { number = 0; accepted = a }) (reply_of p f l r)
-unfolding reply_of
-reply_checked p f l r a e q =
-    ap (λ (y : ℕ). record { number = 0; accepted = y }) q ∙ sym (pick_yes _ _ _ (eq-eqb (cause_of p) 0 e))
+of_test : (y : Bool) → ◌≡◌ {A = Reply} (replied (Ok y)) (record { number = 0; accepted = pick y 1 0 })
+unfolding pick
+of_test true = refl
+of_test false = refl
 
-pub reply_refused : (p : Plan) (f l r k : ℕ) → k ≡ cause_of p → (k ≡ 0 → ⊥) → ◌≡◌ {A = Reply} (record { number = k; accepted = 0 }) (reply_of p f l r)
+pub reply_checked : (p : Plan) (f l r : ℕ) (b : Bool) → cause_of p ≡ 0 → b ≡ accepts p f l r → replied (Ok b) ≡ reply_of p f l r
 unfolding reply_of
-reply_refused p f l r k e z =
-    ap (λ (y : ℕ). record { number = y; accepted = 0 }) e ∙ sym (pick_no _ _ _ (ne_eqb (cause_of p) 0 (λ y. z (e ∙ y))))
+reply_checked p f l r b e q = of_test b ∙ ap (λ (y : Bool). record { number = 0; accepted = pick y 1 0 }) q ∙ sym (pick_yes _ _ _ (eq-eqb (cause_of p) 0 e))
+
+refuses : (e : Unsound) → number_of (Err e) ≡ 0 → ⊥
+refuses WrongRange z = omega arith
+refuses WrongLink z = omega arith
+refuses WrongGroups z = omega arith
+
+-- what refuses the plan, handed on as the reply
+pub reply_refused : (p : Plan) (f l r : ℕ) (e : Unsound) (made : Result Bool Unsound) → IsErrAnd made (λ x. x ≡ e) → number_of (Err e) ≡ cause_of p
+    → replied made ≡ reply_of p f l r
+unfolding reply_of
+reply_refused p f l r e made k q =
+    ap replied (err_of made e k) ∙ ap (λ (y : ℕ). record { number = y; accepted = 0 }) q ∙ sym (pick_no _ _ _ (ne_eqb (cause_of p) 0 (λ z. refuses e (q ∙ z))))

@@ -1,5 +1,5 @@
 -- The search for margins: what a word of the code counts, what it rules out, and what each return is the least of. Assumes nothing.
-use Prim.Native.Nat.{ℕ, ◌+◌, ◌-◌, ◌^◌, ◌≤◌, ◌<◌}
+use Prim.Native.Nat.{ℕ, ◌+◌, ◌-◌, ◌^◌, ◌≤◌, ◌<◌, max}
 use mathlib.Core.Path.{◌≡◌, refl, sym, ap, ◌∙◌, subst}
 use mathlib.Core.Logic.{◌⊎◌, inl, inr, ⊎_elim}
 use mathlib.Core.Bool.{Bool, true, false, not}
@@ -10,7 +10,7 @@ use lib.Bits.{bit_and, bit_or, and_le_l, and_le_r, or_lt}
 use lib.Count.{ones}
 use lib.Dec.{eqb, ltb}
 use lib.ListN.{get_or}
-use borrow.Author.Tests.{ltb-true, ltb-false, lt-ltb, le-ltb, eq-eqb}
+use borrow.Author.Tests.{ltb-true, ltb-false, lt-ltb, eq-eqb}
 use Rattle.sets.specs.Tests.{◌and◌}
 use Rattle.sets.specs.Sets.{mem, count, with, outside, singleton}
 use Rattle.sets.proofs.Bools.{clash, decide, and_l, and_r, and_i, and_no_l, not_i, not_e, no_by, or_l, or_e, pick_yes, pick_no, pick_case}
@@ -73,13 +73,14 @@ module _ (row l before : ℕ) (sought : Bool) where
       (λ y. inr (and_l _ _ y, refl)) (λ y. inl refl)
 
 module _ (row f out sure : ℕ) where
-  pub surely_more : in_row row (bit_and sure out) < in_row row sure - f → in_row row sure - f ≡ surely row f out sure
+  -- the greater of the two
+  pub surely_max : max (in_row row (bit_and sure out)) (in_row row sure - f) ≡ surely row f out sure
   unfolding surely
-  surely_more h = sym (pick_yes _ _ _ (lt-ltb (in_row row (bit_and sure out)) (in_row row sure - f) h))
-
-  pub surely_good : in_row row sure - f ≤ in_row row (bit_and sure out) → in_row row (bit_and sure out) ≡ surely row f out sure
-  unfolding surely
-  surely_good h = sym (pick_no _ _ _ (le-ltb (in_row row (bit_and sure out)) (in_row row sure - f) h))
+  surely_max =
+      pick_case (λ (v : ℕ). max (in_row row (bit_and sure out)) (in_row row sure - f) ≡ v)
+      (ltb (in_row row (bit_and sure out)) (in_row row sure - f)) (in_row row sure - f) (in_row row (bit_and sure out))
+      (λ y. let h = ltb-true (in_row row (bit_and sure out)) (in_row row sure - f) y in omega arith)
+      (λ y. let h = ltb-false (in_row row (bit_and sure out)) (in_row row sure - f) y in omega arith)
 
 -- a sound plan's row over its n terminals
 module _ (p : Plan) (s : Sound p) where
@@ -178,8 +179,8 @@ stays_low : {p : Plan} {Of : ℕ → Type 0} {sought : ℕ} {counts : List ℕ}
     → ((b s : ℕ) → mem b sought ≡ true → leaves_good p b s ≡ true → Of s → get_or counts b 0 ≤ heard_of_l p b s) → Lower p Of sought counts counts
 stays_low f = record { at_most = λ b k. le_refl _; comes = λ b k. inl refl; least = f }
 
-module _ {p : Plan} {f hearers inn out known : ℕ} (part : Part p f hearers inn out known) {shut : ℕ} (bar : Barred p inn out shut) where
-  pub shut_part : Part p f hearers inn shut known
+module _ {p : Plan} {f inn out known : ℕ} (part : Part p f inn out known) {shut : ℕ} (bar : Barred p inn out shut) where
+  pub shut_part : Part p f inn shut known
   shut_part =
       narrows part inn shut known (λ i m. m) bar.has part.inn_below bar.below part.known_below (λ s i w u. u)
 
@@ -189,7 +190,7 @@ module _ {p : Plan} {f hearers inn out known : ℕ} (part : Part p f hearers inn
   shut_between : (s : ℕ) → is_fault_set p s ≡ true → Between inn out s → Between inn shut s
   shut_between s i w = record { has = w.has; lacks = bar.apart s i w }
 
-module _ {p : Plan} {f hearers inn out known : ℕ} (part : Part p f hearers inn out known) (sought : ℕ) (low : sought < 2 ^ p.n) (counts : List ℕ) where
+module _ {p : Plan} {f inn out known : ℕ} (part : Part p f inn out known) (sought : ℕ) (low : sought < 2 ^ p.n) (counts : List ℕ) where
   sought_below : (b : ℕ) → mem b sought ≡ true → b < p.n
   sought_below b m = mem_below p.n b sought low m
 

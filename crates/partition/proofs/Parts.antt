@@ -31,18 +31,17 @@ pub defeats_test : (p : Plan) (s l r : ℕ) → is_fault_set p s ≡ true → l 
 unfolding defeats cut_off
 defeats_test p s l r i e q = ap (λ (x : ℕ). not (eqb x 0)) (q ∙ ap (outside p.n s) e) ∙ sym (and_yes _ _ i)
 
-module _ {p : Plan} {f hearers inn out known : ℕ} (part : Part p f hearers inn out known) where
+module _ {p : Plan} {f inn out known : ℕ} (part : Part p f inn out known) where
   low : (s : ℕ) → s < 2 ^ p.n → s < 2 ^ 20
   low s h = lt_of_lt_of_le h (pow_mono (sound p part.plan).twenty)
 
   -- a call is given more that is in, more that is out, and more that is settled
   pub narrows : (inn' out' known' : ℕ) → Inside inn inn' → Inside out out' → inn' < 2 ^ p.n → out' < 2 ^ p.n → known' < 2 ^ p.n
       → ((s : ℕ) → is_fault_set p s ≡ true → Between inn' out' s → Settled p s known → Settled p s known')
-      → Part p f hearers inn' out' known'
+      → Part p f inn' out' known'
   narrows inn' out' known' i o a b c keeps = record {
     plan = part.plan;
     bound_is = part.bound_is;
-    hearers_are = part.hearers_are;
     inn_below = a;
     out_below = b;
     known_below = c;
@@ -63,7 +62,7 @@ module _ {p : Plan} {f hearers inn out known : ℕ} (part : Part p f hearers inn
         (no_by (λ y. clash (and_i _ _ y part.source_out) (sym (mem_and p.source all out) ∙ ap (mem p.source) z ∙ mem_zero p.source)))
         (sym (forced_bounded forced)))
 
-    pub all_part : Part p f hearers all out (bit_or known all)
+    pub all_part : Part p f all out (bit_or known all)
     all_part =
         narrows all out (bit_or known all) forced.has (λ x m. m) forced.below part.out_below
         (or_lt p.n known all part.known_below forced.below)
@@ -104,7 +103,7 @@ module _ {p : Plan} {f hearers inn out known : ℕ} (part : Part p f hearers inn
     no_hope best h =
         stays (λ s d w. let i = defeats_fault p s d in h s d w.has (grown.settled s i w.lacks (part.settled s i w)))
 
-    part_sure : (inn' out' : ℕ) → Inside inn inn' → Inside out out' → inn' < 2 ^ p.n → out' < 2 ^ p.n → Part p f hearers inn' out' sure
+    part_sure : (inn' out' : ℕ) → Inside inn inn' → Inside out out' → inn' < 2 ^ p.n → out' < 2 ^ p.n → Part p f inn' out' sure
     part_sure inn' out' i o a b =
         narrows inn' out' sure i o a b grown.below (λ s t w u. grown.settled s t (λ x m. w.lacks x (o x m)) u)
 
@@ -121,10 +120,10 @@ module _ {p : Plan} {f hearers inn out known : ℕ} (part : Part p f hearers inn
     pub halves : Half p.n inn out free b
     halves = record { twenty = (sound p part.plan).twenty; inn_below = part.inn_below; out_below = part.out_below; free_is = e; is_free = m }
 
-    pub part_without : (o : ℕ) → o ≡ with 32 out b → {sure : ℕ} → Grown p out known sure → Part p f hearers inn o sure
+    pub part_without : (o : ℕ) → o ≡ with 32 out b → {sure : ℕ} → Grown p out known sure → Part p f inn o sure
     part_without o q g = part_sure g inn o (λ x m. m) (keeps_out halves o q) part.inn_below (out_low halves o q)
 
-    pub part_with : (i : ℕ) → i ≡ with 32 inn b → {sure : ℕ} → Grown p out known sure → Part p f hearers i out sure
+    pub part_with : (i : ℕ) → i ≡ with 32 inn b → {sure : ℕ} → Grown p out known sure → Part p f i out sure
     part_with i q g = part_sure g i out (keeps_inn halves i q) (λ x m. m) (inn_low halves i q) part.out_below
 
     pub without_less : (o : ℕ) → o ≡ with 32 out b → left_to p.n inn o < left_to p.n inn out

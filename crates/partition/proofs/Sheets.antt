@@ -1,20 +1,22 @@
 -- How each terminal stands, and what is refused, by the code's tests. Assumes nothing.
 use Prim.Native.Nat.{ℕ, zero, suc, ◌+◌, ◌-◌, ◌≤◌, ◌<◌}
 use mathlib.Core.Path.{◌≡◌, refl, sym, ap, ◌∙◌, subst}
-use mathlib.Core.Bool.{Bool, true, false, not, cond}
-use mathlib.Core.List.{List}
+use mathlib.Core.Bool.{Bool, true, false, not, cond, ◌&&◌}
+use mathlib.Core.List.{List, [], ◌∷◌}
 use native.Mathlib.Nat.{lt_of_le_of_lt}
 use native.Mathlib.Omega.{arith}
 use lib.Dec.{eqb, ltb, lit<}
 use lib.IntN.{ℤ, pos, negsuc, ◌-ℤ◌}
-use lib.ListN.{length, get_or, set}
-use lib.Seq.{get_or-set_same, get_or-set_other}
-use borrow.Author.Count.{below_more}
+use lib.ListN.{length, get_or, replicate}
+use lib.Pointwise.{pointwise}
 use lib.Signed.{mag}
 use mir.Syntax.{w32}
 use mir.Val.{SFits, to_z}
 use mir.Facts.{to_z-of_z}
 use borrow.Author.Tests.{eqb-true, eqb-false, eq-eqb, ne_eqb, lt-ltb, le-ltb, leb-true}
+use Rattle.std.specs.Prelude.{Result, Ok, Err}
+use Rattle.std.specs.Result.{IsErrAnd}
+use Rattle.partition.proofs.Laws.{err_of}
 use Rattle.sets.specs.Tests.{◌and◌, pick}
 use Rattle.sets.specs.Causes.{first_cause}
 use Rattle.sets.specs.Sets.{all}
@@ -26,17 +28,17 @@ use Rattle.quorum.specs.declared.BoundKind.TheVariants.{Most, Groups}
 use Rattle.quorum.specs.declared.Bound.{Bound}
 use Rattle.quorum.specs.Quorum.{most_terminals, most_groups, group_at, listed, in_range, listed_sound, groups_sound, others}
 use Rattle.plan.specs.declared.Plan.{Plan}
-use Rattle.plan.specs.Plan.{hears, links_sound, cause_within, cause_of}
+use Rattle.plan.specs.declared.Unsound.{Unsound}
+use Rattle.plan.specs.declared.Unsound.TheVariants as unsound
+use Rattle.plan.specs.Plan.{number_of, hears, links_sound, cause_within, cause_of}
 use Rattle.plan.proofs.Laws.{sound}
 use Rattle.closure.specs.Margin.{fewest, has_margin, bound_of, margin}
 use Rattle.closure.proofs.Margin.{heard_few, fewest_least, margin_is}
 use Rattle.partition.specs.declared.Standing.{Standing}
 use Rattle.partition.specs.declared.Standing.TheVariants.{Source, Direct, Margin, Absent}
-use Rattle.partition.specs.declared.Place.{Place}
-use Rattle.partition.specs.declared.Outcome.{Outcome}
-use Rattle.partition.specs.declared.Outcome.TheVariants.{Known}
-use Rattle.partition.specs.declared.Sheet.{Sheet}
-use Rattle.partition.specs.Margins.{standing_of, place_of, is_most, groupless, margins_cause, Told, all_absent, outcome_number, margins_of, told, no_margins}
+use Rattle.partition.specs.declared.MarginsError.{MarginsError}
+use Rattle.partition.specs.declared.MarginsError.TheVariants.{WrongRange, WrongLink}
+use Rattle.partition.specs.Margins.{standing_of, is_most, groupless, margins_cause, Told, all_absent, margins_of, told, of_bounded_plan}
 
 -- ---- how one terminal stands
 
@@ -126,16 +128,55 @@ groupless_cause p f m h =
     go true true false true true x y z = refl
     go true true false false true x y z = refl
 
+-- 17 is never given
+pub never_seventeen : (p : Plan) → margins_cause p ≡ 17 → ⊥
+unfolding margins_cause first_cause pick
+never_seventeen p = go (not (in_range p.n p.source p.bound.kind)) (not (groupless p.bound)) (not (links_sound p))
+  where
+    go : (a g l : Bool) → ◌≡◌ {A = ℕ} (pick a 4 (pick g 4 (pick l 5 0))) 17 → ⊥
+    go true g l e = omega arith
+    go false true l e = omega arith
+    go false false true e = omega arith
+    go false false false e = omega arith
+
 -- ---- the answer
 
-pub margins_refused : (p : Plan) (o : Outcome) (r : Sheet) → r ≡ no_margins o → outcome_number o ≡ margins_cause p → (outcome_number o ≡ 0 → ⊥) → told r ≡ margins_of p
-unfolding margins_of
-margins_refused p o r e q z =
-    ap told e ∙ ap (λ (x : ℕ). record { number = x; places = all_absent }) q ∙ sym (pick_no _ _ _ (ne_eqb (margins_cause p) 0 (λ y. z (q ∙ y))))
+refuses : (e : MarginsError) → (told (Err e)).number ≡ 0 → ⊥
+refuses WrongRange z = omega arith
+refuses WrongLink z = omega arith
 
-pub margins_known : (p : Plan) (r : Sheet) → told r ≡ record { number = 0; places = table most_terminals (place_of p) } → margins_cause p ≡ 0 → told r ≡ margins_of p
+pub margins_refused : (p : Plan) (e : MarginsError) → (told (Err e)).number ≡ margins_cause p → told (Err e) ≡ margins_of p
 unfolding margins_of
-margins_known p r e q = e ∙ sym (pick_yes _ _ _ (eq-eqb (margins_cause p) 0 q))
+margins_refused p e q = absent e ∙ ap (λ (x : ℕ). record { number = x; places = all_absent }) q ∙ sym (pick_no _ _ _ (ne_eqb (margins_cause p) 0 (λ y. refuses e (q ∙ y))))
+  where
+    absent : (e : MarginsError) → ◌≡◌ {A = Told} (told (Err e)) (record { number = (told (Err e)).number; places = all_absent })
+    absent WrongRange = refl
+    absent WrongLink = refl
+
+-- what refuses a plan with a bound f and no group, handed on as the answer
+pub plan_refused : (p : Plan) (e : Unsound) (r : Result (List Standing) MarginsError) → IsErrAnd r (λ x. x ≡ of_bounded_plan e)
+    → number_of (Err e) ≡ margins_cause p → told r ≡ margins_of p
+plan_refused p unsound.WrongRange r k q = rw (err_of r _ k) (margins_refused p WrongRange q)
+plan_refused p unsound.WrongLink r k q = rw (err_of r _ k) (margins_refused p WrongLink q)
+plan_refused p unsound.WrongGroups r k q = absurd (never_seventeen p (sym q))
+
+pub margins_known : (p : Plan) (places : List Standing) → places ≡ table most_terminals (standing_of p) → margins_cause p ≡ 0 → told (Ok places) ≡ margins_of p
+unfolding margins_of
+margins_known p places e q = ap (λ (l : List Standing). record { number = 0; places = l }) e ∙ sym (pick_yes _ _ _ (eq-eqb (margins_cause p) 0 q))
+
+-- the code's own
+and_code : (a b : Bool) → (a && b) ≡ a and b
+unfolding ◌and◌
+and_code true b = refl
+and_code false b = refl
+
+-- sixteen places are equal to so many empty ones where each is empty
+pub all_empty : (n : ℕ) (l : List ℕ) → length l ≡ n → pointwise eqb l (replicate n 0) ≡ all n (λ i. eqb (get_or l i 0) 0)
+unfolding all
+all_empty zero [] e = refl
+all_empty zero (x ∷ l) e = absurd (omega arith)
+all_empty (suc n) [] e = absurd (omega arith)
+all_empty (suc n) (x ∷ l) e = ap (λ (t : Bool). eqb x 0 && t) (all_empty n l (omega arith)) ∙ and_code (eqb x 0) (all n (λ i. eqb (get_or l i 0) 0))
 
 -- a record with a bound f whose places are all empty, and one with a place that is not
 module _ (p : Plan) (groups : List ℕ) (e : groups ≡ p.bound.groups) (f : ℕ) (m : p.bound.kind ≡ Most f) where
@@ -151,27 +192,7 @@ pub groups_no : (p : Plan) (count : ℕ) → p.bound.kind ≡ Groups count → g
 unfolding groupless
 groups_no p count m = and_no_l _ _ (ap is_most m)
 
--- a loop that puts one place more
-pub placed_more : (p : Plan) (l : List Place) (j : ℕ) (at : Standing) → j < length l → at ≡ standing_of p j
-    → ((i : ℕ) → i < j → get_or l i (record { standing = Absent }) ≡ place_of p i)
-    → (i : ℕ) → i < j + 1 → get_or (set l j (record { standing = at })) i (record { standing = Absent }) ≡ place_of p i
-placed_more p l j at k e f =
-    below_more (λ (i : ℕ). get_or (set l j (record { standing = at })) i (record { standing = Absent }) ≡ place_of p i) j
-    (λ i h. get_or-set_other l j i (record { standing = at }) (record { standing = Absent }) (λ q. omega arith) ∙ f i h)
-    (get_or-set_same l j (record { standing = at }) (record { standing = Absent }) k ∙ (λ i. record { standing = e i }))
-
--- 17 is never given
-pub never_seventeen : (p : Plan) → margins_cause p ≡ 17 → ⊥
-unfolding margins_cause first_cause pick
-never_seventeen p = go (not (in_range p.n p.source p.bound.kind)) (not (groupless p.bound)) (not (links_sound p))
-  where
-    go : (a g l : Bool) → ◌≡◌ {A = ℕ} (pick a 4 (pick g 4 (pick l 5 0))) 17 → ⊥
-    go true g l e = omega arith
-    go false true l e = omega arith
-    go false false true e = omega arith
-    go false false false e = omega arith
-
--- ---- for callers: what a sheet says
+-- ---- for callers: what an answer says
 
 cause_zero : (p : Plan) → margins_cause p ≡ 0 → (in_range p.n p.source p.bound.kind ≡ true) × (groupless p.bound ≡ true)
 unfolding margins_cause first_cause pick
@@ -214,21 +235,21 @@ margin_small p e b =
     go a c h k true = omega arith
     go a c h k false = omega arith
 
-module _ (p : Plan) (sheet : Sheet) (e : told sheet ≡ margins_of p) where
-  pub sheet_known : sheet.outcome ≡ Known → (margins_cause p ≡ 0) × (sheet.places ≡ table most_terminals (place_of p))
+module _ (p : Plan) where
+  pub sheet_known : (places : List Standing) → told (Ok places) ≡ margins_of p → (margins_cause p ≡ 0) × (places ≡ table most_terminals (standing_of p))
   unfolding margins_of
-  sheet_known o =
-      pick_case (λ (x : Told). told sheet ≡ x → (margins_cause p ≡ 0) × (sheet.places ≡ table most_terminals (place_of p))) (eqb (margins_cause p) 0)
-      (record { number = 0; places = table most_terminals (place_of p) }) (record { number = margins_cause p; places = all_absent })
+  sheet_known places e =
+      pick_case (λ (x : Told). told (Ok places) ≡ x → (margins_cause p ≡ 0) × (places ≡ table most_terminals (standing_of p))) (eqb (margins_cause p) 0)
+      (record { number = 0; places = table most_terminals (standing_of p) }) (record { number = margins_cause p; places = all_absent })
       (λ h q. (eqb-true (margins_cause p) 0 h, ap (λ (x : Told). x.places) q))
-      (λ h q. absurd (eqb-false (margins_cause p) 0 h (sym (ap (λ (x : Told). x.number) q) ∙ ap outcome_number o)))
+      (λ h q. absurd (eqb-false (margins_cause p) 0 h (sym (ap (λ (x : Told). x.number) q))))
       e
 
-  pub sheet_refused : (o : Outcome) → sheet.outcome ≡ o → (outcome_number o ≡ 0 → ⊥) → outcome_number o ≡ margins_cause p
+  pub sheet_refused : (o : MarginsError) → told (Err o) ≡ margins_of p → (told (Err o)).number ≡ margins_cause p
   unfolding margins_of
-  sheet_refused o q z =
-      pick_case (λ (x : Told). told sheet ≡ x → outcome_number o ≡ margins_cause p) (eqb (margins_cause p) 0)
-      (record { number = 0; places = table most_terminals (place_of p) }) (record { number = margins_cause p; places = all_absent })
-      (λ h y. absurd (z (ap outcome_number (sym q) ∙ ap (λ (x : Told). x.number) y)))
-      (λ h y. ap outcome_number (sym q) ∙ ap (λ (x : Told). x.number) y)
+  sheet_refused o e =
+      pick_case (λ (x : Told). told (Err o) ≡ x → (told (Err o)).number ≡ margins_cause p) (eqb (margins_cause p) 0)
+      (record { number = 0; places = table most_terminals (standing_of p) }) (record { number = margins_cause p; places = all_absent })
+      (λ h y. absurd (refuses o (ap (λ (x : Told). x.number) y)))
+      (λ h y. ap (λ (x : Told). x.number) y)
       e

@@ -22,6 +22,16 @@ use Rattle.faults.specs.Rows.{hearing}
 use Rattle.partition.proofs.Rows.{direct_mem, direct_below}
 use Rattle.faults.proofs.Rows.{hearing_mem, hearing_below}
 
+-- ---- five tests, one after the other
+
+pub five_tests : (a b c d e : Bool) → a and (b and (c and (d and e))) ≡ (((a and b) and c) and d) and e
+unfolding ◌and◌
+five_tests true true true true e = refl
+five_tests true true true false e = refl
+five_tests true true false d e = refl
+five_tests true false c d e = refl
+five_tests false b c d e = refl
+
 -- ---- a fault set
 
 pub fault_test : (p : Plan) (f : ℕ) → p.bound.kind ≡ Most f → (s : ℕ) (t : Bool) → s < 2 ^ p.n → mem p.source s ≡ false

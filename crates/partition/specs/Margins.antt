@@ -1,5 +1,5 @@
 -- What the margins' function answers for every plan record (document 02, P1). Assumes nothing.
-use Rattle.std.specs.Prelude.{ℕ, Bool, true, false, not, List, [], ◌∷◌, eqb, ltb, replicate}
+use Rattle.std.specs.Prelude.{ℕ, Bool, true, false, not, List, [], ◌∷◌, Result, Ok, Err, eqb, ltb, replicate}
 use Rattle.sets.specs.Tests.{◌and◌, pick}
 use Rattle.sets.specs.Causes.{◌gives◌, first_cause}
 use Rattle.sets.specs.Sets.{Terminal, all}
@@ -9,23 +9,20 @@ use Rattle.quorum.specs.declared.BoundKind.TheVariants.{Most, Groups}
 use Rattle.quorum.specs.declared.Bound.{Bound}
 use Rattle.quorum.specs.Quorum.{most_terminals, most_groups, group_at, in_range}
 use Rattle.plan.specs.declared.Plan.{Plan}
+use Rattle.plan.specs.declared.Unsound.{Unsound}
+use Rattle.plan.specs.declared.Unsound.TheVariants as unsound
 use Rattle.plan.specs.Plan.{hears, links_sound}
 use Rattle.closure.specs.Margin.{margin}
 use Rattle.partition.specs.declared.Standing.{Standing}
 use Rattle.partition.specs.declared.Standing.TheVariants.{Source, Direct, Margin, Absent}
-use Rattle.partition.specs.declared.Place.{Place}
-use Rattle.partition.specs.declared.Outcome.{Outcome}
-use Rattle.partition.specs.declared.Outcome.TheVariants.{Known, WrongRange, WrongLink}
-use Rattle.partition.specs.declared.Sheet.{Sheet}
+use Rattle.partition.specs.declared.MarginsError.{MarginsError}
+use Rattle.partition.specs.declared.MarginsError.TheVariants.{WrongRange, WrongLink}
 
 -- ---- how each terminal stands
 
 -- the source, direct, by its margin, or not one of the plan's
 unfoldable pub standing_of : Plan → (b : Terminal) → Standing
 standing_of p b = pick (ltb b p.n) (pick (eqb b p.source) Source (pick (hears p b p.source) Direct (Margin (margin p b)))) Absent
-
-abbrev pub place_of : Plan → (b : Terminal) → Place
-place_of p b = record { standing = standing_of p b }
 
 -- ---- what is refused: 4 and 5
 
@@ -50,23 +47,23 @@ margins_cause p =
 
 pub record Told : Type 0 where
   pub number : ℕ
-  pub places : List Place
+  pub places : List Standing
 
-abbrev pub all_absent : List Place
-all_absent = replicate most_terminals (record { standing = Absent })
+abbrev pub all_absent : List Standing
+all_absent = replicate most_terminals Absent
 
 unfoldable pub margins_of : Plan → Told
 margins_of p =
-    pick (eqb (margins_cause p) 0) (record { number = 0; places = table most_terminals (place_of p) })
+    pick (eqb (margins_cause p) 0) (record { number = 0; places = table most_terminals (standing_of p) })
     (record { number = margins_cause p; places = all_absent })
 
-abbrev pub outcome_number : Outcome → ℕ
-outcome_number Known = 0
-outcome_number WrongRange = 4
-outcome_number WrongLink = 5
+abbrev pub told : Result (List Standing) MarginsError → Told
+told (Ok places) = record { number = 0; places = places }
+told (Err WrongRange) = record { number = 4; places = all_absent }
+told (Err WrongLink) = record { number = 5; places = all_absent }
 
-abbrev pub told : Sheet → Told
-told sheet = record { number = outcome_number sheet.outcome; places = sheet.places }
-
-abbrev pub no_margins : Outcome → Sheet
-no_margins outcome = record { outcome = outcome; places = all_absent }
+-- what refuses the plan refuses its margins; one with a bound f and no group has no wrong group
+abbrev pub of_bounded_plan : Unsound → MarginsError
+of_bounded_plan unsound.WrongRange = WrongRange
+of_bounded_plan unsound.WrongLink = WrongLink
+of_bounded_plan unsound.WrongGroups = WrongRange

@@ -1,5 +1,5 @@
 -- What the search's own functions compute, on a plan's rows. No caller sees these. Assumes nothing.
-use Rattle.std.specs.Prelude.{ℕ, ◌+◌, ◌-◌, ◌*◌, ◌^◌, ◌≤◌, ◌<◌, Bool, true, false, ◌⊎◌, List, ◌≡◌, ltb, get_or}
+use Rattle.std.specs.Prelude.{ℕ, ◌+◌, ◌-◌, ◌*◌, ◌^◌, ◌≤◌, ◌<◌, Bool, true, false, ◌⊎◌, List, ◌≡◌, Option, Some, None, ltb, get_or}
 use Rattle.std.specs.Int.Bits.{bit_and}
 use Rattle.sets.specs.Tests.{◌and◌, pick}
 use Rattle.sets.specs.Sets.{mem, count, mask, size, singleton}
@@ -12,16 +12,15 @@ use Rattle.closure.specs.Closure.{reached, cut_off}
 use Rattle.closure.specs.Verdict.{defeats, Found, none, found}
 use Rattle.faults.specs.Rows.{over}
 use Rattle.closure.specs.Margin.{heard_of_l, leaves_good}
-use Rattle.partition.specs.declared.search.Best.{Best}
 
 -- the terminals that hear the source
 unfoldable pub direct : List ℕ → ℕ → ℕ
 direct rows source = over rows 0 (singleton 32 source)
 
--- the search's memory stands for the best set found: more than 20 members for none
-unfoldable pub StandsFor : ℕ → Best → Found → Type 0
-StandsFor n best none = best.members ≡ 21
-StandsFor n best (found s) = (best.set ≡ s) × (best.members ≡ size n s)
+-- what the search gives stands for the best set found
+unfoldable pub StandsFor : Option ℕ → Found → Type 0
+StandsFor best none = best ≡ None
+StandsFor best (found s) = best ≡ Some s
 
 -- a set of 32 bits without one terminal
 unfoldable pub less : ℕ → ℕ → ℕ
@@ -86,10 +85,9 @@ pub record Grown (p : Plan) (out known r : ℕ) : Type 0 where
   pub settled : (s : ℕ) → is_fault_set p s ≡ true → Apart out s → Settled p s known → Settled p s r
 
 -- what each call of the search for a bound f is given
-pub record Part (p : Plan) (f hearers inn out known : ℕ) : Type 0 where
+pub record Part (p : Plan) (f inn out known : ℕ) : Type 0 where
   pub plan : cause_of p ≡ 0
   pub bound_is : p.bound.kind ≡ Most f
-  pub hearers_are : hearers ≡ direct p.rows p.source
   pub inn_below : inn < 2 ^ p.n
   pub out_below : out < 2 ^ p.n
   pub known_below : known < 2 ^ p.n
@@ -105,9 +103,8 @@ pub record Least (p : Plan) (Of : ℕ → Type 0) (best r : ℕ) : Type 0 where
 -- ---- the search for groups goes group by group
 
 -- what each call is given: any set that has none of out is a fault set, and whoever a set of the part cuts off is one of hopeful
-pub record Cutting (p : Plan) (hearers inn out hopeful : ℕ) : Type 0 where
+pub record Cutting (p : Plan) (inn out hopeful : ℕ) : Type 0 where
   pub plan : cause_of p ≡ 0
-  pub hearers_are : hearers ≡ direct p.rows p.source
   pub inn_below : inn < 2 ^ p.n
   pub out_below : out < 2 ^ p.n
   pub hopeful_below : hopeful < 2 ^ p.n

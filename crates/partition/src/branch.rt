@@ -3,13 +3,12 @@
 ghost use Rattle.std.specs.Prelude.{◌≡◌, true, false, ◌<◌, ◌^◌};
 ghost use Rattle.sets.specs.Sets.{mem, outside};
 ghost use Rattle.quorum.specs.declared.BoundKind.TheVariants.{Most};
-ghost use Rattle.plan.specs.Plan.{cause_of};
 ghost use Rattle.closure.specs.FaultSet.{is_fault_set};
 ghost use Rattle.closure.specs.Verdict.{defeats};
-ghost use Rattle.partition.specs.Search.{SomeOf, direct, key, Hopeless, Between, Part, Least};
+ghost use Rattle.partition.specs.Search.{SomeOf, key, Hopeless, Between, Part, Least};
 
+use super::site::Site;
 use super::{bound, search};
-use plan::Plan;
 
 // Fewer members come first, then the smaller number: the members above the twenty bits of the set.
 pub(crate) fn key(s: u32) -> u32
@@ -20,12 +19,11 @@ pub(crate) fn key(s: u32) -> u32
 }
 
 // A fault set defeats the plan where it leaves somebody cut off.
-pub(crate) fn defeats(p: Plan, hearers: u32, s: u32) -> bool
-    requires { (cause_of p ≡ 0) × (hearers ≡ direct p.rows p.source) × (is_fault_set p s ≡ true) }
-    ensures { result ≡ defeats p s }
+pub(crate) fn defeats(site: &Site, s: u32) -> bool
+    requires { is_fault_set site.now.plan s ≡ true }
+    ensures { result ≡ defeats site.now.plan s }
 {
-    let l = search::reach(p, hearers, s);
-    search::outside(p.n, s, l) != 0
+    search::outside(site, s, search::reach(site, s)) != 0
 }
 
 // The highest terminal of s.
@@ -57,18 +55,15 @@ pub(crate) fn widest(rows: [u32; 20], s: u32) -> u32
     let mut fours: u32 = 0;
     let mut eights: u32 = 0;
     let mut sixteens: u32 = 0;
-    let mut b: usize = 0;
-    while b < 20 {
-        let one = rows[b];
+    for one in rows {
         let two = ones & one;
         let four = twos & two;
         let eight = fours & four;
-        sixteens = sixteens | (eights & eight);
-        eights = eights ^ eight;
-        fours = fours ^ four;
-        twos = twos ^ two;
-        ones = ones ^ one;
-        b += 1;
+        sixteens |= eights & eight;
+        eights ^= eight;
+        fours ^= four;
+        twos ^= two;
+        ones ^= one;
     }
     let many = narrowed(narrowed(s, sixteens), eights);
     narrowed(narrowed(narrowed(many, fours), twos), ones)
@@ -85,57 +80,51 @@ fn chosen(rows: [u32; 20], heard: u32, free: u32) -> usize
 
 // No set of the part comes before best. Whoever is cut off is one of the rest, and hears at most f
 // who are reached: all others of known that it hears are in the set, beside those of inn.
-fn hopeless(p: Plan, f: u32, inn: u32, known: u32, rest: u32, best: u32) -> bool
-    requires { (cause_of p ≡ 0) × (p.bound.kind ≡ Most f) × (inn < 2 ^ p.n) × (known < 2 ^ p.n) × (rest ≡ outside p.n inn known) }
-    ensures { result ≡ true → Hopeless p inn known best }
+fn hopeless(site: &Site, f: u32, inn: u32, known: u32, rest: u32, best: u32) -> bool
+    requires { (site.now.plan.bound.kind ≡ Most f) × (inn < 2 ^ site.now.plan.n) × (known < 2 ^ site.now.plan.n) × (rest ≡ outside site.now.plan.n inn known) }
+    ensures { result ≡ true → Hopeless site.now.plan inn known best }
 {
-    let rows = p.rows;
     let more = (inn < best & 1048575) as u32;
     let need = f + (best >> 20) + more;
     let own = u32::count_ones(inn);
     if need <= own {
         return true;
     }
-    rest & !faults::over(rows, need - own - 1, known & !inn) == 0
+    rest & !faults::over(site.plan.rows, need - own - 1, known & !inn) == 0
 }
 
 // The lesser of best and the part's least key, where inn itself does not defeat the plan: first the
 // sets without one of the free terminals, then those with it.
 #[cycle(inside_split)]
-fn split(p: Plan, f: u32, hearers: u32, inn: u32, out: u32, known: u32, best: u32) -> u32
-    requires { Part p f hearers inn out known × (defeats p inn ≡ false) }
-    ensures { Least p (Between inn out) best result }
+fn split(site: &Site, f: u32, inn: u32, out: u32, known: u32, best: u32) -> u32
+    requires { Part site.now.plan f inn out known × (defeats site.now.plan inn ≡ false) }
+    ensures { Least site.now.plan (Between inn out) best result }
 {
-    let sure = bound::settled(p, f, out, known);
-    let rest = search::outside(p.n, inn, sure);
-    if hopeless(p, f, inn, sure, rest, best) {
+    let sure = bound::settled(site, f, out, known);
+    let rest = search::outside(site, inn, sure);
+    if hopeless(site, f, inn, sure, rest, best) {
         return best;
     }
-    let free = search::outside(p.n, inn, out);
+    let free = search::outside(site, inn, out);
     if free == 0 {
         return best;
     }
-    let rows = p.rows;
-    let b = chosen(rows, bound::heard(rows, rest) & sure, free);
-    let first = split(p, f, hearers, inn, sets::with(out, b), sure, best);
-    inside(p, f, hearers, sets::with(inn, b), out, sure, first)
+    let b = chosen(
+        site.plan.rows,
+        bound::heard(site.plan.rows, rest) & sure,
+        free,
+    );
+    let first = split(site, f, inn, sets::with(out, b), sure, best);
+    inside(site, f, sets::with(inn, b), out, sure, first)
 }
 
 // The same where inn is new: what it forces joins it, and is the part's least if it defeats the plan.
 #[cycle(inside_split)]
-pub(crate) fn inside(
-    p: Plan,
-    f: u32,
-    hearers: u32,
-    inn: u32,
-    out: u32,
-    known: u32,
-    best: u32,
-) -> u32
-    requires { Part p f hearers inn out known }
-    ensures { Least p (Between inn out) best result }
+pub(crate) fn inside(site: &Site, f: u32, inn: u32, out: u32, known: u32, best: u32) -> u32
+    requires { Part site.now.plan f inn out known }
+    ensures { Least site.now.plan (Between inn out) best result }
 {
-    let all = search::spread(p, inn, 0);
+    let all = search::spread(site, inn, 0);
     if all & out != 0 {
         return best;
     }
@@ -143,8 +132,8 @@ pub(crate) fn inside(
     if best <= own {
         return best;
     }
-    if defeats(p, hearers, all) {
+    if defeats(site, all) {
         return own;
     }
-    split(p, f, hearers, all, out, known | all, best)
+    split(site, f, all, out, known | all, best)
 }

@@ -7,18 +7,18 @@ mod check;
 mod groups;
 mod margin;
 mod search;
+mod site;
 mod standings;
 
-ghost use Rattle.std.specs.Prelude.{◌≡◌, true};
-ghost use Rattle.plan.specs.Plan.{cause_of};
+ghost use Rattle.std.specs.Prelude.{◌≡◌, true, Ok, Err};
 ghost use Rattle.closure.specs.Verdict.{verdict, accepts};
-ghost use Rattle.partition.specs.Answer.{answered, replied, reply_of};
-ghost use Rattle.partition.specs.Margins.{no_margins, groupless, told, margins_of};
-ghost use Rattle.quorum.specs.declared.BoundKind.TheVariants.{Most};
+ghost use Rattle.partition.specs.Answer.{of_plan, answered, replied, reply_of};
+ghost use Rattle.partition.specs.Margins.{of_bounded_plan, told, margins_of};
 ghost use Rattle.closure.specs.Answer.{judged, answer_within, answer_of, quote_of};
 
-use plan::{Plan, Soundness};
+use plan::{Plan, Unsound};
 use quorum::BoundKind;
+use site::Site;
 
 // The fault set f, the terminals l that a notice reaches in spite of it, and the terminals r that
 // it cuts off.
@@ -29,23 +29,39 @@ pub struct Witness {
     pub r: u32,
 }
 
+// Why a record is no plan that its sender may send.
 #[derive(Clone, Copy)]
-pub enum Judgement {
-    Pass,
-    Fail(Witness),
+pub enum VerdictError {
     WrongRange,
     TooMany,
     WrongLink,
     WrongGroups,
 }
 
-#[derive(Clone, Copy)]
-pub enum WitnessCheck {
-    Accepted,
-    Rejected,
-    WrongRange,
-    WrongLink,
-    WrongGroups,
+impl From<Unsound> for VerdictError {
+    ghost from_gives = { λ e r. r ≡ of_plan e };
+
+    fn from(e: Unsound) -> VerdictError {
+        match e {
+            Unsound::WrongRange => VerdictError::WrongRange,
+            Unsound::WrongLink => VerdictError::WrongLink,
+            Unsound::WrongGroups => VerdictError::WrongGroups,
+        }
+    }
+}
+
+// The documents' number.
+impl From<VerdictError> for u8 {
+    ghost from_gives = { λ e n. n ≡ (answered (Err e)).number };
+
+    fn from(e: VerdictError) -> u8 {
+        match e {
+            VerdictError::WrongRange => 4,
+            VerdictError::TooMany => 14,
+            VerdictError::WrongLink => 5,
+            VerdictError::WrongGroups => 17,
+        }
+    }
 }
 
 // How one terminal stands: it is the source, it hears the source, or it has a margin. Absent: the plan has no
@@ -58,63 +74,62 @@ pub enum Standing {
     Absent,
 }
 
+// Why a record is no plan with a bound f.
 #[derive(Clone, Copy)]
-pub struct Place {
-    pub standing: Standing,
-}
-
-#[derive(Clone, Copy)]
-pub enum Outcome {
-    Known,
+pub enum MarginsError {
     WrongRange,
     WrongLink,
 }
 
-// places[b] is how terminal b stands; where the record is refused, all are absent.
-#[derive(Clone, Copy)]
-pub struct Sheet {
-    pub outcome: Outcome,
-    pub places: [Place; 20],
+impl From<Unsound> for MarginsError {
+    ghost from_gives = { λ e r. r ≡ of_bounded_plan e };
+
+    fn from(e: Unsound) -> MarginsError {
+        match e {
+            Unsound::WrongLink => MarginsError::WrongLink,
+            Unsound::WrongRange | Unsound::WrongGroups => MarginsError::WrongRange,
+        }
+    }
 }
 
-// The verdict on a sound plan.
-fn judge(p: Plan) -> Judgement
-    requires { cause_of p ≡ 0 }
-    ensures { answered result ≡ judged (verdict p) }
-{
-    let rows = p.rows;
-    let hearers = faults::over(rows, 0, sets::singleton(p.source));
-    let best = search::search(p, hearers);
-    if 20 < best.members {
-        return Judgement::Pass;
+// The documents' number.
+impl From<MarginsError> for u8 {
+    ghost from_gives = { λ e n. n ≡ (told (Err e)).number };
+
+    fn from(e: MarginsError) -> u8 {
+        match e {
+            MarginsError::WrongRange => 4,
+            MarginsError::WrongLink => 5,
+        }
     }
-    let f = best.set;
-    let l = search::reach(p, hearers, f);
-    let r = search::outside(p.n, f, l);
-    Judgement::Fail(Witness { f: f, l: l, r: r })
+}
+
+// The least witness against a sound plan, none where it passes.
+fn judge(site: &Site) -> Option<Witness>
+    ensures { answered (Ok result) ≡ judged (verdict site.now.plan) }
+{
+    let f = search::search(site)?;
+    let l = search::reach(site, f);
+    let r = search::outside(site, f, l);
+    Some(Witness { f, l, r })
 }
 
 // The same for whoever may send at most so many terminals, or why the record is no plan that he may
-// send. What a fail lists is accepted by the witness check.
-fn judge_within(most: usize, p: Plan) -> Judgement
+// send. The witness check accepts what a fail lists.
+fn judge_within(most: usize, p: Plan) -> Result<Option<Witness>, VerdictError>
     ensures answer { answered result ≡ answer_within most p }
     ensures accepted { (answered result).failed ≡ 1 → accepts p (answered result).f (answered result).l (answered result).r ≡ true }
 {
     if plan::too_many(most, p) {
-        return Judgement::TooMany;
+        return Err(VerdictError::TooMany);
     }
-    let soundness = plan::check(p);
-    match soundness {
-        Soundness::Sound => judge(p),
-        Soundness::WrongRange => Judgement::WrongRange,
-        Soundness::WrongLink => Judgement::WrongLink,
-        Soundness::WrongGroups => Judgement::WrongGroups,
-    }
+    let site = site::of(p)?;
+    Ok(judge(&site))
 }
 
-// Pass, or fail with the least witness, or why the record is no plan: for the planner, who may send
-// every plan.
-pub fn verdict(p: Plan) -> Judgement
+// A pass, which is none, or a fail with the least witness, or why the record is no plan: for the planner,
+// who may send every plan.
+pub fn verdict(p: Plan) -> Result<Option<Witness>, VerdictError>
     ensures answer { answered result ≡ answer_of p }
     ensures accepted { (answered result).failed ≡ 1 → accepts p (answered result).f (answered result).l (answered result).r ≡ true }
 {
@@ -122,7 +137,7 @@ pub fn verdict(p: Plan) -> Judgement
 }
 
 // The same for the quoting desk, which may send at most twelve terminals.
-pub fn quote(p: Plan) -> Judgement
+pub fn quote(p: Plan) -> Result<Option<Witness>, VerdictError>
     ensures answer { answered result ≡ quote_of p }
     ensures accepted { (answered result).failed ≡ 1 → accepts p (answered result).f (answered result).l (answered result).r ≡ true }
 {
@@ -130,64 +145,23 @@ pub fn quote(p: Plan) -> Judgement
 }
 
 // Whether three sets are a witness against the plan. Who proposed them does not matter.
-pub fn check_witness(p: Plan, f: u32, l: u32, r: u32) -> WitnessCheck
+pub fn check_witness(p: Plan, f: u32, l: u32, r: u32) -> Result<bool, Unsound>
     ensures { replied result ≡ reply_of p f l r }
 {
-    let soundness = plan::check(p);
-    match soundness {
-        Soundness::Sound => {
-            if check::accepts(p, f, l, r) {
-                return WitnessCheck::Accepted;
-            }
-            WitnessCheck::Rejected
-        }
-        Soundness::WrongRange => WitnessCheck::WrongRange,
-        Soundness::WrongLink => WitnessCheck::WrongLink,
-        Soundness::WrongGroups => WitnessCheck::WrongGroups,
-    }
+    let site = site::of(p)?;
+    Ok(check::accepts(&site, f, l, r))
 }
 
-// A refused record's margins.
-fn no_margins(outcome: Outcome) -> Sheet
-    ensures { result ≡ no_margins outcome }
+// How each terminal stands, or why the record is no plan with a bound f; one that lists a group has none.
+pub fn margins(p: Plan) -> Result<[Standing; 20], MarginsError>
+    ensures { told result ≡ margins_of p }
 {
-    let nobody = Place {
-        standing: Standing::Absent,
+    let BoundKind::Most(f) = p.bound.kind else {
+        return Err(MarginsError::WrongRange);
     };
-    Sheet {
-        outcome: outcome,
-        places: [nobody; 20],
+    if !standings::no_groups(p.bound.groups) {
+        return Err(MarginsError::WrongRange);
     }
-}
-
-// The margins of a record with a bound f that lists no group: none is wrong then.
-fn margins_within(p: Plan, f: usize) -> Sheet
-    requires { (p.bound.kind ≡ Most f) × (groupless p.bound ≡ true) }
-    ensures { told result ≡ margins_of p }
-{
-    let soundness = plan::check(p);
-    match soundness {
-        Soundness::Sound => standings::standings(p, f as u32),
-        Soundness::WrongRange => no_margins(Outcome::WrongRange),
-        Soundness::WrongLink => no_margins(Outcome::WrongLink),
-        Soundness::WrongGroups => no_margins(Outcome::WrongRange),
-    }
-}
-
-// How each terminal stands, or why the record is no plan with a bound f.
-pub fn margins(p: Plan) -> Sheet
-    ensures { told result ≡ margins_of p }
-{
-    let bound = p.bound;
-    let kind = bound.kind;
-    let groups = bound.groups;
-    match kind {
-        BoundKind::Most(f) => {
-            if standings::no_groups(groups) {
-                return margins_within(p, f);
-            }
-            no_margins(Outcome::WrongRange)
-        }
-        BoundKind::Groups(_) => no_margins(Outcome::WrongRange),
-    }
+    let site = site::of(p)?;
+    Ok(standings::standings(&site, f as u32))
 }

@@ -4,22 +4,20 @@
 ghost use Rattle.std.specs.Prelude.{◌≡◌, true, ℕ, ◌<◌, ◌^◌, get_or};
 ghost use Rattle.sets.specs.Sets.{mem};
 ghost use Rattle.quorum.specs.declared.BoundKind.TheVariants.{Most};
-ghost use Rattle.plan.specs.Plan.{cause_of};
 ghost use Rattle.closure.specs.Margin.{fewest, has_margin};
-ghost use Rattle.partition.specs.Search.{direct, Between, Part, Barred, lesser, surely, hopeful, Seen, Lower};
+ghost use Rattle.partition.specs.Search.{Between, Part, Barred, lesser, surely, hopeful, Seen, Lower};
 
+use super::site::Site;
 use super::{bound, branch, search};
-use plan::Plan;
+use std::array;
 
 // The lesser of what a terminal had and what it hears of l, if it is sought.
 fn lesser(row: u32, sought: bool, l: u32, before: u32) -> u32
     ensures { result ≡ lesser row sought l before }
 {
     let now = u32::count_ones(row & l);
-    if sought {
-        if now < before {
-            return now;
-        }
+    if sought && now < before {
+        return now;
     }
     before
 }
@@ -28,14 +26,7 @@ fn lesser(row: u32, sought: bool, l: u32, before: u32) -> u32
 fn lowered(rows: [u32; 20], sought: u32, l: u32, before: [u32; 20]) -> [u32; 20]
     ensures { (b : ℕ) → b < 20 → get_or result b 0 ≡ lesser (get_or rows b 0) (mem b sought) l (get_or before b 0) }
 {
-    let mut after = [0u32; 20];
-    let mut b: usize = 0;
-    while b < 20 {
-        let now = lesser(rows[b], sets::member(sought, b), l, before[b]);
-        after[b] = now;
-        b += 1;
-    }
-    after
+    array::from_fn(|b| lesser(rows[b], sets::member(sought, b), l, before[b]))
 }
 
 // So many of L does a good terminal hear at the least: those of sure that are out, and of all of sure that it
@@ -45,54 +36,31 @@ fn surely(row: u32, f: u32, out: u32, sure: u32) -> u32
 {
     let all = u32::count_ones(row & sure);
     let good = u32::count_ones(row & (sure & out));
-    if f < all {
-        if good < all - f {
-            return all - f;
-        }
-    }
-    good
+    good.max(all.saturating_sub(f))
 }
 
 // The terminals that a set of the part may bring below what was found for them.
 fn hopeful(rows: [u32; 20], f: u32, out: u32, sure: u32, counts: [u32; 20]) -> u32
     ensures { result ≡ hopeful rows f out sure counts }
 {
-    let mut some: u32 = 0;
-    let mut b: usize = 0;
-    while b < 20 {
-        let more = (surely(rows[b], f, out, sure) < counts[b]) as u32;
-        some = some | (more << b);
-        b += 1;
-    }
-    some
+    sets::those(20, |b| surely(rows[b], f, out, sure) < counts[b])
 }
 
 // Out, and whoever else is in no fault set of the part: one who is out hears f of inn already, and it.
-fn barred(p: Plan, f: u32, inn: u32, out: u32) -> u32
-    requires { (cause_of p ≡ 0) × (p.bound.kind ≡ Most f) × (inn < 2 ^ p.n) × (out < 2 ^ p.n) }
-    ensures { Barred p inn out result }
+fn barred(site: &Site, f: u32, inn: u32, out: u32) -> u32
+    requires { (site.now.plan.bound.kind ≡ Most f) × (inn < 2 ^ site.now.plan.n) × (out < 2 ^ site.now.plan.n) }
+    ensures { Barred site.now.plan inn out result }
 {
     if f == 0 {
         return out;
     }
-    let rows = p.rows;
-    let full = out & faults::over(rows, f - 1, inn);
-    out | (bound::heard(rows, full) & search::outside(p.n, inn, out))
+    let full = out & faults::over(site.plan.rows, f - 1, inn);
+    out | (bound::heard(site.plan.rows, full) & search::outside(site, inn, out))
 }
 
 // The rows of the terminals of s; the others are empty.
 fn rows_of(rows: [u32; 20], s: u32) -> [u32; 20] {
-    let mut some = [0u32; 20];
-    let mut b: usize = 0;
-    while b < 20 {
-        if sets::member(s, b) {
-            some[b] = rows[b];
-            b += 1;
-        } else {
-            b += 1;
-        }
-    }
-    some
+    array::from_fn(|b| if sets::member(s, b) { rows[b] } else { 0 })
 }
 
 // One of the free terminals. Any choice is right: one that those who are not settled hear, and the highest sought
@@ -111,74 +79,75 @@ fn chosen(rows: [u32; 20], rest: u32, sure: u32, sought: u32, free: u32) -> usiz
 // then those without it.
 #[cycle(inside_split)]
 fn split(
-    p: Plan,
+    site: &Site,
     f: u32,
-    hearers: u32,
     inn: u32,
     out: u32,
     known: u32,
     sought: u32,
     counts: [u32; 20],
 ) -> [u32; 20]
-    requires { Part p f hearers inn out known × (sought < 2 ^ p.n) × Seen p inn sought counts }
-    ensures { Lower p (Between inn out) sought counts result }
+    requires { Part site.now.plan f inn out known × (sought < 2 ^ site.now.plan.n) × Seen site.now.plan inn sought counts }
+    ensures { Lower site.now.plan (Between inn out) sought counts result }
 {
-    let shut = barred(p, f, inn, out);
-    let sure = bound::settled(p, f, shut, known);
-    let rows = p.rows;
-    let left = sought & hopeful(rows, f, shut, sure, counts);
-    let free = search::outside(p.n, inn, shut);
+    let shut = barred(site, f, inn, out);
+    let sure = bound::settled(site, f, shut, known);
+    let left = sought & hopeful(site.plan.rows, f, shut, sure, counts);
+    let free = search::outside(site, inn, shut);
     if left == 0 {
         return counts;
     }
     if free == 0 {
         return counts;
     }
-    let b = chosen(rows, search::outside(p.n, inn, sure), sure, left, free);
-    let first = inside(p, f, hearers, sets::with(inn, b), shut, sure, left, counts);
-    split(p, f, hearers, inn, sets::with(shut, b), sure, left, first)
+    let b = chosen(
+        site.plan.rows,
+        search::outside(site, inn, sure),
+        sure,
+        left,
+        free,
+    );
+    let first = inside(site, f, sets::with(inn, b), shut, sure, left, counts);
+    split(site, f, inn, sets::with(shut, b), sure, left, first)
 }
 
 // The same where inn is new: what it forces joins it, and is looked at.
 #[cycle(inside_split)]
 fn inside(
-    p: Plan,
+    site: &Site,
     f: u32,
-    hearers: u32,
     inn: u32,
     out: u32,
     known: u32,
     sought: u32,
     counts: [u32; 20],
 ) -> [u32; 20]
-    requires { Part p f hearers inn out known × (sought < 2 ^ p.n) }
-    ensures { Lower p (Between inn out) sought counts result }
+    requires { Part site.now.plan f inn out known × (sought < 2 ^ site.now.plan.n) }
+    ensures { Lower site.now.plan (Between inn out) sought counts result }
 {
-    let all = search::spread(p, inn, 0);
+    let all = search::spread(site, inn, 0);
     if all & out != 0 {
         return counts;
     }
-    let rows = p.rows;
     let good = sought & !all;
-    let l = search::reach(p, hearers, all);
-    let now = lowered(rows, good, l, counts);
-    split(p, f, hearers, all, out, known | all, good, now)
+    let l = search::reach(site, all);
+    let now = lowered(site.plan.rows, good, l, counts);
+    split(site, f, all, out, known | all, good, now)
 }
 
 // The fewest for each terminal that has a margin. Nobody hears more than twenty.
-pub(crate) fn fewest(p: Plan, f: u32, hearers: u32) -> [u32; 20]
-    requires { (cause_of p ≡ 0) × (p.bound.kind ≡ Most f) × (hearers ≡ direct p.rows p.source) }
-    ensures { (b : ℕ) → b < p.n → has_margin p b ≡ true → get_or result b 0 ≡ fewest p b }
+pub(crate) fn fewest(site: &Site, f: u32) -> [u32; 20]
+    requires { site.now.plan.bound.kind ≡ Most f }
+    ensures { (b : ℕ) → b < site.now.plan.n → has_margin site.now.plan b ≡ true → get_or result b 0 ≡ fewest site.now.plan b }
 {
-    let source = sets::singleton(p.source);
-    let sought = search::outside(p.n, source, hearers);
+    let source = sets::singleton(site.plan.source);
+    let sought = search::outside(site, source, site.hearers);
     inside(
-        p,
+        site,
         f,
-        hearers,
         0,
         source,
-        source | hearers,
+        source | site.hearers,
         sought,
         [20u32; 20],
     )

@@ -3,27 +3,18 @@ ghost use Rattle.std.specs.Prelude.{◌≡◌, true, ◌+◌, ◌<◌, ◌≤◌
 ghost use Rattle.sets.specs.Sets.{all};
 ghost use Rattle.sets.specs.Tables.{table};
 ghost use Rattle.quorum.specs.declared.BoundKind.TheVariants.{Most};
-ghost use Rattle.plan.specs.Plan.{cause_of};
 ghost use Rattle.closure.specs.Margin.{fewest, has_margin};
-ghost use Rattle.partition.specs.Search.{direct};
-ghost use Rattle.partition.specs.Margins.{standing_of, place_of};
-ghost use Rattle.partition.specs.declared.Outcome.TheVariants.{Known};
+ghost use Rattle.partition.specs.Margins.{standing_of};
 
-use super::{Outcome, Place, Sheet, Standing, margin};
-use plan::Plan;
+use super::site::Site;
+use super::{Standing, margin};
+use std::array;
 
 // No place lists a group.
 pub(crate) fn no_groups(groups: [u32; 16]) -> bool
     ensures { result ≡ all 16 (λ i. eqb (get_or groups i 0) 0) }
 {
-    let mut i: usize = 0;
-    while i < 16 {
-        if groups[i] != 0 {
-            return false;
-        }
-        i += 1;
-    }
-    true
+    groups == [0u32; 16]
 }
 
 // May be negative: less than f + 1 are heard.
@@ -31,47 +22,31 @@ fn difference(f: u32, heard: u32) -> i32
     requires { (f < 20) × (heard ≤ 20) }
     ensures { result ≡ pos heard -ℤ pos (f + 1) }
 {
-    let has = heard as i32;
     let needs = (f + 1) as i32;
-    has - needs
+    heard as i32 - needs
 }
 
-fn standing(p: Plan, f: u32, hearers: u32, heard: u32, b: usize) -> Standing
-    requires { (cause_of p ≡ 0) × (p.bound.kind ≡ Most f) × (hearers ≡ direct p.rows p.source) × (b < p.n → has_margin p b ≡ true → heard ≡ fewest p b) }
-    ensures { result ≡ standing_of p b }
+fn standing(site: &Site, f: u32, heard: u32, b: usize) -> Standing
+    requires { (site.now.plan.bound.kind ≡ Most f) × (b < site.now.plan.n → has_margin site.now.plan b ≡ true → heard ≡ fewest site.now.plan b) }
+    ensures { result ≡ standing_of site.now.plan b }
 {
-    if p.n <= b {
+    if site.plan.n <= b {
         return Standing::Absent;
     }
-    if b == p.source {
+    if b == site.plan.source {
         return Standing::Source;
     }
-    if sets::member(hearers, b) {
+    if sets::member(site.hearers, b) {
         return Standing::Direct;
     }
-    let margin = difference(f, heard);
-    Standing::Margin(margin)
+    Standing::Margin(difference(f, heard))
 }
 
-pub(crate) fn standings(p: Plan, f: u32) -> Sheet
-    requires { (cause_of p ≡ 0) × (p.bound.kind ≡ Most f) }
-    ensures { result ≡ record { outcome = Known; places = table 20 (place_of p) } }
+// places[b] is how terminal b stands.
+pub(crate) fn standings(site: &Site, f: u32) -> [Standing; 20]
+    requires { site.now.plan.bound.kind ≡ Most f }
+    ensures { result ≡ table 20 (standing_of site.now.plan) }
 {
-    let rows = p.rows;
-    let hearers = faults::over(rows, 0, sets::singleton(p.source));
-    let fewest = margin::fewest(p, f, hearers);
-    let nobody = Place {
-        standing: Standing::Absent,
-    };
-    let mut places = [nobody; 20];
-    let mut b: usize = 0;
-    while b < 20 {
-        let at = standing(p, f, hearers, fewest[b], b);
-        places[b] = Place { standing: at };
-        b += 1;
-    }
-    Sheet {
-        outcome: Outcome::Known,
-        places: places,
-    }
+    let fewest = margin::fewest(site, f);
+    array::from_fn(|b| standing(site, f, fewest[b], b))
 }

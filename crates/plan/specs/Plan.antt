@@ -1,13 +1,13 @@
 -- The plan record (document 01, "The site", with document 02, P5 and P10): n terminals, the source, who may be bad together, and for each terminal the set
 -- of those that it hears. Assumes nothing.
-use Rattle.std.specs.Prelude.{ℕ, Bool, not, [], ◌∷◌, eqb, ltb, get_or}
+use Rattle.std.specs.Prelude.{ℕ, Bool, not, [], ◌∷◌, Result, Ok, Err, eqb, ltb, get_or}
 use Rattle.sets.specs.Tests.{◌and◌, pick}
 use Rattle.sets.specs.Causes.{◌gives◌, first_cause}
 use Rattle.sets.specs.Sets.{Terminal, Set, mem, all}
 use Rattle.quorum.specs.Quorum.{most_terminals, in_range, others, groups_sound}
 use Rattle.plan.specs.declared.Plan.{Plan}
-use Rattle.plan.specs.declared.Soundness.{Soundness}
-use Rattle.plan.specs.declared.Soundness.TheVariants.{Sound, WrongRange, WrongLink, WrongGroups}
+use Rattle.plan.specs.declared.Unsound.{Unsound}
+use Rattle.plan.specs.declared.Unsound.TheVariants.{WrongRange, WrongLink, WrongGroups}
 
 -- the set that terminal b hears; b hears a (there is a link from a to b)
 unfoldable pub heard_by : Plan → (b : Terminal) → Set
@@ -17,11 +17,11 @@ unfoldable pub hears : Plan → (b a : Terminal) → Bool
 hears p b a = mem a (heard_by p b)
 
 -- the documents' number of each answer, 0 where nothing is refused
-abbrev pub number_of : Soundness → ℕ
-number_of Sound = 0
-number_of WrongRange = 4
-number_of WrongLink = 5
-number_of WrongGroups = 17
+abbrev pub number_of : Result Unit Unsound → ℕ
+number_of (Ok _) = 0
+number_of (Err WrongRange) = 4
+number_of (Err WrongLink) = 5
+number_of (Err WrongGroups) = 17
 
 -- of a terminal below n: no bit at or above n, and not its own; of a row at or above n: no bit
 unfoldable pub row_sound : (n : ℕ) (b : Terminal) (row : Set) → Bool

@@ -1,7 +1,7 @@
 // The plan of a site: who hears whom, who issues the notice, and who may be bad together.
 #![tactic(auto)]
 
-ghost use Rattle.std.specs.Prelude.{◌≡◌, get_or};
+ghost use Rattle.std.specs.Prelude.{◌≡◌, get_or, Err};
 ghost use Rattle.sets.specs.Sets.{all};
 ghost use Rattle.plan.specs.Plan.{number_of, row_sound, cause_of, too_many};
 
@@ -16,31 +16,42 @@ pub struct Plan {
     pub rows: [u32; 20],
 }
 
+// Why a record is no plan.
 #[derive(Clone, Copy)]
-pub enum Soundness {
-    Sound,
+pub enum Unsound {
     WrongRange,
     WrongLink,
     WrongGroups,
+}
+
+// The documents' number.
+impl From<Unsound> for u8 {
+    ghost from_gives = { λ e n. n ≡ number_of (Err e) };
+
+    fn from(e: Unsound) -> u8 {
+        match e {
+            Unsound::WrongRange => 4,
+            Unsound::WrongLink => 5,
+            Unsound::WrongGroups => 17,
+        }
+    }
 }
 
 fn row_sound(n: usize, b: usize, row: u32) -> bool
     ensures { result ≡ row_sound n b row }
 {
     if b < n {
-        return quorum::others(n, b, row);
+        quorum::others(n, b, row)
+    } else {
+        row == 0
     }
-    row == 0
 }
 
 fn links_sound(n: usize, rows: [u32; 20]) -> bool
     ensures { result ≡ all 20 (λ b. row_sound n b (get_or rows b 0)) }
 {
-    let mut b = 0;
-    while b < 20 {
-        if row_sound(n, b, rows[b]) {
-            b += 1;
-        } else {
+    for b in 0..20 {
+        if !row_sound(n, b, rows[b]) {
             return false;
         }
     }
@@ -48,32 +59,24 @@ fn links_sound(n: usize, rows: [u32; 20]) -> bool
 }
 
 // The first cause for which the record is no plan.
-pub fn check(p: Plan) -> Soundness
+pub fn check(p: Plan) -> Result<(), Unsound>
     ensures { number_of result ≡ cause_of p }
 {
-    let rows = p.rows;
-    let bound = p.bound;
-    let kind = bound.kind;
-    if quorum::in_range(p.n, p.source, kind) {
-        if links_sound(p.n, rows) {
-            if quorum::groups_sound(p.n, p.source, bound) {
-                return Soundness::Sound;
-            }
-            return Soundness::WrongGroups;
-        }
-        return Soundness::WrongLink;
+    if !quorum::in_range(p.n, p.source, p.bound.kind) {
+        return Err(Unsound::WrongRange);
     }
-    Soundness::WrongRange
+    if !links_sound(p.n, p.rows) {
+        return Err(Unsound::WrongLink);
+    }
+    if !quorum::groups_sound(p.n, p.source, p.bound) {
+        return Err(Unsound::WrongGroups);
+    }
+    Ok(())
 }
 
 // The range is sound, and the plan has more terminals than may be sent.
 pub fn too_many(most: usize, p: Plan) -> bool
     ensures { result ≡ too_many most p }
 {
-    let bound = p.bound;
-    let kind = bound.kind;
-    if quorum::in_range(p.n, p.source, kind) {
-        return most < p.n;
-    }
-    false
+    quorum::in_range(p.n, p.source, p.bound.kind) && most < p.n
 }

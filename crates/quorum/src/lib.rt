@@ -36,26 +36,17 @@ fn kind_in_range(n: usize, kind: BoundKind) -> bool
 pub fn in_range(n: usize, source: usize, kind: BoundKind) -> bool
     ensures { result ≡ in_range n source kind }
 {
-    if n < 2 {
-        return false;
+    if 2 <= n && n <= 20 && source < n {
+        return kind_in_range(n, kind);
     }
-    if 20 < n {
-        return false;
-    }
-    if n <= source {
-        return false;
-    }
-    kind_in_range(n, kind)
+    false
 }
 
 // The set has terminals below n only, and not this one.
 pub fn others(n: usize, own: usize, s: u32) -> bool
     ensures { result ≡ others n own s }
 {
-    if sets::within(s, n) {
-        return !sets::member(s, own);
-    }
-    false
+    sets::within(s, n) && !sets::member(s, own)
 }
 
 // So many groups are listed.
@@ -74,12 +65,7 @@ fn listed_sound(kind: BoundKind) -> bool
 {
     match kind {
         BoundKind::Most(_) => true,
-        BoundKind::Groups(count) => {
-            if count < 1 {
-                return false;
-            }
-            count <= 16
-        }
+        BoundKind::Groups(count) => 1 <= count && count <= 16,
     }
 }
 
@@ -88,19 +74,17 @@ fn place_sound(n: usize, source: usize, is_listed: bool, group: u32) -> bool
     ensures { result ≡ pick is_listed (others n source group) (eqb group 0) }
 {
     if is_listed {
-        return others(n, source, group);
+        others(n, source, group)
+    } else {
+        group == 0
     }
-    group == 0
 }
 
 fn places_sound(n: usize, source: usize, count: usize, groups: [u32; 16]) -> bool
     ensures { result ≡ all 16 (λ i. pick (ltb i count) (others n source (get_or groups i 0)) (eqb (get_or groups i 0) 0)) }
 {
-    let mut i = 0;
-    while i < 16 {
-        if place_sound(n, source, i < count, groups[i]) {
-            i += 1;
-        } else {
+    for i in 0..16 {
+        if !place_sound(n, source, i < count, groups[i]) {
             return false;
         }
     }
@@ -110,12 +94,7 @@ fn places_sound(n: usize, source: usize, count: usize, groups: [u32; 16]) -> boo
 pub fn groups_sound(n: usize, source: usize, bound: Bound) -> bool
     ensures { result ≡ groups_sound n source bound }
 {
-    let kind = bound.kind;
-    let groups = bound.groups;
-    if listed_sound(kind) {
-        return places_sound(n, source, listed(kind), groups);
-    }
-    false
+    listed_sound(bound.kind) && places_sound(n, source, listed(bound.kind), bound.groups)
 }
 
 // The set lies in one of the groups; the empty one lies in any. The loop has no early end, so that the compiler can compare
@@ -124,10 +103,8 @@ fn fits(groups: [u32; 16], who: u32) -> bool
     ensures { result ≡ some 16 (λ i. all 32 (λ j. mem j who implies mem j (get_or groups i 0))) }
 {
     let mut found = false;
-    let mut i: usize = 0;
-    while i < 16 {
-        found = found | (who & !groups[i] == 0);
-        i += 1;
+    for group in &groups {
+        found = found | (who & !*group == 0);
     }
     found
 }
@@ -136,11 +113,9 @@ fn fits(groups: [u32; 16], who: u32) -> bool
 pub fn enough(bound: Bound, who: u32) -> bool
     ensures { result ≡ enough 32 bound (λ j. mem j who) }
 {
-    let kind = bound.kind;
-    let groups = bound.groups;
-    match kind {
+    match bound.kind {
         BoundKind::Most(f) => f < u32::count_ones(who) as usize,
-        BoundKind::Groups(_) => !fits(groups, who),
+        BoundKind::Groups(_) => !fits(bound.groups, who),
     }
 }
 
@@ -167,20 +142,14 @@ pub fn layout_of(notice: u32) -> u16
 pub fn silent(notice: u32) -> bool
     ensures { result ≡ silent notice }
 {
-    if edition_of(notice) == 0 {
-        return true;
-    }
-    layout_of(notice) == 0
+    edition_of(notice) == 0 || layout_of(notice) == 0
 }
 
 // A layout that is said without an edition counts as edition 1; 0 stays silence.
 pub fn first_edition(layout: u16) -> u32
     ensures { result ≡ first_edition layout }
 {
-    if layout == 0 {
-        return 0;
-    }
-    notice_of(1, layout)
+    if layout == 0 { 0 } else { notice_of(1, layout) }
 }
 
 // The editions that are issued later rise, each above the last before it. Silence issues nothing.
@@ -188,19 +157,15 @@ pub fn rising(first: u16, later: &[u32]) -> bool
     ensures { result ≡ rising first later.now }
 {
     let mut last = first;
-    let mut i = 0;
-    while i < later.len() {
-        let notice = later[i];
-        if silent(notice) {
-            i += 1;
-        } else {
-            let edition = edition_of(notice);
-            if edition <= last {
-                return false;
-            }
-            last = edition;
-            i += 1;
+    for notice in later {
+        if silent(*notice) {
+            continue;
         }
+        let edition = edition_of(*notice);
+        if edition <= last {
+            return false;
+        }
+        last = edition;
     }
     true
 }
@@ -209,8 +174,5 @@ pub fn rising(first: u16, later: &[u32]) -> bool
 pub fn start_sound(layout: u16, rounds: u8) -> bool
     ensures { result ≡ start_sound layout rounds }
 {
-    if layout == 0 {
-        return false;
-    }
-    rounds <= 40
+    layout != 0 && rounds <= 40
 }

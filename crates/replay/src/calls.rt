@@ -1,131 +1,129 @@
 // The calls on values: the step, a later notice of the office, the two checks of sets, the run.
-use super::{said, say};
-use partition::WitnessCheck;
-use terminal::Record;
+ghost use Rattle.std.specs.Prelude.{◌≤◌};
 
-fn step_on(body: &[u8], before: Record, said_to: &[u32], line: &mut [u8]) -> usize {
-    let placed = said::bound(body, 2);
-    let bound = placed.bound;
-    let at = placed.next;
-    let stepped = terminal::step(
-        said::byte(body, 0) as usize,
-        said::byte(body, 1) as usize,
-        bound,
-        said::byte(body, at) as usize,
-        said::quad(body, at + 1),
-        before,
-        said_to,
-    );
-    let outcome = stepped.outcome;
-    let after = stepped.after;
-    let one = say::byte(line, 0, terminal::number(outcome));
-    say::record(line, one, after)
+use super::said::Call;
+use super::say::Line;
+use plan::Plan;
+use quorum::Bound;
+use simulation::Ran;
+use terminal::{Record, Stepped};
+
+// n, source, the bound, own number, heard set and record.
+#[derive(Clone, Copy)]
+pub(crate) struct Before {
+    pub n: usize,
+    pub source: usize,
+    pub bound: Bound,
+    pub own: usize,
+    pub heard: u32,
+    pub record: Record,
 }
 
-// The count of what was said, then n, source, the bound, own number, heard set, record, and what was
-// said.
-pub(crate) fn step(count: usize, body: &[u8], line: &mut [u8]) -> usize {
-    let told = said::bound(body, 2);
-    let placed = said::record(body, told.next + 5);
-    let before = placed.record;
-    let mut words = [0u32; 64];
-    said::quads(body, placed.next, &mut words);
-    if count <= 64 {
-        return step_on(body, before, &words[..count], line);
+impl Before {
+    pub(crate) fn of(call: &mut Call) -> Before {
+        Before {
+            n: call.count(),
+            source: call.count(),
+            bound: call.bound(),
+            own: call.count(),
+            heard: call.quad(),
+            record: call.record(),
+        }
     }
-    0
+}
+
+pub(crate) fn stepped(after: &Stepped, line: &mut Line) {
+    line.byte(terminal::number(after.outcome));
+    line.record(&after.after);
+}
+
+// What a terminal holds and hears, then what was said; `count` of it.
+pub(crate) fn step(count: usize, call: &mut Call, line: &mut Line) {
+    let mut said = [0u32; 64];
+    let Some(said) = said.get_mut(..count) else {
+        return;
+    };
+    let b = Before::of(call);
+    call.fill(said, Call::quad);
+    let after = terminal::step(b.n, b.source, b.bound, b.own, b.heard, b.record, said);
+    stepped(&after, line)
 }
 
 // A record and a notice.
-pub(crate) fn issue(body: &[u8], line: &mut [u8]) -> usize {
-    let placed = said::record(body, 0);
-    let before = placed.record;
-    let issued = terminal::issue(before, said::quad(body, placed.next));
-    let outcome = issued.outcome;
-    let after = issued.after;
-    let one = say::byte(line, 0, terminal::number(outcome));
-    say::record(line, one, after)
-}
-
-fn witness_number(c: WitnessCheck) -> u8 {
-    match c {
-        WitnessCheck::Accepted => 0,
-        WitnessCheck::Rejected => 1,
-        WitnessCheck::WrongRange => 4,
-        WitnessCheck::WrongLink => 5,
-        WitnessCheck::WrongGroups => 17,
-    }
+pub(crate) fn issue(call: &mut Call, line: &mut Line) {
+    let record = call.record();
+    stepped(&terminal::issue(record, call.quad()), line)
 }
 
 // A plan and three sets.
-pub(crate) fn witness(body: &[u8], line: &mut [u8]) -> usize {
-    let placed = said::plan(body);
-    let p = placed.plan;
-    let at = placed.next;
-    let checked = partition::check_witness(
-        p,
-        said::quad(body, at),
-        said::quad(body, at + 4),
-        said::quad(body, at + 8),
-    );
-    say::byte(line, 0, witness_number(checked))
+pub(crate) fn witness(call: &mut Call, line: &mut Line) {
+    let p = call.plan();
+    let number = match partition::check_witness(p, call.quad(), call.quad(), call.quad()) {
+        Ok(true) => 0,
+        Ok(false) => 1,
+        Err(e) => u8::from(e),
+    };
+    line.byte(number)
 }
 
 // A plan and a set.
-pub(crate) fn fault_set(body: &[u8], line: &mut [u8]) -> usize {
-    let placed = said::plan(body);
-    let p = placed.plan;
-    let checked = faults::check_fault_set(p, said::quad(body, placed.next));
-    say::byte(line, 0, faults::number(checked))
+pub(crate) fn fault_set(call: &mut Call, line: &mut Line) {
+    let p = call.plan();
+    line.byte(faults::number(faults::check_fault_set(p, call.quad())))
 }
 
-fn record_below(line: &mut [u8], at: usize, below: bool, r: Record) -> usize {
-    if below {
-        return say::record(line, at, r);
+// A plan, the fault set, the start's notice, the rounds, how many later notices, at most 64, and these.
+#[derive(Clone, Copy)]
+pub(crate) struct Run {
+    pub plan: Plan,
+    pub faulty: u32,
+    pub first: u32,
+    pub rounds: u8,
+    issues: usize,
+    later: [u32; 64],
+    ghost in_room: { issues ≤ 64 },
+}
+
+impl Run {
+    pub(crate) fn of(call: &mut Call) -> Run {
+        let plan = call.plan();
+        let faulty = call.quad();
+        let first = call.quad();
+        let rounds = call.byte();
+        let issues = usize::from(call.pair()).min(64);
+        let mut later = [0u32; 64];
+        call.fill(&mut later[..issues], Call::quad);
+        Run {
+            plan,
+            faulty,
+            first,
+            rounds,
+            issues,
+            later,
+        }
     }
-    at
-}
 
-pub(crate) fn records(line: &mut [u8], at: usize, n: usize, list: [Record; 20]) -> usize {
-    let mut k = at;
-    let mut b = 0;
-    while b < 20 {
-        k = record_below(line, k, b < n, list[b]);
-        b += 1;
+    pub(crate) fn later(&self) -> &[u32] {
+        &self.later[..self.issues]
     }
-    k
 }
 
-fn site_on(body: &[u8], later: &[u32], words: &[u32], line: &mut [u8]) -> usize {
-    let placed = said::plan(body);
-    let p = placed.plan;
-    let n = p.n;
-    let at = placed.next;
-    let ran = simulation::run_site(
-        p,
-        said::quad(body, at),
-        said::quad(body, at + 4),
-        later,
-        said::byte(body, at + 8),
-        words,
-    );
-    let outcome = ran.outcome;
-    let list = ran.records;
-    let one = say::byte(line, 0, simulation::number(outcome));
-    records(line, one, n, list)
+// The outcome, and the records of the n terminals.
+pub(crate) fn ran(n: usize, after: &Ran, line: &mut Line) {
+    line.byte(simulation::number(after.outcome));
+    for record in after.records.iter().take(n) {
+        line.record(record);
+    }
 }
 
-// The count of words, then a plan, the fault set, the start's notice, the rounds, how many later notices,
-// these, and the words.
-pub(crate) fn site(count: usize, body: &[u8], line: &mut [u8]) -> usize {
-    let placed = said::plan(body);
-    let issues = said::issues(body, placed.next + 9);
-    let mut later = [0u32; 64];
-    said::quads(body, placed.next + 11, &mut later);
+// A run, and the words, `count` of them.
+pub(crate) fn site(count: usize, call: &mut Call, line: &mut Line) {
     let mut words = [0u32; 12000];
-    said::quads(body, placed.next + 11 + 4 * issues, &mut words);
-    if count <= 12000 {
-        return site_on(body, &later[..issues], &words[..count], line);
-    }
-    0
+    let Some(words) = words.get_mut(..count) else {
+        return;
+    };
+    let r = Run::of(call);
+    call.fill(words, Call::quad);
+    let after = simulation::run_site(r.plan, r.faulty, r.first, r.later(), r.rounds, words);
+    ran(r.plan.n, &after, line)
 }

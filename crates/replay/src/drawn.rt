@@ -1,30 +1,12 @@
 // The greatest bound for which a drawing passes.
-use super::{said, say};
-use tolerance::Greatest;
+use super::said::Call;
+use super::say::Line;
 
-// In one byte; 255 for what no bound is.
-fn small(f: usize) -> u8 {
-    if f < 255 {
-        return f as u8;
-    }
-    255
-}
-
-// The number, then 0 for none or 1, and the bound.
-fn found(line: &mut [u8], some: u8, bound: u8) -> usize {
-    let one = say::byte(line, 0, 0);
-    let two = say::byte(line, one, some);
-    say::byte(line, two, bound)
-}
-
-// A drawing; the number of a refusal, or what was found.
-pub(crate) fn greatest(body: &[u8], line: &mut [u8]) -> usize {
-    let d = said::drawing(body);
-    let g = tolerance::greatest_bound(d);
-    match g {
-        Greatest::None => found(line, 0, 0),
-        Greatest::Bound(f) => found(line, 1, small(f)),
-        Greatest::WrongRange => say::byte(line, 0, 4),
-        Greatest::WrongLink => say::byte(line, 0, 5),
+// A drawing; the number of a refusal, or 0, then 0 for none or 1, and the bound, 255 for what no bound is.
+pub(crate) fn greatest(call: &mut Call, line: &mut Line) {
+    match tolerance::greatest_bound(call.drawing()) {
+        Ok(None) => line.bytes(&[0, 0, 0]),
+        Ok(Some(f)) => line.bytes(&[0, 1, u8::try_from(f).unwrap_or(255)]),
+        Err(e) => line.byte(u8::from(e)),
     }
 }

@@ -14,55 +14,68 @@ mod standings;
 mod texts;
 mod worded;
 
-// One call of a kind, and the line's length; a kind that is none has an empty line. `size` is the
-// length of the list that the call lends.
-fn answer(kind: u8, size: usize, body: &[u8], line: &mut [u8]) -> usize {
-    match kind {
-        b'v' => texts::verdict(size, body, line),
-        b'a' => texts::archive(size, body, line),
-        b'q' => texts::quote(size, body, line),
-        b'm' => texts::margins(size, body, line),
-        b'g' => texts::greatest(size, body, line),
-        b'e' => texts::sentence(size, body, line),
-        b'h' => texts::heard(size, body, line),
-        b'd' => texts::open(body, line),
-        b'r' => texts::run(size, body, line),
-        b'f' => texts::read(size, body, line),
-        b'p' => texts::write(size, body, line),
-        b's' => calls::step(size, body, line),
-        b'i' => calls::issue(body, line),
-        b'w' => calls::witness(body, line),
-        b'c' => calls::fault_set(body, line),
-        b'j' => judged::both(body, line),
-        b'M' => standings::margins(body, line),
-        b'G' => drawn::greatest(body, line),
-        b'E' => worded::compose(size, body, line),
-        b'H' => worded::read(body, line),
-        b'n' => calls::site(size, body, line),
-        b'l' => lent::run(size, body, line),
-        b'S' => shared::step(size, body, line),
-        b'C' => shared::fault_set(body, line),
-        b'N' => shared::site(size, body, line),
-        b'L' => shared::run(size, body, line),
-        _ => 0,
-    }
-}
+use said::Call;
+use say::Line;
 
-fn print(line: &[u8], n: usize) {
-    if n <= line.len() {
-        io::write_all(1, &line[..n]);
+// The most bytes that a call has beside its head.
+const ROOM: usize = 60000;
+
+// One call of a kind, and its line; a kind that is none has an empty line. `size` is the length of the
+// list that the call lends.
+fn answer(kind: u8, size: usize, body: &[u8], line: &mut Line) {
+    let call = &mut Call::of(body);
+    match kind {
+        b'v' => texts::on_file(size, line, |out| verdict_output::verdict_text(body, out)),
+        b'a' => texts::on_file(size, line, |out| verdict_output::archive_text(body, out)),
+        b'q' => texts::on_file(size, line, |out| verdict_output::quote_text(body, out)),
+        b'm' => texts::on_file(size, line, |out| margin_output::margins_text(body, out)),
+        b'g' => texts::on_file(size, line, |out| greatest_output::greatest_text(body, out)),
+        b'e' => texts::on_file(size, line, |out| sentence_output::sentence_text(body, out)),
+        b'h' => texts::on_file(size, line, |out| sentence_output::heard_text(body, out)),
+        b'r' => texts::on_file(size, line, |out| run_output::run_text(body, out)),
+        b'd' => texts::archive(body, line),
+        b'f' => texts::run(size, body, line),
+        b'p' => texts::plan(size, call, line),
+        b's' => calls::step(size, call, line),
+        b'i' => calls::issue(call, line),
+        b'w' => calls::witness(call, line),
+        b'c' => calls::fault_set(call, line),
+        b'j' => judged::both(call, line),
+        b'M' => standings::margins(call, line),
+        b'G' => drawn::greatest(call, line),
+        b'E' => worded::compose(size, call, line),
+        b'H' => worded::read(body, line),
+        b'n' => calls::site(size, call, line),
+        b'l' => lent::run(size, call, line),
+        b'S' => shared::step(size, call, line),
+        b'C' => shared::fault_set(call, line),
+        b'N' => shared::site(size, call, line),
+        b'L' => shared::lent(size, call, line),
+        _ => {}
     }
 }
 
 // Plays the call and prints its line.
 fn play(kind: u8, size: usize, body: &[u8]) {
-    let mut line = [0u8; 65536];
-    let n = answer(kind, size, body, &mut line);
-    let end = say::end(&mut line, n);
-    print(&line, end);
+    let mut line = Line::empty();
+    answer(kind, size, body, &mut line);
+    line.end();
+    io::write_all(1, line.digits());
 }
 
-fn play_body(kind: u8, size: usize, body: &mut [u8]) -> bool {
+// Reads one call and plays it; whether there was one.
+fn next() -> bool {
+    let mut head = [0u8; 5];
+    let mut body = [0u8; ROOM];
+    if io::read_full(0, &mut head) < 5 {
+        return false;
+    }
+    let mut call = Call::of(&head);
+    let kind = call.byte();
+    let size = usize::from(call.pair());
+    let Some(body) = body.get_mut(..usize::from(call.pair())) else {
+        return false;
+    };
     if io::read_full(0, body) < body.len() {
         return false;
     }
@@ -70,27 +83,10 @@ fn play_body(kind: u8, size: usize, body: &mut [u8]) -> bool {
     true
 }
 
-// Reads one call and plays it; whether there was one.
-fn next() -> bool {
-    let mut head = [0u8; 5];
-    if io::read_full(0, &mut head) < 5 {
-        return false;
-    }
-    let mut body = [0u8; 60000];
-    let n = said::pair(&head, 3) as usize;
-    if n <= 60000 {
-        return play_body(head[0], said::pair(&head, 1) as usize, &mut body[..n]);
-    }
-    false
-}
-
 // At most so many, so that it ends on an input without end.
 fn main() {
-    let mut k = 0usize;
-    while k < 100000 {
-        if next() {
-            k += 1;
-        } else {
+    for _ in 0..100000 {
+        if !next() {
             return;
         }
     }

@@ -1,240 +1,122 @@
-// Numbers out of a call's bytes, high byte first; 0 past their end.
-ghost use Rattle.std.specs.Prelude.{◌+◌, ◌≤◌};
-
+// Numbers, plans and records out of a call's bytes, one after the other, high byte first; 0 past their end.
 use plan::Plan;
 use quorum::{Bound, BoundKind};
 use terminal::{Note, Record, State};
 use tolerance::Drawing;
 
-pub(crate) fn byte(body: &[u8], i: usize) -> u8 {
-    if i < body.len() {
-        return body[i];
+// What is left of a call.
+#[derive(Drop)]
+pub(crate) struct Call<'a> {
+    rest: &'a [u8],
+}
+
+impl<'a> Call<'a> {
+    pub(crate) fn of(body: &'a [u8]) -> Call<'a> {
+        Call { rest: body }
     }
-    0
-}
 
-pub(crate) fn pair(body: &[u8], i: usize) -> u16
-    requires { i ≤ 65536 }
-{
-    (byte(body, i) as u16) * 256 + (byte(body, i + 1) as u16)
-}
-
-pub(crate) fn quad(body: &[u8], i: usize) -> u32
-    requires { i ≤ 65000 }
-{
-    (pair(body, i) as u32) * 65536 + (pair(body, i + 2) as u32)
-}
-
-// f, or how many groups are listed.
-fn kind(groups: bool, number: usize) -> BoundKind {
-    if groups {
-        return BoundKind::Groups(number);
+    pub(crate) fn byte(&mut self) -> u8 {
+        self.rest.split_off_first().copied().unwrap_or(0)
     }
-    BoundKind::Most(number)
-}
 
-// A bound, and the place after it.
-#[derive(Clone, Copy)]
-pub(crate) struct PlacedBound {
-    pub bound: Bound,
-    pub next: usize,
-}
-
-// 0 for f, else groups; f or their count; how many places are listed, and these; 0 at the others.
-pub(crate) fn bound(body: &[u8], i: usize) -> PlacedBound
-    requires { i ≤ 60000 }
-    ensures { result.next ≤ i + 67 }
-{
-    let mut groups = [0u32; 16];
-    let places = listed(body, i + 2, 16);
-    let mut k = 0;
-    while k < places {
-        groups[k] = quad(body, i + 3 + 4 * k);
-        k += 1;
+    pub(crate) fn pair(&mut self) -> u16 {
+        u16::from_be_bytes([self.byte(), self.byte()])
     }
-    let kind = kind(byte(body, i) != 0, byte(body, i + 1) as usize);
-    PlacedBound {
-        bound: Bound {
-            kind: kind,
-            groups: groups,
-        },
-        next: i + 3 + 4 * places,
-    }
-}
 
-// 20 rows of four bytes.
-fn rows(body: &[u8], i: usize) -> [u32; 20]
-    requires { i ≤ 60000 }
-{
-    let mut rows = [0u32; 20];
-    let mut b = 0;
-    while b < 20 {
-        rows[b] = quad(body, i + 4 * b);
-        b += 1;
+    pub(crate) fn quad(&mut self) -> u32 {
+        u32::from_be_bytes([self.byte(), self.byte(), self.byte(), self.byte()])
     }
-    rows
-}
 
-// n and source in a byte each, then the rows.
-pub(crate) fn drawing(body: &[u8]) -> Drawing {
-    let rows = rows(body, 2);
-    Drawing {
-        n: byte(body, 0) as usize,
-        source: byte(body, 1) as usize,
-        rows: rows,
+    // A number of terminals or of groups, in one byte.
+    pub(crate) fn count(&mut self) -> usize {
+        usize::from(self.byte())
     }
-}
 
-// A plan, and the place after it.
-#[derive(Clone, Copy)]
-pub(crate) struct PlacedPlan {
-    pub plan: Plan,
-    pub next: usize,
-}
-
-// n and source in a byte each, the bound, then the rows: at most 149 bytes.
-pub(crate) fn plan(body: &[u8]) -> PlacedPlan
-    ensures { result.next ≤ 149 }
-{
-    let placed = bound(body, 2);
-    let bound = placed.bound;
-    let rows = rows(body, placed.next);
-    PlacedPlan {
-        plan: Plan {
-            n: byte(body, 0) as usize,
-            source: byte(body, 1) as usize,
-            bound: bound,
-            rows: rows,
-        },
-        next: placed.next + 80,
+    // A value at each place of the list.
+    pub(crate) fn fill<T: Copy, F: Fn(&mut Call<'a>) -> T>(&mut self, list: &mut [T], read: F)
+        requires { F.IsAlwaysCallable read }
+    {
+        for place in list {
+            *place = read(self);
+        }
     }
-}
 
-// 0 for waiting, else the round and the notice.
-fn state(body: &[u8], i: usize) -> State
-    requires { i ≤ 20000 }
-{
-    if byte(body, i) == 0 {
-        return State::Waiting;
+    // How many places of the list are given, and these; the others stay.
+    fn listed<T: Copy, F: Fn(&mut Call<'a>) -> T>(&mut self, list: &mut [T], read: F)
+        requires { F.IsAlwaysCallable read }
+    {
+        let count = self.count().min(list.len());
+        self.fill(&mut list[..count], read)
     }
-    State::Taken(byte(body, i + 1), quad(body, i + 2))
-}
 
-// How many places are listed: at most so many.
-fn listed(body: &[u8], i: usize, most: usize) -> usize
-    ensures { result ≤ most }
-{
-    let places = byte(body, i) as usize;
-    if places <= most {
-        return places;
+    // 0 for f, else groups; f or their count; the groups, and 0 at the other places.
+    pub(crate) fn bound(&mut self) -> Bound {
+        let grouped = self.byte() != 0;
+        let number = self.count();
+        let mut groups = [0u32; 16];
+        self.listed(&mut groups, Call::quad);
+        let kind = if grouped {
+            BoundKind::Groups(number)
+        } else {
+            BoundKind::Most(number)
+        };
+        Bound { kind, groups }
     }
-    most
-}
 
-// The edition, the count, how many places are listed, and these; 0 at the others.
-fn note(body: &[u8], i: usize) -> Note
-    requires { i ≤ 60000 }
-{
-    let mut values = [0u16; 40];
-    let places = listed(body, i + 3, 40);
-    let mut k = 0;
-    while k < places {
-        values[k] = pair(body, i + 4 + 2 * k);
-        k += 1;
+    fn rows(&mut self) -> [u32; 20] {
+        std::array::from_fn(|_| self.quad())
     }
-    Note {
-        edition: pair(body, i),
-        count: byte(body, i + 2),
-        values: values,
-    }
-}
 
-// A record, and the place after it.
-#[derive(Clone, Copy)]
-pub(crate) struct Placed {
-    pub record: Record,
-    pub next: usize,
-}
-
-// The state in six bytes, the round, then 20 notes: at most 1,687 bytes.
-pub(crate) fn record(body: &[u8], i: usize) -> Placed
-    requires { i ≤ 20000 }
-    ensures { result.next ≤ i + 1687 }
-{
-    let nothing = Note {
-        edition: 0,
-        count: 0,
-        values: [0u16; 40],
-    };
-    let mut notes = [nothing; 20];
-    let mut at = i + 7;
-    let mut j = 0;
-    while j < 20 {
-        notes[j] = note(body, at);
-        at = at + 4 + 2 * listed(body, at + 3, 40);
-        j += 1;
+    // n and source in a byte each, then the rows.
+    pub(crate) fn drawing(&mut self) -> Drawing {
+        Drawing {
+            n: self.count(),
+            source: self.count(),
+            rows: self.rows(),
+        }
     }
-    let state = state(body, i);
-    Placed {
-        record: Record {
-            state: state,
-            round: byte(body, i + 6),
-            notes: notes,
-        },
-        next: at,
-    }
-}
 
-// How many later notices are given: at most 64.
-pub(crate) fn issues(body: &[u8], i: usize) -> usize
-    requires { i ≤ 60000 }
-    ensures { result ≤ 64 }
-{
-    let count = pair(body, i) as usize;
-    if count <= 64 {
-        return count;
+    // n and source in a byte each, the bound, then the rows.
+    pub(crate) fn plan(&mut self) -> Plan {
+        Plan {
+            n: self.count(),
+            source: self.count(),
+            bound: self.bound(),
+            rows: self.rows(),
+        }
     }
-    64
-}
 
-// Notice j of those from place i on; 0 past so many.
-fn quad_from(body: &[u8], i: usize, j: usize) -> u32
-    requires { i ≤ 17000 }
-{
-    if j < 12000 {
-        return quad(body, i + 4 * j);
+    // 0 for waiting, else 1; the round and the notice, which are there when it is waiting too.
+    fn state(&mut self) -> State {
+        let waiting = self.byte() == 0;
+        let round = self.byte();
+        let notice = self.quad();
+        if waiting {
+            State::Waiting
+        } else {
+            State::Taken(round, notice)
+        }
     }
-    0
-}
 
-// The notices from place i on, into the lent list.
-pub(crate) fn quads(body: &[u8], i: usize, list: &mut [u32])
-    requires { i ≤ 17000 }
-{
-    let mut j = 0;
-    while j < list.len() {
-        list[j] = quad_from(body, i, j);
-        j += 1;
+    // The edition, the count, the values, and 0 at the other places.
+    fn note(&mut self) -> Note {
+        let edition = self.pair();
+        let count = self.byte();
+        let mut values = [0u16; 40];
+        self.listed(&mut values, Call::pair);
+        Note {
+            edition,
+            count,
+            values,
+        }
     }
-}
 
-// Layout j of those from place i on; 0 past so many.
-fn pair_from(body: &[u8], i: usize, j: usize) -> u16
-    requires { i ≤ 17000 }
-{
-    if j < 12000 {
-        return pair(body, i + 2 * j);
-    }
-    0
-}
-
-// The layouts from place i on, into the lent list.
-pub(crate) fn pairs(body: &[u8], i: usize, list: &mut [u16])
-    requires { i ≤ 17000 }
-{
-    let mut j = 0;
-    while j < list.len() {
-        list[j] = pair_from(body, i, j);
-        j += 1;
+    // The state in six bytes, the round, then 20 notes.
+    pub(crate) fn record(&mut self) -> Record {
+        Record {
+            state: self.state(),
+            round: self.byte(),
+            notes: std::array::from_fn(|_| self.note()),
+        }
     }
 }

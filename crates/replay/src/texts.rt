@@ -1,276 +1,152 @@
 // The calls that have a text: a file in, or a plan out. A lent list holds a mark at each place before
 // the call, so that a place that was not to be touched shows.
-ghost use Rattle.std.specs.Prelude.{◌≤◌};
-
-use super::{said, say};
-use frames::FileRead;
+use super::said::Call;
+use super::say::Line;
+use frames::{Archived, Progress, Refusal, Stage};
 use lines::Form;
 use plan::Plan;
+use quorum::{Bound, BoundKind};
+use text::Written;
 
-// The number, the text's length, and all of the lent list.
-pub(crate) fn written(line: &mut [u8], number: u8, len: usize, list: &[u8]) -> usize {
-    let one = say::byte(line, 0, number);
-    let two = say::size(line, one, len);
-    say::bytes(line, two, list)
+pub(crate) const MARK: u8 = 0x5a;
+
+// Four marks.
+const MARKED: u32 = 0x5a5a5a5a;
+
+// A text into the list, of which so much is lent: the number, the text's length, and all of what was lent.
+pub(crate) fn text<F: FnOnce(&mut [u8]) -> Written>(
+    list: &mut [u8],
+    room: usize,
+    line: &mut Line,
+    write: F,
+)
+    requires { F.IsAlwaysCallable write }
+{
+    let Some(lent) = list.get_mut(..room) else {
+        return;
+    };
+    let written = write(lent);
+    line.byte(written.number);
+    line.size(written.len);
+    line.bytes(lent);
 }
 
-fn verdict_into(file: &[u8], out: &mut [u8], line: &mut [u8]) -> usize {
-    let w = verdict_output::verdict_text(file, out);
-    written(line, w.number, w.len, out)
+// A program's text on a file.
+pub(crate) fn on_file<F: FnOnce(&mut [u8]) -> output::Written>(
+    room: usize,
+    line: &mut Line,
+    program: F,
+)
+    requires { F.IsAlwaysCallable program }
+{
+    text(&mut [MARK; 400], room, line, |out| {
+        let written = program(out);
+        Written {
+            number: written.number,
+            len: written.len,
+        }
+    })
 }
 
-// The room of the lent list, and the file.
-pub(crate) fn verdict(room: usize, file: &[u8], line: &mut [u8]) -> usize {
-    let mut out = [90u8; 400];
-    if room <= 400 {
-        return verdict_into(file, &mut out[..room], line);
-    }
-    0
+// A plan in frames.
+pub(crate) fn plan(room: usize, call: &mut Call, line: &mut Line) {
+    let p = call.plan();
+    let mut list = [MARK; 3000];
+    text(&mut list, room, line, |out| writer::write_plan(p, out))
 }
 
-fn archive_into(file: &[u8], out: &mut [u8], line: &mut [u8]) -> usize {
-    let w = verdict_output::archive_text(file, out);
-    written(line, w.number, w.len, out)
-}
-
-// The same by the program for the archive.
-pub(crate) fn archive(room: usize, file: &[u8], line: &mut [u8]) -> usize {
-    let mut out = [90u8; 400];
-    if room <= 400 {
-        return archive_into(file, &mut out[..room], line);
-    }
-    0
-}
-
-fn quote_into(file: &[u8], out: &mut [u8], line: &mut [u8]) -> usize {
-    let w = verdict_output::quote_text(file, out);
-    written(line, w.number, w.len, out)
-}
-
-// The same by the program for the quoting desk.
-pub(crate) fn quote(room: usize, file: &[u8], line: &mut [u8]) -> usize {
-    let mut out = [90u8; 400];
-    if room <= 400 {
-        return quote_into(file, &mut out[..room], line);
-    }
-    0
-}
-
-fn margins_into(file: &[u8], out: &mut [u8], line: &mut [u8]) -> usize {
-    let w = margin_output::margins_text(file, out);
-    written(line, w.number, w.len, out)
-}
-
-// The same by the program for margins.
-pub(crate) fn margins(room: usize, file: &[u8], line: &mut [u8]) -> usize {
-    let mut out = [90u8; 400];
-    if room <= 400 {
-        return margins_into(file, &mut out[..room], line);
-    }
-    0
-}
-
-fn greatest_into(file: &[u8], out: &mut [u8], line: &mut [u8]) -> usize {
-    let w = greatest_output::greatest_text(file, out);
-    written(line, w.number, w.len, out)
-}
-
-// The same by the program for the greatest bound.
-pub(crate) fn greatest(room: usize, file: &[u8], line: &mut [u8]) -> usize {
-    let mut out = [90u8; 400];
-    if room <= 400 {
-        return greatest_into(file, &mut out[..room], line);
-    }
-    0
-}
-
-fn sentence_into(file: &[u8], out: &mut [u8], line: &mut [u8]) -> usize {
-    let w = sentence_output::sentence_text(file, out);
-    written(line, w.number, w.len, out)
-}
-
-// The same by the program for the sentence.
-pub(crate) fn sentence(room: usize, file: &[u8], line: &mut [u8]) -> usize {
-    let mut out = [90u8; 400];
-    if room <= 400 {
-        return sentence_into(file, &mut out[..room], line);
-    }
-    0
-}
-
-fn heard_into(file: &[u8], out: &mut [u8], line: &mut [u8]) -> usize {
-    let w = sentence_output::heard_text(file, out);
-    written(line, w.number, w.len, out)
-}
-
-// The same by the program that reads a sentence back.
-pub(crate) fn heard(room: usize, file: &[u8], line: &mut [u8]) -> usize {
-    let mut out = [90u8; 400];
-    if room <= 400 {
-        return heard_into(file, &mut out[..room], line);
-    }
-    0
-}
-
-fn run_into(file: &[u8], out: &mut [u8], line: &mut [u8]) -> usize {
-    let w = run_output::run_text(file, out);
-    written(line, w.number, w.len, out)
-}
-
-// The same of a run file.
-pub(crate) fn run(room: usize, file: &[u8], line: &mut [u8]) -> usize {
-    let mut out = [90u8; 400];
-    if room <= 400 {
-        return run_into(file, &mut out[..room], line);
-    }
-    0
-}
-
-fn write_into(p: Plan, out: &mut [u8], line: &mut [u8]) -> usize {
-    let w = writer::write_plan(p, out);
-    written(line, w.number, w.len, out)
-}
-
-// The room of the lent list, and a plan.
-pub(crate) fn write(room: usize, body: &[u8], line: &mut [u8]) -> usize {
-    let mut out = [90u8; 3000];
-    let placed = said::plan(body);
-    let p = placed.plan;
-    if room <= 3000 {
-        return write_into(p, &mut out[..room], line);
-    }
-    0
-}
-
-// 1 for a place that holds the mark.
-fn mark(notice: u32) -> u32 {
-    if notice == 1515870810 {
-        return 1;
-    }
-    0
-}
-
-// How many places of the list hold the mark.
-fn marks(words: &[u32]) -> u32 {
-    let mut count = 0u32;
-    let mut i = 0;
-    while i < words.len() {
-        count = std::num::wrapping_add_u32(count, mark(words[i]));
-        i += 1;
-    }
-    count
-}
-
-// A place that holds a notice, and the notice; nothing for silence and for the mark.
-fn word(line: &mut [u8], at: usize, place: usize, w: u32) -> usize {
-    if w == 0 {
-        return at;
-    }
-    if w == 1515870810 {
-        return at;
-    }
-    let one = say::size(line, at, place);
-    say::quad(line, one, w)
-}
-
-fn words_in(line: &mut [u8], at: usize, words: &[u32]) -> usize {
-    let mut k = at;
-    let mut i = 0;
-    while i < words.len() {
-        k = word(line, k, i, words[i]);
-        i += 1;
-    }
-    k
-}
-
-fn rows(line: &mut [u8], at: usize, list: [u32; 20]) -> usize {
-    let mut k = at;
-    let mut b = 0;
-    while b < 20 {
-        k = say::quad(line, k, list[b]);
-        b += 1;
-    }
-    k
-}
-
-// The number, the line and the plan that was read.
-fn plan_of(line: &mut [u8], r: FileRead) -> usize {
-    let plan = r.progress.plan;
-    let list = plan.rows;
-    let bound = plan.bound;
-    let one = say::byte(line, 0, r.number);
-    let two = say::pair(line, one, r.line);
-    let three = say::size(line, two, plan.n);
-    let four = say::size(line, three, plan.source);
-    let five = say::bound(line, four, bound);
-    rows(line, five, list)
-}
-
-// 0 for the old form, 1 for the new one.
-fn form(of: Form) -> u8 {
-    match of {
-        Form::Old => 0,
-        Form::New => 1,
+// What is shown of a refused file beside its number and line.
+fn nothing_read() -> Progress {
+    Progress {
+        stage: Stage::Nothing,
+        plan: Plan {
+            n: 0,
+            source: 0,
+            bound: Bound {
+                kind: BoundKind::Most(0),
+                groups: [0; 16],
+            },
+            rows: [0; 20],
+        },
+        faulty: 0,
+        form: Form::Old,
+        notice: 0,
+        rounds: 0,
+        issued: 0,
+        edition: 0,
+        default: 0,
     }
 }
 
-// What was read, beside the two lists.
-fn file(line: &mut [u8], r: FileRead) -> usize {
-    let progress = r.progress;
-    let of = progress.form;
-    let one = plan_of(line, r);
-    let two = say::quad(line, one, progress.faulty);
-    let three = say::byte(line, two, form(of));
-    let four = say::pair(line, three, progress.default);
-    let five = say::quad(line, four, progress.notice);
-    say::byte(line, five, progress.rounds)
+// What a reader gives of a file, or of a refused one `nothing`, after the number and the line, 0 and 0 where the file
+// is read.
+fn shown<T: Copy>(read: Result<T, Refusal>, nothing: T, line: &mut Line) -> T {
+    match read {
+        Ok(given) => {
+            line.byte(0);
+            line.pair(0);
+            given
+        }
+        Err(refusal) => {
+            line.byte(u8::from(refusal.cause));
+            line.pair(refusal.line);
+            nothing
+        }
+    }
+}
+
+fn plan_read(plan: &Plan, line: &mut Line) {
+    line.size(plan.n);
+    line.size(plan.source);
+    line.bound(&plan.bound);
+    line.quads(&plan.rows);
 }
 
 // What the archive's reader answers: the deaf set too.
-pub(crate) fn open(text: &[u8], line: &mut [u8]) -> usize {
-    let r = frames::read_archive(text);
-    let one = plan_of(line, r.file);
-    say::quad(line, one, r.deaf)
+pub(crate) fn archive(text: &[u8], line: &mut Line) {
+    let nothing = Archived {
+        progress: nothing_read(),
+        deaf: 0,
+    };
+    let read = shown(frames::read_archive(text), nothing, line);
+    plan_read(&read.progress.plan, line);
+    line.quad(read.deaf);
 }
 
-// How many places of a list hold the mark, and the notices in it.
-fn list_in(line: &mut [u8], at: usize, list: &[u32]) -> usize {
-    let one = say::quad(line, at, marks(list));
-    words_in(line, one, list)
-}
-
-fn read_into(text: &[u8], words: &mut [u32], later: &mut [u32], line: &mut [u8]) -> usize {
-    let r = frames::read_run(text, words, later);
-    let one = file(line, r);
-    let two = list_in(line, one, words);
-    list_in(line, two, later)
-}
-
-// The room of the list of later notices; at most 41.
-fn room_later(body: &[u8]) -> usize
-    ensures { result ≤ 41 }
-{
-    let room = said::byte(body, 0) as usize;
-    if room <= 41 {
-        return room;
+// How many places of a list hold the mark, then each other place that holds a notice, and the notice.
+fn list(words: &[u32], line: &mut Line) {
+    let marked = words.iter().filter(|word| **word == MARKED).count();
+    line.quad(u32::try_from(marked).unwrap_or(u32::MAX));
+    for (place, word) in words.iter().enumerate() {
+        if *word != 0 && *word != MARKED {
+            line.size(place);
+            line.quad(*word);
+        }
     }
-    41
 }
 
-// The room of the lent list of words; a byte with that of the list of later notices, and the file.
-pub(crate) fn read(room: usize, body: &[u8], line: &mut [u8]) -> usize {
-    let mut words = [1515870810u32; 16001];
-    let mut later = [1515870810u32; 41];
-    if body.len() < 1 {
-        return 0;
-    }
-    if room <= 16001 {
-        return read_into(
-            &body[1..],
-            &mut words[..room],
-            &mut later[..room_later(body)],
-            line,
-        );
-    }
-    0
+// What the reader of run files answers, and both lent lists: that of the words, of which `room` is the room, and
+// that of later notices, whose room, at most 41, stands in a byte before the file.
+pub(crate) fn run(room: usize, body: &[u8], line: &mut Line) {
+    let mut words = [MARKED; 16001];
+    let mut later = [MARKED; 41];
+    let Some((room_later, text)) = body.split_first() else {
+        return;
+    };
+    let Some(words) = words.get_mut(..room) else {
+        return;
+    };
+    let later = &mut later[..usize::from(*room_later).min(41)];
+    let progress = shown(frames::read_run(text, words, later), nothing_read(), line);
+    plan_read(&progress.plan, line);
+    line.quad(progress.faulty);
+    line.byte(match progress.form {
+        Form::Old => 0,
+        Form::New => 1,
+    });
+    line.pair(progress.default);
+    line.quad(progress.notice);
+    line.byte(progress.rounds);
+    list(words, line);
+    list(later, line);
 }

@@ -2,6 +2,8 @@
 // the plan anew to standard output: the head, then the links by sender, then by hearer, then the groups.
 #![tactic(auto)]
 
+// The other programs' mains are alike. Nothing can be promised of what is read and written, so that one function for
+// all would be a public one without a contract.
 fn main() {
     let mut file = [0u8; 24577];
     let n = io::read_full(0, &mut file);

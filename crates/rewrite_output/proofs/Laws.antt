@@ -5,22 +5,28 @@ use mathlib.Core.Path.{◌≡◌, sym, ap, ◌∙◌}
 use mathlib.Core.List.{List}
 use native.Mathlib.Omega.{arith}
 use lib.ListN.{length}
+use Rattle.std.specs.Prelude.{Err}
 use Rattle.plan.specs.Plan.{cause_of}
 use Rattle.text.specs.declared.Written as text
-use Rattle.text.specs.Texts.{written_of}
-use Rattle.frames.specs.declared.FileRead.{FileRead}
-use Rattle.frames.specs.Reading.{archive_reading, file_read}
+use Rattle.text.specs.Texts.{written_of, put_into}
+use Rattle.frames.specs.declared.Progress.{Progress}
+use Rattle.frames.specs.declared.Refusal.{Refusal}
+use Rattle.frames.specs.Reading.{FileRead, archive_reading, file_read}
+use Rattle.frames.specs.Causes.{number, answer}
 use Rattle.frames.proofs.Accepted.{archived_sound}
 use Rattle.writer.specs.Written.{plan_text, written_text}
 use Rattle.writer.proofs.Laws.{text_short, sound_text}
 use Rattle.output.specs.declared.Written.{Written}
 use Rattle.output.specs.OnFile.{refusal_line, on_line, answer_on}
-use Rattle.output.proofs.Laws.{refused_is, answered_is, on_length, whole_text}
+use Rattle.output.proofs.Laws.{answered_is, put_refused, on_length, whole_text}
 use Rattle.rewrite_output.specs.Rewritten.{rewritten_on, rewritten_text}
 
-pub anew_refused : (read : FileRead) (t : List ℕ) → (read.number ≡ 0 → ⊥) → t ≡ refusal_line read.number read.line → t ≡ rewritten_on read
+-- why a file is refused is put in place of its plan
+pub put_refusal : {w : Written} {last : List ℕ} (out : List ℕ) (file : FileRead) (e : Refusal) → answer (Err e) ≡ file
+    → w ≡ answer_on (answer (Err e)) (refusal_line (number e.cause) e.line) (length out) → last ≡ put_into (refusal_line (number e.cause) e.line) out
+    → (w ≡ answer_on file (rewritten_on file) (length out)) × (last ≡ put_into (rewritten_on file) out)
 unfolding rewritten_on
-anew_refused read t n a = a ∙ sym (refused_is read (plan_text read.progress.plan) n)
+put_refusal out file = put_refused _ _ out file (λ (x : Progress). plan_text x.plan)
 
 -- an accepted file's plan is sound, so its text is what is written
 module _ (file : List ℕ) (read : FileRead) (e : read ≡ file_read (archive_reading file)) (z : read.number ≡ 0) where

@@ -1,7 +1,6 @@
 -- What `rewrite` prints on any file: its plan written anew, as the archive opens it (document 02, P6). Assumes nothing.
 use Rattle.std.specs.Prelude.{ℕ, List}
-use Rattle.frames.specs.declared.FileRead.{FileRead}
-use Rattle.frames.specs.Reading.{archive_reading, file_read}
+use Rattle.frames.specs.Reading.{FileRead, archive_reading, file_read}
 use Rattle.writer.specs.Written.{plan_text}
 use Rattle.output.specs.OnFile.{text_on}
 

@@ -14,10 +14,8 @@ pub fn rewritten_text(text: &[u8], out: &mut [u8]) -> Written
     ensures value { result ≡ answer_on (file_read (archive_reading text.now)) (rewritten_text text.now) (length out.old) }
     ensures out_after { out.new ≡ put_into (rewritten_text text.now) out.old }
 {
-    let archived = frames::read_archive(text);
-    let read = archived.file;
-    if read.number != 0 {
-        return output::put(read, output::refusal(read.number, read.line), out);
+    match frames::read_archive(text) {
+        Ok(a) => output::on_line(0, writer::write_plan(a.progress.plan, out)),
+        Err(e) => output::refused(e, out),
     }
-    output::on_line(read.line, writer::write_plan(read.progress.plan, out))
 }

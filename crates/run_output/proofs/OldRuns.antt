@@ -1,19 +1,19 @@
 -- A run in the old frames is that of an office which issues one notice, in edition 1. Assumes nothing.
-use Prim.Native.Nat.{ℕ, ◌*◌, ◌-◌}
-use mathlib.Core.Path.{◌≡◌, refl, sym, ap, ◌∙◌}
+use Prim.Native.Nat.{ℕ, ◌-◌}
+use mathlib.Core.Path.{◌≡◌, sym, ap, ◌∙◌}
 use mathlib.Core.Bool.{false}
 use mathlib.Core.List.{List}
 use lib.ListN.{length, get_or, take}
-use Rattle.quorum.specs.Notice.{notice_of, edition_of, layout_of}
+use Rattle.quorum.specs.Notice.{notice_of, layout_of}
 use Rattle.quorum.proofs.Notices.{notice_is}
 use Rattle.sets.proofs.Bools.{pick_no}
 use Rattle.terminal.specs.Rule.{View, start}
-use Rattle.propagation.specs.Run.{Office, one_notice, office_of, sites, site}
+use Rattle.propagation.specs.Run.{one_notice, office_of, site}
 use Rattle.propagation.proofs.Rounds.{office_same}
 use Rattle.lines.specs.declared.Form.{Form}
 use Rattle.lines.specs.declared.Form.TheVariants.{Old}
 use Rattle.frames.specs.declared.Progress.{Progress}
-use Rattle.frames.specs.Reading.{is_shared, no_later, run_reading, file_read}
+use Rattle.frames.specs.Reading.{is_shared, run_reading, file_read}
 use Rattle.frames.proofs.Accepted.{run_accepted}
 use Rattle.frames.proofs.Starts.{run_no_channel}
 use Rattle.output.proofs.Laws.{answered_is}

@@ -8,6 +8,7 @@ use native.Mathlib.Omega.{arith}
 use lib.ListN.{length, get_or, take, length-take, get_or-eq_default}
 use lib.Seq.{get_or-take}
 use borrow.Author.Tests.{ne_eqb}
+use Rattle.std.specs.Prelude.{None}
 use Rattle.sets.specs.Tests.{pick}
 use Rattle.sets.specs.Sets.{mem}
 use Rattle.sets.proofs.Bools.{decide, and_i, not_i, pick_no, pick_case, every}
@@ -30,7 +31,6 @@ use Rattle.text.specs.Texts.{put_into}
 use Rattle.text.proofs.Laws.{no_end, byte_no_end, put_back}
 use Rattle.lines.specs.declared.Form.{Form}
 use Rattle.lines.specs.declared.Form.TheVariants.{Old, New}
-use Rattle.lines.specs.declared.Rounds.TheVariants.{Left}
 use Rattle.lines.specs.Bytes.{digit_at, byte_at}
 use Rattle.frames.specs.declared.Progress.{Progress}
 use Rattle.frames.specs.Lines.{ended, last_line, lines_from}
@@ -170,8 +170,8 @@ rounds_left_out file = record {
   none_waits = λ l n passed. enough_rounds file l.0 passed (omega (arith, (started l).1)) (run_no_later file l.0 n);
 }
   where
-    started : (l : LeavesRoundsOut file) → Started l.1.0 l.1.1 l.1.2 Left (run_reading file).progress
-    started l = run_starts file l.0 l.1.0 l.1.1 l.1.2 Left l.1.3
+    started : (l : LeavesRoundsOut file) → Started l.1.0 l.1.1 l.1.2 None (run_reading file).progress
+    started l = run_starts file l.0 l.1.0 l.1.1 l.1.2 None l.1.3
 
 -- of what a call leaves in the list that it was lent
 pub put_left_out : (file out : List ℕ) (w : Written) (last : List ℕ) → w ≡ answer_on (file_read (run_reading file)) (run_text file) (length out)

@@ -1,7 +1,6 @@
 -- The terminals' lines one after the other, and what `run` prints on a file that is accepted: the run that it asks for is never refused. Assumes nothing.
 use Prim.Native.Nat.{ℕ, zero, suc, ◌+◌, ◌*◌, ◌≤◌, ◌<◌}
-use mathlib.Core.Path.{◌≡◌, refl, sym, ap, ap₂, ◌∙◌, subst}
-use mathlib.Core.Logic.{⊎_elim}
+use mathlib.Core.Path.{◌≡◌, refl, sym, ap, ◌∙◌, subst}
 use mathlib.Core.Bool.{Bool, true, false}
 use mathlib.Core.List.{List, map}
 use native.Mathlib.Nat.{mul-le-mul}
@@ -9,11 +8,11 @@ use native.Mathlib.Numerals.{add-one}
 use native.Mathlib.Omega.{arith}
 use lib.ListN.{length, get_or, take, length-append, length-replicate, get_or-map}
 use lib.Seq.{length-take-le}
+use Rattle.std.specs.Prelude.{Ok, Err}
 use Rattle.sets.specs.Sets.{mem}
 use lib.Dec.{eqb}
 use borrow.Author.Tests.{ne_eqb, eqb-false}
 use Rattle.sets.proofs.Bools.{and_i, not_i, not_e, pick_yes, pick_no, pick_case}
-use Rattle.sets.proofs.Laws.{equal_or_not}
 use Rattle.terminal.specs.declared.State.{State}
 use Rattle.terminal.specs.declared.State.TheVariants.{Waiting, Taken}
 use Rattle.terminal.specs.declared.Record.{Record}
@@ -27,15 +26,17 @@ use Rattle.simulation.proofs.Promise.{array_at}
 use Rattle.lines.specs.declared.Form.{Form}
 use Rattle.lines.specs.declared.Form.TheVariants.{Old, New}
 use Rattle.frames.specs.declared.Progress.{Progress}
-use Rattle.frames.specs.declared.FileRead.{FileRead}
-use Rattle.frames.specs.Reading.{is_shared, Lists, both, Reading, no_words, no_later, run_reading, run_file, file_read, words_read, later_read}
+use Rattle.frames.specs.declared.Refusal.{Refusal}
+use Rattle.frames.specs.Reading.{FileRead, is_shared, Lists, both, Reading, no_words, no_later, run_reading, run_file, file_read, words_read, later_read}
+use Rattle.frames.specs.Causes.{number, answer}
 use Rattle.frames.proofs.Accepted.{run_accepted}
 use Rattle.frames.proofs.FileLaws.{run_file_lem, words_read_lem, later_read_lem}
 use Rattle.text.specs.Digits.{hex_byte, hex_pair}
-use Rattle.text.specs.Texts.{joined}
+use Rattle.text.specs.Texts.{joined, written_of, put_into}
 use Rattle.text.proofs.Laws.{room_for}
-use Rattle.output.specs.OnFile.{refusal_line}
-use Rattle.output.proofs.Laws.{refused_is, answered_is}
+use Rattle.output.specs.declared.Written.{Written}
+use Rattle.output.specs.OnFile.{refusal_line, on_line, answer_on}
+use Rattle.output.proofs.Laws.{put_accepted, put_refused}
 use Rattle.run_output.specs.Site.{notice_text, terminal_line, good_line, state_line, site_lines, script_read, office_read, state_shared, state_linked, state_ran, ran_text, ran_on, run_text, SharedPlayable, Playable}
 
 -- ---- each line has 13 bytes, 17 in the new form
@@ -218,7 +219,7 @@ module _ (file : List ℕ) (read : FileRead) (words later : List ℕ) (e : read 
     later_are : later ≡ (run_reading file).said.later
     later_are = l ∙ ap (λ (r : Reading). later_read r no_later) same_file ∙ sym (later_read_lem (run_reading file) no_later read_number)
 
-    said_is : both words later ≡ (run_reading file).said
+    pub said_is : both words later ≡ (run_reading file).said
     said_is = (λ i. both (words_are i) (later_are i))
 
     pub read_playable : is_shared read.progress ≡ false → Playable read.progress later
@@ -229,20 +230,15 @@ module _ (file : List ℕ) (read : FileRead) (words later : List ℕ) (e : read 
     pub read_shared_playable : is_shared read.progress ≡ true → SharedPlayable read.progress
     read_shared_playable = subst (λ (r : FileRead). is_shared r.progress ≡ true → SharedPlayable r.progress) (sym read_is) (run_shared_playable file read_number)
 
-  -- a refused file's lists are not looked at
-  pub ran_is : ran_on read (both words later) ≡ run_text file
-  unfolding ran_on run_text
-  ran_is =
-      ⊎_elim (λ z. ap₂ ran_on read_is (said_is z))
-      (λ n. refused_is read _ n ∙ ap (λ (r : FileRead). refusal_line r.number r.line) read_is ∙ sym (refused_is (file_read (run_reading file)) _ (λ z. n (ap (λ (r : FileRead). r.number) read_is ∙ z))))
-      (equal_or_not read.number 0)
+-- ---- what is put of a run file, where it is accepted and where it is refused: a refused file's lists are not looked at
 
--- the lines on a file that was read so
-module _ (read : FileRead) (said : Lists) (t : List ℕ) where
-  pub run_refused : (read.number ≡ 0 → ⊥) → t ≡ refusal_line read.number read.line → t ≡ ran_on read said
-  unfolding ran_on
-  run_refused n a = a ∙ sym (refused_is read (ran_text read.progress said) n)
+module _ (file : List ℕ) {w : Written} {last : List ℕ} (out : List ℕ) where
+  pub put_ran : (p : Progress) (said : Lists) (t : List ℕ) → answer (Ok p) ≡ file_read (run_reading file) → said ≡ (run_reading file).said → t ≡ ran_text p said
+      → w ≡ on_line 0 (written_of 0 (length t) (length out)) → last ≡ put_into t out → (w ≡ answer_on (file_read (run_reading file)) (run_text file) (length out)) × (last ≡ put_into (run_text file) out)
+  unfolding run_text ran_on
+  put_ran p said t e s a = put_accepted w last out (file_read (run_reading file)) (λ (x : Progress). ran_text x (run_reading file).said) p t e (a ∙ ap (ran_text p) s)
 
-  pub run_told : read.number ≡ 0 → t ≡ ran_text read.progress said → t ≡ ran_on read said
-  unfolding ran_on
-  run_told z a = a ∙ sym (answered_is read _ z)
+  pub put_refusal : (e : Refusal) → answer (Err e) ≡ file_read (run_reading file) → w ≡ answer_on (answer (Err e)) (refusal_line (number e.cause) e.line) (length out)
+      → last ≡ put_into (refusal_line (number e.cause) e.line) out → (w ≡ answer_on (file_read (run_reading file)) (run_text file) (length out)) × (last ≡ put_into (run_text file) out)
+  unfolding run_text ran_on
+  put_refusal = put_refused w last out (file_read (run_reading file)) (λ (x : Progress). ran_text x (run_reading file).said)

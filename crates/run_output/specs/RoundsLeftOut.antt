@@ -1,10 +1,9 @@
 -- The claim about a start without its rounds byte (document 02, P2), of what `run` prints on files without a later notice: an overtaken notice may never
 -- finish (document 02, P8). Assumes nothing.
-use Rattle.std.specs.Prelude.{ℕ, ◌-◌, ◌≡◌, Bool, true, not, List, [], ◌∷◌, eqb}
+use Rattle.std.specs.Prelude.{ℕ, ◌-◌, ◌≡◌, Bool, true, not, None, List, [], ◌∷◌, eqb}
 use Rattle.sets.specs.Tests.{◌and◌}
 use Rattle.closure.specs.Verdict.{verdict}
 use Rattle.lines.specs.declared.Form.{Form}
-use Rattle.lines.specs.declared.Rounds.TheVariants.{Left}
 use Rattle.lines.specs.declared.Frame.TheVariants.{Start}
 use Rattle.lines.specs.Bytes.{byte_at}
 use Rattle.frames.specs.Lines.{Line, ended, cut, lines_from}
@@ -14,7 +13,7 @@ use Rattle.frames.specs.Tells.{Tells, NoLater}
 -- an accepted file whose start has no rounds byte
 abbrev pub LeavesRoundsOut : (file : List ℕ) → Type 0
 LeavesRoundsOut file =
-    ((run_reading file).number ≡ 0) × ((form : Form) × (edition : ℕ) × (layout : ℕ) × Tells run_kinds (Start form edition layout Left) (lines_from [] file))
+    ((run_reading file).number ≡ 0) × ((form : Form) × (edition : ℕ) × (layout : ℕ) × Tells run_kinds (Start form edition layout None) (lines_from [] file))
 
 -- the state that a line of the output says, 00 for waiting: its third byte, after the kind and the terminal's number
 unfoldable pub state_said : Line → ℕ

@@ -14,8 +14,7 @@ use Rattle.text.specs.Digits.{hex_byte, hex_pair}
 use Rattle.lines.specs.declared.Form.{Form}
 use Rattle.lines.specs.declared.Form.TheVariants.{Old, New}
 use Rattle.frames.specs.declared.Progress.{Progress}
-use Rattle.frames.specs.declared.FileRead.{FileRead}
-use Rattle.frames.specs.Reading.{is_shared, Lists, run_reading, file_read}
+use Rattle.frames.specs.Reading.{FileRead, is_shared, Lists, run_reading, file_read}
 use Rattle.output.specs.OnFile.{text_on}
 
 -- a notice as it is printed: in the old form its layout alone, in the new one its edition and its layout (document 02, P8)

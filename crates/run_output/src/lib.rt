@@ -8,12 +8,13 @@ ghost use Rattle.simulation.specs.Answer.{state_of};
 ghost use Rattle.text.specs.Texts.{held, joined, put_into};
 ghost use Rattle.frames.specs.Reading.{is_shared, both, run_reading, file_read};
 ghost use Rattle.output.specs.OnFile.{answer_on};
-ghost use Rattle.run_output.specs.Site.{notice_text, terminal_line, good_line, state_line, site_lines, state_shared, state_linked, ran_text, ran_on, run_text, SharedPlayable, Playable};
+ghost use Rattle.run_output.specs.Site.{notice_text, terminal_line, good_line, state_line, site_lines, state_shared, state_linked, ran_text, run_text, SharedPlayable, Playable};
 ghost use Rattle.run_output.specs.RoundsLeftOut.{RoundsLeftOut};
 
-use frames::{FileRead, Progress};
+use frames::Progress;
 use lines::Form;
 use output::Written;
+use std::array;
 use terminal::{Record, State};
 use text::Text;
 
@@ -62,12 +63,9 @@ fn of_site(form: Form, n: usize, faulty: u32, records: [Record; 20]) -> Text
     ensures { held result ≡ site_lines form n faulty (state_of records) }
 {
     let mut t = text::empty();
-    let mut b = 0;
-    while b < n {
-        let r = records[b];
-        let state = r.state;
-        t = with_terminal(t, form, b as u8, sets::member(faulty, b), state);
-        b += 1;
+    for b in 0..n {
+        let bad = sets::member(faulty, b);
+        t = with_terminal(t, form, b as u8, bad, records[b].state);
     }
     t
 }
@@ -77,13 +75,7 @@ fn layouts(words: &[u32]) -> [u16; 800]
     requires { length words.now ≡ 16000 }
     ensures { result ≡ table 800 (λ i. layout_of (get_or words.now i 0)) }
 {
-    let mut list = [0u16; 800];
-    let mut i = 0;
-    while i < 800 {
-        list[i] = quorum::layout_of(words[i]);
-        i += 1;
-    }
-    list
+    array::from_fn(|i| quorum::layout_of(words[i]))
 }
 
 // The lines of the run on a shared channel.
@@ -91,21 +83,17 @@ fn ran_shared(p: Progress, words: &[u32]) -> Text
     requires { SharedPlayable p × (length words.now ≡ 16000) }
     ensures { held result ≡ site_lines p.form p.plan.n p.faulty (state_shared p words.now) }
 {
-    let plan = p.plan;
-    let n = plan.n;
-    let end = (p.rounds as usize) * n;
+    let end = (p.rounds as usize) * p.plan.n;
     let list = layouts(words);
     let ran = simulation::run_shared_site(
-        plan,
+        p.plan,
         p.faulty,
         quorum::layout_of(p.notice),
         p.default,
         p.rounds,
         &list[..end],
     );
-    let records = ran.records;
-    let form = p.form;
-    of_site(form, n, p.faulty, records)
+    of_site(p.form, p.plan.n, p.faulty, ran.records)
 }
 
 // The lines of the run with a word for each hearer.
@@ -113,21 +101,17 @@ fn ran_linked(p: Progress, words: &[u32], later: &[u32]) -> Text
     requires { Playable p later.now × (length words.now ≡ 16000) × (length later.now ≡ 40) }
     ensures { held result ≡ site_lines p.form p.plan.n p.faulty (state_linked p (both words.now later.now)) }
 {
-    let plan = p.plan;
-    let n = plan.n;
     let rounds = p.rounds as usize;
-    let end = rounds * (n * n);
+    let end = rounds * (p.plan.n * p.plan.n);
     let ran = simulation::run_site(
-        plan,
+        p.plan,
         p.faulty,
         p.notice,
         &later[..rounds],
         p.rounds,
         &words[..end],
     );
-    let records = ran.records;
-    let form = p.form;
-    of_site(form, n, p.faulty, records)
+    of_site(p.form, p.plan.n, p.faulty, ran.records)
 }
 
 // The lines of the run that was asked for.
@@ -141,18 +125,6 @@ fn ran(p: Progress, words: &[u32], later: &[u32]) -> Text
     ran_linked(p, words, later)
 }
 
-// The lines on a run file.
-fn of_run(read: FileRead, words: &[u32], later: &[u32]) -> Text
-    requires { (read.number ≡ 0 → is_shared read.progress ≡ true → SharedPlayable read.progress) × (read.number ≡ 0 → is_shared read.progress ≡ false → Playable read.progress later.now) × (length words.now ≡ 16000) × (length later.now ≡ 40) }
-    ensures { held result ≡ ran_on read (both words.now later.now) }
-{
-    if read.number != 0 {
-        return output::refusal(read.number, read.line);
-    }
-    let p = read.progress;
-    ran(p, words, later)
-}
-
 // What `run` prints on a run file, into the lent buffer.
 pub fn run_text(text: &[u8], out: &mut [u8]) -> Written
     ensures value { result ≡ answer_on (file_read (run_reading text.now)) (run_text text.now) (length out.old) }
@@ -161,6 +133,8 @@ pub fn run_text(text: &[u8], out: &mut [u8]) -> Written
 {
     let mut words = [0u32; 16000];
     let mut later = [0u32; 40];
-    let read = frames::read_run(text, &mut words, &mut later);
-    output::put(read, of_run(read, &words, &later), out)
+    match frames::read_run(text, &mut words, &mut later) {
+        Ok(p) => output::put(ran(p, &words, &later), out),
+        Err(e) => output::refused(e, out),
+    }
 }

@@ -1,12 +1,15 @@
 -- A file of n and a sentence: its first line, its second line, and what is told of it. Assumes nothing.
 use Prim.Native.Nat.{ℕ, zero, suc, ◌+◌, ◌-◌, ◌/◌, ◌%◌, ◌≤◌, ◌<◌}
 use mathlib.Core.Path.{◌≡◌, refl, sym, ap, ap₂, ◌∙◌}
-use mathlib.Core.Bool.{Bool, true, false}
+use mathlib.Core.Bool.{Bool, true, false, ◌&&◌}
 use mathlib.Core.List.{List, [], ◌∷◌, ◌++◌}
 use native.Mathlib.Omega.{arith}
 use lib.Dec.{eqb, ltb}
-use lib.ListN.{length, get_or, take, drop, length-append, length-take, length-drop}
-use lib.Seq.{take_all}
+use Rattle.std.specs.Prelude.{Some, None, Result, Ok, Err}
+use Rattle.std.specs.Result.{IsErrAnd}
+use lib.ListN.{length, get_or, take, drop, drop_of_length-le, length-append, length-take, length-drop}
+use lib.Pointwise.{pointwise}
+use lib.Seq.{take_all, drop-cons}
 use borrow.Author.Tests.{eq-eqb, ne_eqb, lt-ltb, le-ltb}
 use Rattle.sets.specs.Tests.{◌and◌, ◌or◌, pick}
 use Rattle.sets.proofs.Bools.{and_i, and_r, and_no_r, or_l, or_r, or_no, pick_yes, pick_no, pick_case}
@@ -16,13 +19,21 @@ use Rattle.text.specs.Texts.{joined, written_of, put_into}
 use Rattle.text.specs.Phrases.{begins}
 use Rattle.text.proofs.Laws.{then, whole, decimal_one, decimal_two, decimal_short}
 use Rattle.text.proofs.Phrases.{same_is}
+use Rattle.wording.specs.declared.Sets.{Sets}
+use Rattle.wording.specs.declared.HeardError.{HeardError}
+use Rattle.wording.specs.declared.HeardError.TheVariants as heard
 use Rattle.wording.specs.Sentence.{terminals_in_range}
-use Rattle.wording.specs.Heard.{Told, refused, heard_of}
+use Rattle.wording.specs.Heard.{Told, refused, told, heard_of}
 use Rattle.wording.proofs.Causes.{range_right}
 use Rattle.wording.proofs.Telling.{heard_small}
 use Rattle.frames.specs.Reading.{most_bytes}
 use Rattle.output.specs.declared.Written.{Written}
-use Rattle.output.specs.OnFile.{on_line}
+use Rattle.output.specs.OnFile.{refusal_line, on_line}
+use Rattle.verdict_output.specs.Verdict.{verdict_line}
+use Rattle.verdict_output.proofs.LineLaws.{low_sets}
+use Rattle.sentence_output.specs.declared.entry.EntryError.{EntryError}
+use Rattle.sentence_output.specs.declared.entry.EntryError.TheVariants.{WrongFile, WrongRange, OtherText}
+use Rattle.sentence_output.specs.Entered.{number_of, entered_instead, entry, numbered}
 use Rattle.sentence_output.specs.Heard.{number_line, terminals_below, terminals_in, line_ends, heard_on, heard_in, line_of, heard_answer, heard_text}
 
 -- ---- the first line
@@ -45,6 +56,18 @@ one_length n h = ap length (one_digit n h)
 pub two_length : (n : ℕ) → 10 ≤ n → n < 100 → length (number_line n) ≡ 3
 two_length n h k = ap length (two_digits n h k)
 
+pub some_numbered : (m t : ℕ) → 2 ≤ m → m ≡ t → Some m ≡ numbered t
+some_numbered zero t a e = absurd (omega arith)
+some_numbered (suc m) t a e = ap numbered e
+
+pub numbered_none : (t : ℕ) → None ≡ numbered t → t ≡ 0
+numbered_none zero e = refl
+numbered_none (suc t) e = cc
+
+pub numbered_some : (n t : ℕ) → Some n ≡ numbered t → (n ≡ t) × (t ≡ 0 → ⊥)
+numbered_some n zero e = cc
+numbered_some n (suc t) e = (cc, λ z. omega arith)
+
 module _ (file : List ℕ) where
   pub terminals_start : 0 ≡ terminals_below 2 file
   unfolding terminals_below terminals_in_range ◌and◌ pick
@@ -56,11 +79,10 @@ module _ (file : List ℕ) where
   terminals_yes n line is a b e q y =
       sym (pick_yes _ _ _ (and_i _ _ (range_right n a (omega arith)) (ap (λ (l : List ℕ). begins l file) (sym e) ∙ sym q ∙ y)))
 
-  pub terminals_no : (n before : ℕ) (line : List ℕ) (is : Bool) → line ≡ number_line n → is ≡ begins line file → is ≡ false → before ≡ terminals_below n file
-      → before ≡ terminals_below (suc n) file
+  pub terminals_no : (n : ℕ) (line : List ℕ) (is : Bool) → line ≡ number_line n → is ≡ begins line file → is ≡ false
+      → terminals_below n file ≡ terminals_below (suc n) file
   unfolding terminals_below
-  terminals_no n before line is e q y p =
-      p ∙ sym (pick_no _ _ _ (and_no_r _ _ (ap (λ (l : List ℕ). begins l file) (sym e) ∙ sym q ∙ y)))
+  terminals_no n line is e q y = sym (pick_no _ _ _ (and_no_r _ _ (ap (λ (l : List ℕ). begins l file) (sym e) ∙ sym q ∙ y)))
 
   begins_fits : (line : List ℕ) → begins line file ≡ true → length line ≤ length file
   unfolding begins
@@ -80,23 +102,33 @@ module _ (file : List ℕ) where
 
 -- ---- the second line
 
+-- the last byte, as the library's test of the end sees it
+and_true : (a : Bool) → (a && true) ≡ a
+and_true true = refl
+and_true false = refl
+
+pub last_is : (bytes : List ℕ) → pointwise eqb (drop (length bytes - 1) bytes) (10 ∷ []) ≡ line_ends bytes
+unfolding line_ends
+last_is [] = refl
+last_is (b ∷ rest) =
+    let bytes : List ℕ = b ∷ rest in
+    let m : ℕ = length bytes - 1 in
+    let e : drop m bytes ≡ get_or bytes m 0 ∷ [] =
+    drop-cons bytes m 0 (omega arith) ∙ ap (λ (l : List ℕ). get_or bytes m 0 ∷ l) (drop_of_length-le bytes {i = suc m} (omega arith)) in
+    ap (λ (l : List ℕ). pointwise eqb l (10 ∷ [])) e ∙ and_true (eqb (get_or bytes m 0) 10)
+
 -- a part up to the end is all of the rest
 pub rest_is : (k : ℕ) (file : List ℕ) → take (length file - k) (drop k file) ≡ drop k file
 rest_is k file = take_all (length file - k) (drop k file) (omega (arith, length-drop k file))
 
-pub on_empty : (n : ℕ) (bytes : List ℕ) → length bytes ≡ 0 → refused 2 ≡ heard_on n bytes
-unfolding heard_on line_ends
-on_empty n [] e = sym (pick_no _ _ _ refl)
-on_empty n (b ∷ bytes) e = absurd (omega arith)
-
 module _ (n : ℕ) (bytes : List ℕ) where
-  pub on_line_lem : get_or bytes (length bytes - 1) 0 ≡ 10 → heard_of n (take (length bytes - 1) bytes) ≡ heard_on n bytes
-  unfolding heard_on line_ends
-  on_line_lem h = sym (pick_yes _ _ _ (eq-eqb (get_or bytes (length bytes - 1) 0) 10 h))
+  pub on_line_lem : line_ends bytes ≡ true → heard_of n (take (length bytes - 1) bytes) ≡ heard_on n bytes
+  unfolding heard_on
+  on_line_lem h = sym (pick_yes _ _ _ h)
 
-  pub on_other : (get_or bytes (length bytes - 1) 0 ≡ 10 → ⊥) → refused 2 ≡ heard_on n bytes
-  unfolding heard_on line_ends
-  on_other h = sym (pick_no _ _ _ (ne_eqb (get_or bytes (length bytes - 1) 0) 10 h))
+  pub on_other : line_ends bytes ≡ false → refused 2 ≡ heard_on n bytes
+  unfolding heard_on
+  on_other h = sym (pick_no _ _ _ h)
 
 -- ---- the file
 
@@ -121,6 +153,14 @@ module _ (file : List ℕ) where
     unfolding heard_in
     in_some h = sym (pick_no _ _ _ sized ∙ pick_no _ _ _ (ne_eqb (terminals_in file) 0 h))
 
+    -- after the line of n, of so many bytes
+    pub in_rest : (n len : ℕ) → Some n ≡ numbered (terminals_in file) → len ≡ length (number_line n) → heard_on n (take (length file - len) (drop len file)) ≡ heard_in file
+    in_rest n len e l =
+        let s = numbered_some n (terminals_in file) e in
+        ap (heard_on n) (rest_is len file)
+        ∙ ap₂ (λ (k m : ℕ). heard_on k (drop m file)) s.0 (l ∙ ap (λ (k : ℕ). length (number_line k)) s.0)
+        ∙ in_some s.1
+
 abbrev Small : Told → Type 0
 Small t = (t.f < 16777216) × (t.l < 16777216) × (t.r < 16777216)
 
@@ -131,6 +171,33 @@ in_small file =
     (λ y.
     pick_case Small (eqb (terminals_in file) 0) _ _ (λ z. (omega arith, omega arith, omega arith))
     (λ z. pick_case Small (line_ends (drop (length (number_line (terminals_in file))) file)) _ _ (λ w. heard_small (terminals_in file) _) (λ w. (omega arith, omega arith, omega arith))))
+
+-- ---- the line that is printed
+
+pub answer_sets : (f l r : ℕ) {last : List ℕ} → (f < 16777216) × (l < 16777216) × (r < 16777216)
+    → last ≡ verdict_line 1 (f % 16777216) (l % 16777216) (r % 16777216) → last ≡ heard_answer (record { number = 0; f = f; l = l; r = r })
+unfolding heard_answer
+answer_sets f l r s a = a ∙ low_sets 1 f l r s ∙ sym (pick_yes _ _ _ refl)
+
+some_number : (e : EntryError) → number_of e ≡ 0 → ⊥
+some_number WrongFile z = omega arith
+some_number WrongRange z = omega arith
+some_number OtherText z = omega arith
+
+pub answer_refused : (e : EntryError) {number line : ℕ} {last : List ℕ} → number ≡ number_of e → line ≡ line_of (number_of e) → last ≡ refusal_line number line
+    → last ≡ heard_answer (refused (number_of e))
+unfolding heard_answer
+answer_refused e a b q = q ∙ ap₂ refusal_line a b ∙ sym (pick_no _ _ _ (ne_eqb (number_of e) 0 (some_number e)))
+
+pub accepted_line : 0 ≡ line_of 0
+unfolding line_of pick
+accepted_line = refl
+
+-- a refusal of the reader
+pub entered_as : (h : HeardError) (r : Result Sets EntryError) → IsErrAnd r (λ e. e ≡ entered_instead h) → entry r ≡ told (Err h)
+entered_as h (Ok s) i = absurd i
+entered_as heard.WrongRange (Err e) i = ap (λ (x : EntryError). refused (number_of x)) i
+entered_as heard.OtherText (Err e) i = ap (λ (x : EntryError). refused (number_of x)) i
 
 -- ---- what is put
 

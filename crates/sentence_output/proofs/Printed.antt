@@ -27,7 +27,7 @@ use Rattle.frames.proofs.Accepted.{reading_whole}
 use Rattle.output.proofs.Laws.{refused_is, answered_is}
 use Rattle.verdict_output.specs.Verdict.{verdict_line, answer_text, verdict_on, verdict_text}
 use Rattle.sentence_output.specs.Sentence.{pass_line, fail_line, sentence_answer, sentence_on, sentence_text}
-use Rattle.sentence_output.specs.Heard.{number_line, terminals_below, terminals_in, heard_on, heard_answer, heard_text}
+use Rattle.sentence_output.specs.Heard.{number_line, terminals_below, terminals_in, line_ends, heard_on, heard_answer, heard_text}
 use Rattle.sentence_output.specs.Printed.{plan_of, verdict_of, SentencePrinted}
 use Rattle.sentence_output.proofs.Answers.{answer_composes}
 use Rattle.sentence_output.proofs.Entries.{one_digit, two_digits, one_length, two_length, on_line_lem, in_some}
@@ -88,10 +88,11 @@ range_two : (n : ℕ) → terminals_in_range n ≡ true → 2 ≤ n
 unfolding terminals_in_range
 range_two n h = leb-true 2 n (and_l _ _ h)
 
-last_is : (xs : List ℕ) → get_or (xs ++ (10 ∷ [])) (length (xs ++ (10 ∷ [])) - 1) 0 ≡ 10
-last_is xs =
+ends : (xs : List ℕ) → line_ends (xs ++ (10 ∷ [])) ≡ true
+unfolding line_ends
+ends xs =
     let k : length (xs ++ (10 ∷ [])) - 1 ≡ length xs + 0 = omega (arith, length-append xs (10 ∷ [])) in
-    ap (λ (i : ℕ). get_or (xs ++ (10 ∷ [])) i 0) k ∙ get_or-append-add xs (10 ∷ []) 0 0
+    eq-eqb (get_or (xs ++ (10 ∷ [])) (length (xs ++ (10 ∷ [])) - 1) 0) 10 (ap (λ (i : ℕ). get_or (xs ++ (10 ∷ [])) i 0) k ∙ get_or-append-add xs (10 ∷ []) 0 0)
 
 all_but_last : (xs : List ℕ) → take (length (xs ++ (10 ∷ [])) - 1) (xs ++ (10 ∷ [])) ≡ xs
 all_but_last xs =
@@ -102,7 +103,7 @@ module _ (n f l r : ℕ) (c : sentence_cause n f l r ≡ 0) where
   line_heard : heard_on n (fail_line n f r) ≡ record { number = 0; f = f; l = l; r = r }
   unfolding fail_line
   line_heard =
-      sym (on_line_lem n (sentence n f r ++ (10 ∷ [])) (last_is (sentence n f r)))
+      sym (on_line_lem n (sentence n f r ++ (10 ∷ [])) (ends (sentence n f r)))
       ∙ ap (heard_of n) (all_but_last (sentence n f r))
       ∙ (telling n).back f l r c
 

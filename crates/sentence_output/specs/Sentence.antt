@@ -5,8 +5,7 @@ use Rattle.quorum.specs.Quorum.{most_terminals}
 use Rattle.closure.specs.Answer.{Answer, answer_within}
 use Rattle.text.specs.Phrases.{phrase}
 use Rattle.wording.specs.Sentence as wording
-use Rattle.frames.specs.declared.FileRead.{FileRead}
-use Rattle.frames.specs.Reading.{plan_reading, file_read}
+use Rattle.frames.specs.Reading.{FileRead, plan_reading, file_read}
 use Rattle.output.specs.OnFile.{refusal_line, text_on}
 
 -- the sentence of a fail, and a line end

@@ -2,6 +2,7 @@
 pub mod Bools
 pub mod Causes
 pub mod Tables
+pub mod Filled
 pub mod Digits
 pub mod Laws
 pub mod Masks

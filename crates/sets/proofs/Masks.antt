@@ -99,6 +99,10 @@ pub byte_le : (b : Bool) → bool_byte b ≤ 1
 byte_le true = omega arith
 byte_le false = omega arith
 
+-- no more than 32 terminals are looked at: of a plan's, all
+pub mask_few : (n : ℕ) (P : ℕ → Bool) → n ≤ 20 → mask (min n 32) P ≡ mask n P
+mask_few n P h = let e : min n 32 ≡ n = omega arith in ap (λ (k : ℕ). mask k P) e
+
 -- a mask cut down to a set
 pub mask_and : (n : ℕ) (P : ℕ → Bool) (s : ℕ) → bit_and (mask n P) s ≡ mask n (λ j. P j and mem j s)
 mask_and n P s =

@@ -2,8 +2,8 @@
 // a terminal from 32 up is in no set.
 #![tactic(auto)]
 
-ghost use Rattle.std.specs.Prelude.{◌≡◌, min};
-ghost use Rattle.sets.specs.Sets.{mem, within, singleton, with, without, outside, is_partition};
+ghost use Rattle.std.specs.Prelude.{◌≡◌, ℕ, Bool, ◌<◌, min};
+ghost use Rattle.sets.specs.Sets.{mem, mask, within, singleton, with, without, outside, is_partition};
 
 pub fn member(s: u32, i: usize) -> bool
     ensures { result ≡ mem i s }
@@ -53,6 +53,20 @@ pub fn outside(n: usize, a: u32, b: u32) -> u32
         return ((1u32 << n) - 1) & !(a | b);
     }
     !(a | b)
+}
+
+// The terminals below n that pass the test, up to 32 of them. No terminal is passed over by a branch, so that the
+// compiler can look at several at once.
+pub fn those<F: Fn(usize) -> bool>(n: usize, test: F) -> u32
+    requires { (j : ℕ) → j < n → F.pre test j }
+    ensures { (P : ℕ → Bool) → ((j : ℕ) (b : Bool) → j < min n 32 → F.post test j b → b ≡ P j) → result ≡ mask (min n 32) P }
+{
+    let mut found: u32 = 0;
+    for j in 0..n.min(32) {
+        let one = test(j) as u32;
+        found = found | (one << j);
+    }
+    found
 }
 
 // Each terminal below n is in one of three sets, and nobody else is.

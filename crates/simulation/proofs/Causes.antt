@@ -5,40 +5,53 @@ use mathlib.Core.Logic.{⊎_elim}
 use mathlib.Core.Bool.{true, false}
 use mathlib.Core.List.{List, [], ◌∷◌}
 use native.Mathlib.Omega.{arith}
-use types.Run.{OneOf, miss}
-use denote.Enum.Declared.{tag_of}
 use lib.Dec.{eqb}
 use lib.ListN.{length}
 use borrow.Author.Tests.{eqb-true, eqb-false, eq-eqb, ne_eqb}
 use Rattle.sets.proofs.Bools.{and_l, and_r, and_i, not_i, not_e, not_yes, not_no, pick_yes, pick_no}
+use Rattle.std.specs.Prelude.{Result, Ok, Err}
+use Rattle.std.specs.Result.{IsErrAnd}
+use Rattle.std.proofs.lemmas.Result.{err_from_is_err_and}
 use Rattle.sets.specs.Causes.{first_cause, given}
 use Rattle.sets.proofs.Laws.{equal_or_not}
 use Rattle.sets.proofs.Causes.{cause_here, cause_later, cause_last, cause_none, given_passes, given_decides, given_none}
 use Rattle.plan.specs.declared.Plan.{Plan}
 use Rattle.plan.specs.Plan.{cause_of}
 use Rattle.closure.specs.FaultSet.{is_fault_set}
-use Rattle.faults.specs.Check.{fault_cause_of}
+use Rattle.faults.specs.declared.FaultSetError.{FaultSetError}
+use Rattle.faults.specs.Check.{fault_number_of, fault_cause_of}
 use Rattle.faults.proofs.Laws.{fault_sound}
-use Rattle.simulation.specs.declared.Outcome.{Outcome}
-use Rattle.simulation.specs.declared.Outcome.TheVariants.{Played, WrongRange, WrongLink, WrongGroups, WrongMember, OverBound, WrongStart, WrongEdition, WrongLength}
+use Rattle.simulation.specs.declared.RunError.{RunError}
+use Rattle.simulation.specs.declared.RunError.TheVariants.{WrongRange, WrongLink, WrongGroups, WrongMember, OverBound, WrongStart, WrongEdition, WrongLength}
 use Rattle.simulation.specs.Answer.{number_of, office_sound, lists_fit, given_cause, run_cause, turns_of}
 use Rattle.quorum.specs.Notice.{edition_of, layout_of, silent, rising}
 use Rattle.quorum.proofs.Notices.{said_i}
 use Rattle.quorum.specs.Words.{start_sound}
 use Rattle.quorum.proofs.Words.{start_parts}
-use Rattle.simulation.specs.contracts.Outcome.{the_type}
 
--- an outcome other than Played has a number that is not 0
-pub not_played : (o : Outcome) → (o ≡ Played → ⊥) → eqb (number_of o) 0 ≡ false
-not_played Played h = absurd (h refl)
-not_played WrongRange h = refl
-not_played WrongLink h = refl
-not_played WrongGroups h = refl
-not_played WrongMember h = refl
-not_played OverBound h = refl
-not_played WrongStart h = refl
-not_played WrongEdition h = refl
-not_played WrongLength h = refl
+-- what refuses has a number that is not 0
+pub refuses : (e : RunError) → eqb (number_of (Err e)) 0 ≡ false
+refuses WrongRange = refl
+refuses WrongLink = refl
+refuses WrongGroups = refl
+refuses WrongMember = refl
+refuses OverBound = refl
+refuses WrongStart = refl
+refuses WrongEdition = refl
+refuses WrongLength = refl
+
+-- an outcome other than `Ok` has a number that is not 0
+pub not_played : (o : Result Unit RunError) → (o ≡ Ok tt → ⊥) → eqb (number_of o) 0 ≡ false
+not_played (Ok u) h = absurd (h refl)
+not_played (Err e) h = refuses e
+
+pub refused_by : (e : RunError) (k : ℕ) → number_of (Err e) ≡ k → eqb k 0 ≡ false
+refused_by e k h = ap (λ (x : ℕ). eqb x 0) (sym h) ∙ refuses e
+
+-- what refuses the fault set, handed on
+pub fault_refuses : (e : FaultSetError) (r : Result Unit RunError) → IsErrAnd r (λ x. number_of (Err x) ≡ fault_number_of (Err e))
+    → (number_of r ≡ fault_number_of (Err e)) × (eqb (number_of r) 0 ≡ false)
+fault_refuses e r h = let k = err_from_is_err_and r h in (ap number_of k.1 ∙ k.2, rw k.1 (refuses k.0))
 
 pub fits : (p : Plan) (rounds words issues places : ℕ) → words ≡ rounds * (p.n * p.n) → issues ≡ rounds → places ≡ p.n → lists_fit p rounds words issues places ≡ true
 unfolding lists_fit
@@ -75,9 +88,13 @@ module _ (p : Plan) (faulty first : ℕ) (later : List ℕ) (rounds words places
       row_is : (k : ℕ) → first_cause (given k ∷ []) ≡ k
       row_is k = ⊎_elim (λ z. cause_last _ k (not_yes (eq-eqb k 0 z)) ∙ sym z) (λ n. cause_here _ k _ (not_i (ne_eqb k 0 n))) (equal_or_not k 0)
 
-  pub cause_fault : (k : ℕ) → k ≡ fault_cause_of p faulty → eqb k 0 ≡ false → k ≡ cause
+  pub cause_fault : (e : FaultSetError) (r : Result Unit RunError) → IsErrAnd r (λ x. number_of (Err x) ≡ fault_number_of (Err e))
+      → fault_number_of (Err e) ≡ fault_cause_of p faulty → number_of r ≡ cause
   unfolding run_cause
-  cause_fault k e z = e ∙ sym (given_decides (fault_cause_of p faulty) _ (λ y. eqb-false k 0 z (e ∙ y)))
+  cause_fault e r h f =
+      let k = fault_refuses e r h in
+      let same = k.0 ∙ f in
+      same ∙ sym (given_decides (fault_cause_of p faulty) _ (λ y. eqb-false (number_of r) 0 k.1 (same ∙ y)))
 
   pub turns_played : cause ≡ 0 → (rounds + 1) * p.n ≡ turns_of p faulty first later rounds words places
   unfolding turns_of

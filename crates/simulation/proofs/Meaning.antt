@@ -35,7 +35,7 @@ use Rattle.propagation.proofs.Steps.{step_round, source_stays}
 use Rattle.propagation.proofs.Safety.{Safe, safe, source_taken, not_both}
 use Rattle.simulation.specs.declared.Turn.{Turn}
 use Rattle.simulation.proofs.Walk.{At, placed_on, walk_list, walk_twenty}
-use Rattle.simulation.specs.Turns.{heard_in, issued_in, record_of, Played, played_after, first_turn, Ready}
+use Rattle.simulation.specs.Turns.{heard_where, heard_in, issued_in, record_of, Played, played_after, first_turn, Ready}
 
 module _ (p : Plan) (checked : plan.cause_of p ≡ 0) (faulty first : ℕ) (later words : List ℕ) (up : Rising (office_of first later))
     (fault : is_fault_set p faulty ≡ true) where
@@ -84,7 +84,7 @@ module _ (p : Plan) (checked : plan.cause_of p ≡ 0) (faulty first : ℕ) (late
   heard_is : (t : Turn) (q b : ℕ) → t.plan ≡ p → t.faulty ≡ faulty → t.round ≡ suc q → t.at ≡ b → b < p.n
       → ((j : ℕ) → j < p.n → get_or t.spoken j 0 ≡ says_in (suc q) (here q j).state)
       → (j : ℕ) → get_or (take p.n (table 20 (heard_in t words))) j 0 ≡ word p faulty office script q b j
-  unfolding heard_in heard_from site
+  unfolding heard_in heard_where heard_from site
   heard_is t q b e f r a k spoken j =
       ⊎_elim
       (λ l.

@@ -1,10 +1,10 @@
 -- Demand 3 of the run's own records, from the theory. Assumes nothing.
-use Prim.Native.Nat.{ℕ, zero, suc, ◌*◌, ◌-◌, ◌≤◌, ◌<◌}
+use Prim.Native.Nat.{ℕ, zero, suc, ◌+◌, ◌*◌, ◌-◌, ◌≤◌, ◌<◌}
 use mathlib.Core.Path.{◌≡◌, refl, sym, ap, ◌∙◌, subst}
 use mathlib.Core.Bool.{true, false}
 use mathlib.Core.List.{List, map}
 use mathlib.Core.Logic.{⊎_elim}
-use native.Mathlib.Nat.{not-suc-le-zero, eq-or-lt_of_le, le_of_suc-le-suc}
+use native.Mathlib.Nat.{eq-or-lt_of_le, le_of_suc-le-suc}
 use native.Mathlib.Numerals.{add-one}
 use native.Mathlib.Omega.{arith}
 use lib.Dec.{eqb}
@@ -83,59 +83,67 @@ promised p faulty first later rounds words places records a same = record {
 
 -- ---- the turns of a run on a list that has a place for each terminal where the run is accepted
 
-module _ (p : Plan) (faulty first : ℕ) (later : List ℕ) (rounds : ℕ) (words : List ℕ) (places : ℕ) (ys : List Record)
-    (room : run_cause p faulty first later rounds (length words) places ≡ 0 → p.n ≤ length ys)
-    (t : Turn) (n : ℕ) (begins : t ≡ first_turn p faulty first later 0) (turns : n ≡ turns_of p faulty first later rounds (length words) places) where
+module _ (p : Plan) (faulty first : ℕ) (later : List ℕ) (rounds : ℕ) (words : List ℕ) (places : ℕ) (ys : List Record) where
   abbrev cause : ℕ
   cause = run_cause p faulty first later rounds (length words) places
 
-  all_turns : cause ≡ 0 → n ≡ suc rounds * p.n
-  all_turns e = turns ∙ sym (turns_played p faulty first later rounds (length words) places e) ∙ ap (λ (m : ℕ). m * p.n) (add-one rounds)
+  abbrev opening : Turn
+  opening = first_turn p faulty first later 0
 
-  no_turns : eqb cause 0 ≡ false → n ≡ 0
-  no_turns z = turns ∙ sym (turns_refused p faulty first later rounds (length words) places cause refl z)
+  abbrev turns : ℕ
+  turns = turns_of p faulty first later rounds (length words) places
 
-  -- each can be played
-  ready : CanPlay (record_of words) t ys n
-  ready k l =
+  pub small : cause ≡ 0 → (t : Turn) → t ≡ opening → (t.plan.n ≤ 20) × (rounds ≤ 40)
+  small e t begins =
+      let a = accepted_run p faulty first later rounds (length words) places e in
+      subst (λ (u : Turn). (u.plan.n ≤ 20) × (rounds ≤ 40)) (sym begins) ((sound p a.plan_sound).twenty, a.forty)
+
+  -- those of an accepted run can be played
+  pub ready : cause ≡ 0 → p.n ≤ length ys → (t : Turn) → t ≡ opening → CanPlay (record_of words) t ys ((rounds + 1) * t.plan.n)
+  ready e room t begins k l =
+      let a = accepted_run p faulty first later rounds (length words) places e in
+      let n : (rounds + 1) * t.plan.n ≡ suc rounds * p.n = λ i. add-one rounds i * (begins i).plan.n in
+      turn_placed p a.plan_sound faulty first later words (list_rises first later a.first_said a.rises) a.fault ys room rounds a.forty k
+      (subst (λ (m : ℕ). k < m) n l) _
+      (λ i. (played_after (record_of words) (record { turn = begins i; records = ys }) k).turn)
+
+  -- they are all its turns
+  pub all_turns : cause ≡ 0 → (t : Turn) → t ≡ opening → left_after (record_of words) t ys ((rounds + 1) * t.plan.n) ≡ left_after (record_of words) opening ys turns
+  all_turns e t begins =
+      (λ i. left_after (record_of words) (begins i) ys ((rounds + 1) * (begins i).plan.n))
+      ∙ ap (left_after (record_of words) opening ys) (turns_played p faulty first later rounds (length words) places e)
+
+  -- a refused run has none
+  pub no_turns : eqb cause 0 ≡ false → ys ≡ left_after (record_of words) opening ys turns
+  unfolding played_after
+  no_turns z = ap (left_after (record_of words) opening ys) (turns_refused p faulty first later rounds (length words) places cause refl z)
+
+  -- they leave the records after the last round, or where the run is refused those that were there
+  left : (after : List Record) → (cause ≡ 0 → left_after (record_of words) opening ys (suc rounds * p.n) ≡ after)
+      → left_after (record_of words) opening ys turns ≡ pick (eqb cause 0) after ys
+  left after walk =
       ⊎_elim
       (λ y.
       let e = eqb-true cause 0 y in
-      let a = accepted_run p faulty first later rounds (length words) places e in
-      turn_placed p a.plan_sound faulty first later words (list_rises first later a.first_said a.rises) a.fault ys (room e) rounds a.forty k
-      (subst (λ (m : ℕ). k < m) (all_turns e) l) _
-      (λ i. (played_after (record_of words) (record { turn = begins i; records = ys }) k).turn))
-      (λ z. absurd (not-suc-le-zero (subst (λ (m : ℕ). k < m) (no_turns z) l)))
-      (decide (eqb cause 0))
-
-  -- they leave the records after the last round, or where the run is refused those that were there
-  left : (after : List Record) → (cause ≡ 0 → left_after (record_of words) (first_turn p faulty first later 0) ys (suc rounds * p.n) ≡ after)
-      → left_after (record_of words) t ys n ≡ pick (eqb cause 0) after ys
-  unfolding played_after
-  left after walk =
-      ⊎_elim
-      (λ y. let e = eqb-true cause 0 y in (λ i. left_after (record_of words) (begins i) ys (all_turns e i)) ∙ walk e ∙ sym (pick_yes _ _ _ y))
-      (λ z. ap (left_after (record_of words) t ys) (no_turns z) ∙ sym (pick_no _ _ _ z))
+      sym (all_turns e opening refl) ∙ ap (λ (m : ℕ). left_after (record_of words) opening ys (m * p.n)) (add-one rounds) ∙ walk e ∙ sym (pick_yes _ _ _ y))
+      (λ z. sym (no_turns z) ∙ sym (pick_no _ _ _ z))
       (decide (eqb cause 0))
 
 -- ---- the array of twenty
 
 module _ (p : Plan) (faulty first : ℕ) (later : List ℕ) (rounds : ℕ) (words : List ℕ) where
-  array_room : run_cause p faulty first later rounds (length words) p.n ≡ 0 → p.n ≤ length (replicate 20 nothing_heard)
-  array_room e = let s = (sound p (accepted_run p faulty first later rounds (length words) p.n e).plan_sound).twenty in omega (arith, length-replicate 20 nothing_heard)
-
-  pub array_ready : (t : Turn) (n : ℕ) → t ≡ first_turn p faulty first later 0 → n ≡ turns_of p faulty first later rounds (length words) p.n → (x : Record) → x ≡ nothing_heard
-      → CanPlay (record_of words) t (replicate 20 x) n
-  array_ready t n e f x q =
-      subst (λ (y : Record). CanPlay (record_of words) t (replicate 20 y) n) (sym q) (ready p faulty first later rounds words p.n (replicate 20 nothing_heard) array_room t n e f)
+  -- where the run is accepted it has a place for each terminal
+  pub array_room : (x : Record) → run_cause p faulty first later rounds (length words) p.n ≡ 0 → p.n ≤ length (replicate 20 x)
+  array_room x e = let s = (sound p (accepted_run p faulty first later rounds (length words) p.n e).plan_sound).twenty in omega (arith, length-replicate 20 x)
 
   -- the turns leave the records that the contract says
-  pub array_left : (t : Turn) (n : ℕ) → t ≡ first_turn p faulty first later 0 → n ≡ turns_of p faulty first later rounds (length words) p.n → (x : Record) → x ≡ nothing_heard
-      → left_after (record_of words) t (replicate 20 x) n ≡ array_after p faulty first later rounds words
+  pub array_left : (x : Record) → x ≡ nothing_heard
+      → left_after (record_of words) (first_turn p faulty first later 0) (replicate 20 x) (turns_of p faulty first later rounds (length words) p.n)
+      ≡ array_after p faulty first later rounds words
   unfolding array_after table
-  array_left t n e f x q =
-      ap (λ (y : Record). left_after (record_of words) t (replicate 20 y) n) q
-      ∙ left p faulty first later rounds words p.n (replicate 20 nothing_heard) array_room t n e f (table 20 (λ b. shown (site p faulty (office_of first later) (script_of p.n words) rounds b)))
+  array_left x q =
+      ap (λ (y : Record). left_after (record_of words) (first_turn p faulty first later 0) (replicate 20 y) (turns_of p faulty first later rounds (length words) p.n)) q
+      ∙ left p faulty first later rounds words p.n (replicate 20 nothing_heard) (table 20 (λ b. shown (site p faulty (office_of first later) (script_of p.n words) rounds b)))
       (λ h.
       let a = accepted_run p faulty first later rounds (length words) p.n h in
       walk_array p a.plan_sound faulty first later words (list_rises first later a.first_said a.rises) a.fault rounds a.forty)
@@ -158,18 +166,15 @@ module _ (p : Plan) (faulty first : ℕ) (later : List ℕ) (rounds : ℕ) (word
 -- ---- the records that are lent
 
 module _ (p : Plan) (faulty first : ℕ) (later : List ℕ) (rounds : ℕ) (words : List ℕ) (ys : List Record) where
-  lent_room : run_cause p faulty first later rounds (length words) (length ys) ≡ 0 → p.n ≤ length ys
+  pub lent_room : run_cause p faulty first later rounds (length words) (length ys) ≡ 0 → p.n ≤ length ys
   lent_room e = let q = (accepted_run p faulty first later rounds (length words) (length ys) e).places_fit in omega arith
 
-  pub lent_ready : (t : Turn) (n : ℕ) → t ≡ first_turn p faulty first later 0 → n ≡ turns_of p faulty first later rounds (length words) (length ys) → CanPlay (record_of words) t ys n
-  lent_ready = ready p faulty first later rounds words (length ys) ys lent_room
-
   -- the turns leave the records that the contract says
-  pub lent_left : (t : Turn) (n : ℕ) → t ≡ first_turn p faulty first later 0 → n ≡ turns_of p faulty first later rounds (length words) (length ys)
-      → left_after (record_of words) t ys n ≡ records_after p faulty first later rounds words ys
+  pub lent_left : left_after (record_of words) (first_turn p faulty first later 0) ys (turns_of p faulty first later rounds (length words) (length ys))
+      ≡ records_after p faulty first later rounds words ys
   unfolding records_after
-  lent_left t n e f =
-      left p faulty first later rounds words (length ys) ys lent_room t n e f (map shown (sites p faulty (office_of first later) (script_of p.n words) rounds))
+  lent_left =
+      left p faulty first later rounds words (length ys) ys (map shown (sites p faulty (office_of first later) (script_of p.n words) rounds))
       (λ h.
       let a = accepted_run p faulty first later rounds (length words) (length ys) h in
       walk_is p a.plan_sound faulty first later words (list_rises first later a.first_said a.rises) a.fault ys a.places_fit rounds a.forty)

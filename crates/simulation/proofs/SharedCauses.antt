@@ -6,14 +6,20 @@ use native.Mathlib.Nat.{mul-le-mul}
 use native.Mathlib.Omega.{arith}
 use lib.Dec.{eqb}
 use borrow.Author.Tests.{eq-eqb, eqb-true, eqb-false}
+use Rattle.std.specs.Prelude.{Result, Err}
+use Rattle.std.specs.Result.{IsErrAnd}
 use Rattle.sets.proofs.Bools.{and_l, and_r, not_e, not_i, not_yes, not_no, pick_yes, pick_no}
 use Rattle.sets.proofs.Causes.{cause_here, cause_later, cause_last, cause_none, given_passes, given_decides, given_none}
 use Rattle.quorum.proofs.Words.{start_parts}
 use Rattle.plan.specs.declared.Plan.{Plan}
 use Rattle.plan.specs.Plan.{cause_of}
 use Rattle.closure.specs.FaultSet.{is_shared_fault_set}
-use Rattle.faults.specs.Check.{shared_fault_cause_of}
+use Rattle.faults.specs.declared.FaultSetError.{FaultSetError}
+use Rattle.faults.specs.Check.{fault_number_of, shared_fault_cause_of}
 use Rattle.faults.proofs.Laws.{shared_sound}
+use Rattle.simulation.specs.declared.RunError.{RunError}
+use Rattle.simulation.specs.Answer.{number_of}
+use Rattle.simulation.proofs.Causes.{fault_refuses}
 use Rattle.simulation.specs.Channel.{shared_start_sound, shared_lists_fit, shared_run_cause, shared_turns_of}
 
 -- 40 times 20 words
@@ -42,9 +48,13 @@ module _ (p : Plan) (faulty value default rounds words places : ℕ) where
   unfolding shared_run_cause
   shared_wrong_start f s = sym (given_passes (shared_fault_cause_of p faulty) _ f ∙ cause_here _ 9 _ (not_i s))
 
-  pub shared_fault : (k : ℕ) → k ≡ shared_fault_cause_of p faulty → eqb k 0 ≡ false → k ≡ cause
+  pub shared_fault : (e : FaultSetError) (r : Result Unit RunError) → IsErrAnd r (λ x. number_of (Err x) ≡ fault_number_of (Err e))
+      → fault_number_of (Err e) ≡ shared_fault_cause_of p faulty → number_of r ≡ cause
   unfolding shared_run_cause
-  shared_fault k e z = e ∙ sym (given_decides (shared_fault_cause_of p faulty) _ (λ y. eqb-false k 0 z (e ∙ y)))
+  shared_fault e r h f =
+      let k = fault_refuses e r h in
+      let same = k.0 ∙ f in
+      same ∙ sym (given_decides (shared_fault_cause_of p faulty) _ (λ y. eqb-false (number_of r) 0 k.1 (same ∙ y)))
 
   pub shared_turns_played : cause ≡ 0 → (rounds + 1) * p.n ≡ shared_turns_of p faulty value default rounds words places
   unfolding shared_turns_of

@@ -1,10 +1,9 @@
 -- What an accepted run on a shared channel leaves: the records of the rules, and that good terminals agree. Assumes nothing.
-use Prim.Native.Nat.{ℕ, suc, ◌*◌, ◌≤◌, ◌<◌}
+use Prim.Native.Nat.{ℕ, suc, ◌+◌, ◌*◌, ◌≤◌, ◌<◌}
 use mathlib.Core.Path.{◌≡◌, refl, sym, ap, ◌∙◌, subst}
 use mathlib.Core.Logic.{⊎_elim}
 use mathlib.Core.Bool.{false}
 use mathlib.Core.List.{List, [], map}
-use native.Mathlib.Nat.{not-suc-le-zero}
 use native.Mathlib.Numerals.{add-one}
 use native.Mathlib.Omega.{arith}
 use lib.Dec.{eqb}
@@ -69,63 +68,70 @@ module _ (p : Plan) (faulty value default rounds : ℕ) (words : List ℕ) (valu
           steps = λ k b l g. shared_cause_none p a.plan_sound faulty value default words a.fault layouts k b p.n (let f = a.forty in omega arith) g.0 g.1 refl;
         }
 
+  abbrev opening : Turn
+  opening = first_turn p faulty (notice_of 1 value) [] default
+
   -- ---- the turns of a run on a list that has a place for each terminal where the run is accepted
 
-  module _ (places : ℕ) (ys : List Record) (room : shared_run_cause p faulty value default rounds (length words) places ≡ 0 → p.n ≤ length ys)
-      (t : Turn) (n : ℕ) (begins : t ≡ first_turn p faulty (notice_of 1 value) [] default) (turns : n ≡ shared_turns_of p faulty value default rounds (length words) places) where
+  module _ (places : ℕ) (ys : List Record) where
     abbrev cause : ℕ
     cause = shared_run_cause p faulty value default rounds (length words) places
 
-    accepted : cause ≡ 0 → SharedAccepted p faulty value default rounds (length words) places
-    accepted = shared_accepted_run p faulty value default rounds (length words) places
+    abbrev turns : ℕ
+    turns = shared_turns_of p faulty value default rounds (length words) places
 
-    all_turns : cause ≡ 0 → n ≡ suc rounds * p.n
-    all_turns e = turns ∙ sym (shared_turns_played p faulty value default rounds (length words) places e) ∙ ap (λ (m : ℕ). m * p.n) (add-one rounds)
+    pub shared_small : cause ≡ 0 → (t : Turn) → t ≡ opening → (t.plan.n ≤ 20) × (rounds ≤ 40)
+    shared_small e t begins =
+        let a = shared_accepted_run p faulty value default rounds (length words) places e in
+        subst (λ (u : Turn). (u.plan.n ≤ 20) × (rounds ≤ 40)) (sym begins) ((sound p a.plan_sound).twenty, a.forty)
 
-    no_turns : eqb cause 0 ≡ false → n ≡ 0
-    no_turns z = turns ∙ sym (shared_turns_refused p faulty value default rounds (length words) places cause refl z)
+    -- those of an accepted run can be played
+    pub shared_ready : cause ≡ 0 → p.n ≤ length ys → (t : Turn) → t ≡ opening → CanPlay (shared_record_of words) t ys ((rounds + 1) * t.plan.n)
+    shared_ready e room t begins k l =
+        let a = shared_accepted_run p faulty value default rounds (length words) places e in
+        let n : (rounds + 1) * t.plan.n ≡ suc rounds * p.n = λ i. add-one rounds i * (begins i).plan.n in
+        shared_placed p a.plan_sound faulty value default words a.fault (layouts places a) ys room rounds a.forty k
+        (subst (λ (m : ℕ). k < m) n l) _
+        (λ i. (played_after (shared_record_of words) (record { turn = begins i; records = ys }) k).turn)
 
-    -- each can be played
-    ready : CanPlay (shared_record_of words) t ys n
-    ready k l =
+    -- they are all its turns
+    pub shared_all_turns : cause ≡ 0 → (t : Turn) → t ≡ opening
+        → left_after (shared_record_of words) t ys ((rounds + 1) * t.plan.n) ≡ left_after (shared_record_of words) opening ys turns
+    shared_all_turns e t begins =
+        (λ i. left_after (shared_record_of words) (begins i) ys ((rounds + 1) * (begins i).plan.n))
+        ∙ ap (left_after (shared_record_of words) opening ys) (shared_turns_played p faulty value default rounds (length words) places e)
+
+    -- a refused run has none
+    pub shared_no_turns : eqb cause 0 ≡ false → ys ≡ left_after (shared_record_of words) opening ys turns
+    unfolding played_after
+    shared_no_turns z = ap (left_after (shared_record_of words) opening ys) (shared_turns_refused p faulty value default rounds (length words) places cause refl z)
+
+    -- they leave the records after the last round, or where the run is refused those that were there
+    left : (after : List Record) → (cause ≡ 0 → left_after (shared_record_of words) opening ys (suc rounds * p.n) ≡ after)
+        → left_after (shared_record_of words) opening ys turns ≡ pick (eqb cause 0) after ys
+    left after walk =
         ⊎_elim
         (λ y.
         let e = eqb-true cause 0 y in
-        let a = accepted e in
-        shared_placed p a.plan_sound faulty value default words a.fault (layouts places a) ys (room e) rounds a.forty k
-        (subst (λ (m : ℕ). k < m) (all_turns e) l) _
-        (λ i. (played_after (shared_record_of words) (record { turn = begins i; records = ys }) k).turn))
-        (λ z. absurd (not-suc-le-zero (subst (λ (m : ℕ). k < m) (no_turns z) l)))
-        (decide (eqb cause 0))
-
-    -- they leave the records after the last round, or where the run is refused those that were there
-    left : (after : List Record) → (cause ≡ 0 → left_after (shared_record_of words) (first_turn p faulty (notice_of 1 value) [] default) ys (suc rounds * p.n) ≡ after)
-        → left_after (shared_record_of words) t ys n ≡ pick (eqb cause 0) after ys
-    unfolding played_after
-    left after walk =
-        ⊎_elim
-        (λ y. let e = eqb-true cause 0 y in (λ i. left_after (shared_record_of words) (begins i) ys (all_turns e i)) ∙ walk e ∙ sym (pick_yes _ _ _ y))
-        (λ z. ap (left_after (shared_record_of words) t ys) (no_turns z) ∙ sym (pick_no _ _ _ z))
+        sym (shared_all_turns e opening refl) ∙ ap (λ (m : ℕ). left_after (shared_record_of words) opening ys (m * p.n)) (add-one rounds) ∙ walk e ∙ sym (pick_yes _ _ _ y))
+        (λ z. sym (shared_no_turns z) ∙ sym (pick_no _ _ _ z))
         (decide (eqb cause 0))
 
   -- ---- the array of twenty
 
-  array_room : shared_run_cause p faulty value default rounds (length words) p.n ≡ 0 → p.n ≤ length (replicate 20 nothing_heard)
-  array_room e =
-      let s = (sound p (shared_accepted_run p faulty value default rounds (length words) p.n e).plan_sound).twenty in omega (arith, length-replicate 20 nothing_heard)
-
-  pub shared_array_ready : (t : Turn) (n : ℕ) → t ≡ first_turn p faulty (notice_of 1 value) [] default → n ≡ shared_turns_of p faulty value default rounds (length words) p.n
-      → (x : Record) → x ≡ nothing_heard → CanPlay (shared_record_of words) t (replicate 20 x) n
-  shared_array_ready t n e f x q =
-      subst (λ (y : Record). CanPlay (shared_record_of words) t (replicate 20 y) n) (sym q) (ready p.n (replicate 20 nothing_heard) array_room t n e f)
+  -- where the run is accepted it has a place for each terminal
+  pub shared_array_room : (x : Record) → shared_run_cause p faulty value default rounds (length words) p.n ≡ 0 → p.n ≤ length (replicate 20 x)
+  shared_array_room x e =
+      let s = (sound p (shared_accepted_run p faulty value default rounds (length words) p.n e).plan_sound).twenty in omega (arith, length-replicate 20 x)
 
   -- the turns leave the records that the contract says
-  pub shared_array_left : (t : Turn) (n : ℕ) → t ≡ first_turn p faulty (notice_of 1 value) [] default → n ≡ shared_turns_of p faulty value default rounds (length words) p.n
-      → (x : Record) → x ≡ nothing_heard → left_after (shared_record_of words) t (replicate 20 x) n ≡ shared_array_after p faulty value default rounds words
+  pub shared_array_left : (x : Record) → x ≡ nothing_heard
+      → left_after (shared_record_of words) opening (replicate 20 x) (shared_turns_of p faulty value default rounds (length words) p.n)
+      ≡ shared_array_after p faulty value default rounds words
   unfolding shared_array_after table
-  shared_array_left t n e f x q =
-      ap (λ (y : Record). left_after (shared_record_of words) t (replicate 20 y) n) q
-      ∙ left p.n (replicate 20 nothing_heard) array_room t n e f (table 20 (λ b. shown (shared_site p faulty value default script rounds b)))
+  shared_array_left x q =
+      ap (λ (y : Record). left_after (shared_record_of words) opening (replicate 20 y) (shared_turns_of p faulty value default rounds (length words) p.n)) q
+      ∙ left p.n (replicate 20 nothing_heard) (table 20 (λ b. shown (shared_site p faulty value default script rounds b)))
       (λ h.
       let a = shared_accepted_run p faulty value default rounds (length words) p.n h in
       shared_walk_array p a.plan_sound faulty value default words a.fault (layouts p.n a) rounds a.forty)
@@ -147,19 +153,15 @@ module _ (p : Plan) (faulty value default rounds : ℕ) (words : List ℕ) (valu
   -- ---- the records that are lent
 
   module _ (ys : List Record) where
-    lent_room : shared_run_cause p faulty value default rounds (length words) (length ys) ≡ 0 → p.n ≤ length ys
-    lent_room e = let q = (shared_accepted_run p faulty value default rounds (length words) (length ys) e).places_fit in omega arith
-
-    pub shared_lent_ready : (t : Turn) (n : ℕ) → t ≡ first_turn p faulty (notice_of 1 value) [] default → n ≡ shared_turns_of p faulty value default rounds (length words) (length ys)
-        → CanPlay (shared_record_of words) t ys n
-    shared_lent_ready = ready (length ys) ys lent_room
+    pub shared_lent_room : shared_run_cause p faulty value default rounds (length words) (length ys) ≡ 0 → p.n ≤ length ys
+    shared_lent_room e = let q = (shared_accepted_run p faulty value default rounds (length words) (length ys) e).places_fit in omega arith
 
     -- the turns leave the records that the contract says
-    pub shared_lent_left : (t : Turn) (n : ℕ) → t ≡ first_turn p faulty (notice_of 1 value) [] default → n ≡ shared_turns_of p faulty value default rounds (length words) (length ys)
-        → left_after (shared_record_of words) t ys n ≡ shared_records_after p faulty value default rounds words ys
+    pub shared_lent_left : left_after (shared_record_of words) opening ys (shared_turns_of p faulty value default rounds (length words) (length ys))
+        ≡ shared_records_after p faulty value default rounds words ys
     unfolding shared_records_after
-    shared_lent_left t n e f =
-        left (length ys) ys lent_room t n e f (map shown (shared_sites p faulty value default script rounds))
+    shared_lent_left =
+        left (length ys) ys (map shown (shared_sites p faulty value default script rounds))
         (λ h.
         let a = shared_accepted_run p faulty value default rounds (length words) (length ys) h in
         shared_walk_is p a.plan_sound faulty value default words a.fault (layouts (length ys) a) ys a.places_fit rounds a.forty)

@@ -21,18 +21,22 @@ use Rattle.terminal.specs.declared.Record.{Record}
 use Rattle.terminal.specs.Rule.{says_in}
 use Rattle.terminal.specs.Shown.{nothing_heard}
 use Rattle.plan.specs.declared.Plan.{Plan}
-use Rattle.plan.specs.Plan as plan
 use Rattle.simulation.specs.declared.Turn.{Turn}
-use Rattle.simulation.specs.declared.Made.{Made}
-use Rattle.simulation.specs.Turns.{Maker, carried, next_turn, made_of, Played, play_one, played_after, first_turn, Ready}
+use Rattle.simulation.specs.Turns.{Maker, carried, next_turn, Made, made_of, Played, play_one, played_after, first_turn, Ready}
 
 pub played_add : (make : Maker) (s : Played) (a b : ℕ) → played_after make s (a + b) ≡ played_after make (played_after make s a) b
 unfolding played_after
 played_add make s a zero = ap (played_after make s) (add-zero a)
 played_add make s a (suc b) = ap (played_after make s) (add-suc a b) ∙ ap (play_one make) (played_add make s a b)
 
+-- a record and the turn that it makes are those of the definition
+made_is : (make : Maker) (t : Turn) (before r : Record) → r ≡ make t before
+    → ◌≡◌ {A = Made} (record { turn = next_turn t (says_in (t.round + 1) r.state); after = r }) (made_of make t before)
+unfolding made_of
+made_is make t before r e = λ i. record { turn = next_turn t (says_in (t.round + 1) (e i).state); after = e i }
+
 -- one turn of the loop
-pub turn_on : (make : Maker) (s₀ : Played) (k : ℕ) (t : Turn) (records : List Record) (made : Made)
+turn_on : (make : Maker) (s₀ : Played) (k : ℕ) (t : Turn) (records : List Record) (made : Made)
     → ◌≡◌ {A = Played} (record { turn = t; records = records }) (played_after make s₀ k) → made ≡ made_of make t (get_or records t.at nothing_heard)
     → ◌≡◌ {A = Played} (record { turn = made.turn; records = set records t.at made.after }) (played_after make s₀ (k + 1))
 unfolding played_after play_one
@@ -45,16 +49,24 @@ unfolding played_after play_one
 played_length make s zero = refl
 played_length make s (suc k) = length-set (played_after make s k).records _ _ ∙ played_length make s k
 
--- the same where the record was read with any default, since its place lies within the list
-pub turn_read : (make : Maker) (s₀ : Played) (k n : ℕ) (t : Turn) (records : List Record) (made : Made) (d : Record)
+-- the place of each turn that can be played lies within the list
+pub turn_place : (make : Maker) (s₀ : Played) (k n : ℕ) (t : Turn) (records : List Record)
     → ((k : ℕ) → k < n → Ready (played_after make s₀ k).turn (length s₀.records)) → k < n
-    → ◌≡◌ {A = Played} (record { turn = t; records = records }) (played_after make s₀ k) → made ≡ made_of make t (get_or records t.at d)
-    → ◌≡◌ {A = Played} (record { turn = made.turn; records = set records t.at made.after }) (played_after make s₀ (k + 1))
-turn_read make s₀ k n t records made d ready l e q =
+    → ◌≡◌ {A = Played} (record { turn = t; records = records }) (played_after make s₀ k) → t.at < length records
+turn_place make s₀ k n t records ready l e =
     let same : length records ≡ length s₀.records = ap (λ (s : Played). length s.records) e ∙ played_length make s₀ k in
     let turn : t.at ≡ (played_after make s₀ k).turn.at = ap (λ (s : Played). s.turn.at) e in
-    let room : t.at < length records = omega (arith, same, turn, (ready k l).place) in
-    turn_on make s₀ k t records made e (q ∙ ap (made_of make t) (get_or_default records t.at d nothing_heard room))
+    omega (arith, same, turn, (ready k l).place)
+
+-- so the record may be read with any default
+pub turn_read : (make : Maker) (s₀ : Played) (k : ℕ) (t next : Turn) (records : List Record) (d after : Record) → t.at < length records
+    → ◌≡◌ {A = Played} (record { turn = t; records = records }) (played_after make s₀ k)
+    → after ≡ make t (get_or records t.at d) → next ≡ next_turn t (says_in (t.round + 1) after.state)
+    → ◌≡◌ {A = Played} (record { turn = next; records = set records t.at after }) (played_after make s₀ (k + 1))
+turn_read make s₀ k t next records d after room e q u =
+    turn_on make s₀ k t records (record { turn = next; after = after }) e
+    ((λ i. record { turn = u i; after = after })
+    ∙ made_is make t (get_or records t.at nothing_heard) after (q ∙ ap (make t) (get_or_default records t.at d nothing_heard room)))
 
 -- `here r b` is the record of terminal b after r rounds
 module _ (p : Plan) (faulty first : ℕ) (later : List ℕ) (default : ℕ) (here : ℕ → ℕ → Record) where

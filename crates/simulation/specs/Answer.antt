@@ -1,5 +1,5 @@
 -- What the run answers for all arguments: the documents' number for each cause of refusal, and the records. Assumes nothing.
-use Rattle.std.specs.Prelude.{ℕ, ◌+◌, ◌*◌, ◌-◌, ◌≤◌, ◌<◌, ◌≡◌, Bool, true, false, not, List, [], ◌∷◌, map, eqb, length, get_or, replicate}
+use Rattle.std.specs.Prelude.{ℕ, ◌+◌, ◌*◌, ◌-◌, ◌≤◌, ◌<◌, ◌≡◌, Bool, true, false, not, List, [], ◌∷◌, map, eqb, length, get_or, replicate, Result, Ok, Err}
 use Rattle.sets.specs.Tests.{◌and◌, pick}
 use Rattle.sets.specs.Causes.{◌gives◌, first_cause, given}
 use Rattle.sets.specs.Sets.{Terminal, Set, mem}
@@ -19,20 +19,20 @@ use Rattle.closure.specs.Verdict.{verdict}
 use Rattle.propagation.specs.Run.{Silent, office_of, last_issued, Quiet, sites, site, script_of}
 use Rattle.sets.specs.Tables.{table}
 use Rattle.propagation.specs.Demand3.{Good, IssuedByThen}
-use Rattle.simulation.specs.declared.Outcome.{Outcome}
-use Rattle.simulation.specs.declared.Outcome.TheVariants.{Played, WrongRange, WrongLink, WrongGroups, WrongMember, OverBound, WrongStart, WrongEdition, WrongLength}
+use Rattle.simulation.specs.declared.RunError.{RunError}
+use Rattle.simulation.specs.declared.RunError.TheVariants.{WrongRange, WrongLink, WrongGroups, WrongMember, OverBound, WrongStart, WrongEdition, WrongLength}
 
 -- the documents' number of each outcome, 0 where nothing is refused
-abbrev pub number_of : Outcome → ℕ
-number_of Played = 0
-number_of WrongRange = 4
-number_of WrongLink = 5
-number_of WrongGroups = 17
-number_of WrongMember = 7
-number_of OverBound = 8
-number_of WrongStart = 9
-number_of WrongEdition = 16
-number_of WrongLength = 12
+abbrev pub number_of : Result Unit RunError → ℕ
+number_of (Ok done) = 0
+number_of (Err WrongRange) = 4
+number_of (Err WrongLink) = 5
+number_of (Err WrongGroups) = 17
+number_of (Err WrongMember) = 7
+number_of (Err OverBound) = 8
+number_of (Err WrongStart) = 9
+number_of (Err WrongEdition) = 16
+number_of (Err WrongLength) = 12
 
 -- the office's first notice has an edition, and those of the later ones rise above it (document 02, P8); a zero in either half of a later one issues nothing
 unfoldable pub office_sound : (first : Notice) (later : List Notice) → Bool

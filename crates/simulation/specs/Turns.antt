@@ -1,6 +1,6 @@
 -- The run as the code plays it: one record a turn, terminal by terminal, round by round; round 0 writes the start records. No caller sees this:
 -- proofs/Meaning.antt shows that the records show those of the run by the rules. Assumes nothing.
-use Rattle.std.specs.Prelude.{ℕ, zero, suc, ◌+◌, ◌-◌, ◌≤◌, ◌<◌, not, List, eqb, ltb, length, get_or, set, take, replicate}
+use Rattle.std.specs.Prelude.{ℕ, zero, suc, ◌+◌, ◌-◌, ◌≤◌, ◌<◌, not, List, eqb, ltb, length, get_or, set, take, replicate, ◌≡◌}
 use Rattle.sets.specs.Tests.{◌and◌, pick}
 use Rattle.sets.specs.Tables.{table}
 use Rattle.sets.specs.Sets.{mem}
@@ -16,18 +16,25 @@ use Rattle.plan.specs.Plan.{heard_by, hears}
 use Rattle.propagation.specs.Run.{script_of, start_record}
 use Rattle.propagation.specs.Channel.{shared_script_of}
 use Rattle.simulation.specs.declared.Turn.{Turn}
-use Rattle.simulation.specs.declared.Made.{Made}
 
 -- how a turn makes a terminal's record of the one before
 abbrev pub Maker : Type 0
 Maker = Turn → Record → Record
 
+-- a player that makes of each turn that can be played the record that `make` says
+pub record Plays (pre : Turn → Record → Type 0) (post : Turn → Record → Record → Type 0) (make : Maker) : Type 0 where
+  pub may : (t : Turn) (before : Record) → t.plan.n ≤ 20 → t.at < t.plan.n → t.round ≤ 40 → pre t before
+  pub makes : (t : Turn) (before after : Record) → post t before after → after ≡ make t before
+
 -- ---- a run with a word for each hearer
 
--- what the terminal whose turn it is hears from terminal j this round
+-- what the terminal whose turn it is hears from terminal j this round, where a bad one says `word`
+unfoldable pub heard_where : Turn → (j word : ℕ) → ℕ
+heard_where t j word = pick (hears t.plan t.at j) (pick (mem j t.faulty) word (get_or t.spoken j 0)) 0
+
+-- the script's word
 unfoldable pub heard_in : Turn → List ℕ → ℕ → ℕ
-heard_in t words j =
-    pick (hears t.plan t.at j) (pick (mem j t.faulty) (script_of t.plan.n words t.round j t.at) (get_or t.spoken j 0)) 0
+heard_in t words j = heard_where t j (script_of t.plan.n words t.round j t.at)
 
 -- what the office issues this round is written into the source's record after its step
 unfoldable pub issued_in : Turn → Record → Record
@@ -85,6 +92,11 @@ next_turn t word =
       default = t.default;
     })
 
+-- a record that was made, and the turn after it
+pub record Made : Type 0 where
+  pub turn : Turn
+  pub after : Record
+
 unfoldable pub made_of : Maker → Turn → Record → Made
 made_of make t before = record {
   turn = next_turn t (says_in (t.round + 1) (make t before).state);
@@ -134,6 +146,10 @@ pub record Ready (t : Turn) (places : ℕ) : Type 0 where
 -- each of the turns on from t can be played
 abbrev pub CanPlay : Maker → Turn → List Record → ℕ → Type 0
 CanPlay make t records turns = (k : ℕ) → k < turns → Ready (played_after make (record { turn = t; records = records }) k).turn (length records)
+
+-- by a player, which follows what some `make` says
+abbrev pub Playable : (pre : Turn → Record → Type 0) (post : Turn → Record → Record → Type 0) → Turn → List Record → (turns : ℕ) → Type 0
+Playable pre post t records turns = (make : Maker) × (Plays pre post make × CanPlay make t records turns)
 
 -- the records that the turns on from t leave
 abbrev pub left_after : Maker → Turn → List Record → ℕ → List Record

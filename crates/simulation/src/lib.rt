@@ -4,20 +4,21 @@
 mod channel;
 mod playing;
 
-ghost use Rattle.std.specs.Prelude.{◌≡◌, ◌≤◌, [], length, get_or};
+ghost use Rattle.std.specs.Prelude.{◌≡◌, ◌+◌, ◌*◌, ◌≤◌, [], length, Err};
 ghost use Rattle.faults.specs.Check.{fault_number_of};
-ghost use Rattle.simulation.specs.Turns.{carried, record_of, shared_record_of, first_turn, CanPlay, left_after};
+ghost use Rattle.simulation.specs.Turns.{Maker, Plays, Playable, carried, record_of, shared_record_of, first_turn, left_after};
 ghost use Rattle.quorum.specs.Notice.{notice_of};
 ghost use Rattle.simulation.specs.Channel.{shared_start_sound, shared_lists_fit, shared_run_cause, shared_turns_of, shared_records_after, shared_array_after, AgreementHolds};
 ghost use Rattle.simulation.specs.Answer.{number_of, office_sound, lists_fit, given_cause, run_cause, turns_of, records_after, array_after, Demand3Holds};
 
-use faults::FaultSetCheck;
+use faults::FaultSetError;
 use plan::Plan;
+use std::array;
 use terminal::Record;
 
-#[derive(Clone, Copy)]
-pub enum Outcome {
-    Played,
+// Why a run is refused.
+#[derive(Clone, Copy, Debug, PartialEq, Eq)]
+pub enum RunError {
     WrongRange,
     WrongLink,
     WrongGroups,
@@ -28,20 +29,45 @@ pub enum Outcome {
     WrongLength,
 }
 
-// The documents' number of the outcome, 0 where nothing is refused.
-pub fn number(o: Outcome) -> u8
-    ensures { result ≡ number_of o }
+impl From<FaultSetError> for RunError {
+    ghost from_gives = { λ e r. number_of (Err r) ≡ fault_number_of (Err e) };
+
+    fn from(e: FaultSetError) -> RunError {
+        match e {
+            FaultSetError::WrongRange => RunError::WrongRange,
+            FaultSetError::WrongLink => RunError::WrongLink,
+            FaultSetError::WrongGroups => RunError::WrongGroups,
+            FaultSetError::WrongMember => RunError::WrongMember,
+            FaultSetError::OverBound => RunError::OverBound,
+        }
+    }
+}
+
+// The documents' number.
+impl From<RunError> for u8 {
+    ghost from_gives = { λ e n. n ≡ number_of (Err e) };
+
+    fn from(e: RunError) -> u8 {
+        match e {
+            RunError::WrongRange => 4,
+            RunError::WrongLink => 5,
+            RunError::WrongGroups => 17,
+            RunError::WrongMember => 7,
+            RunError::OverBound => 8,
+            RunError::WrongStart => 9,
+            RunError::WrongEdition => 16,
+            RunError::WrongLength => 12,
+        }
+    }
+}
+
+// The number of the outcome, 0 where nothing is refused.
+pub fn number(outcome: Result<(), RunError>) -> u8
+    ensures { result ≡ number_of outcome }
 {
-    match o {
-        Outcome::Played => 0,
-        Outcome::WrongRange => 4,
-        Outcome::WrongLink => 5,
-        Outcome::WrongGroups => 17,
-        Outcome::WrongMember => 7,
-        Outcome::OverBound => 8,
-        Outcome::WrongStart => 9,
-        Outcome::WrongEdition => 16,
-        Outcome::WrongLength => 12,
+    match outcome {
+        Ok(()) => 0,
+        Err(e) => u8::from(e),
     }
 }
 
@@ -62,77 +88,35 @@ pub(crate) struct Turn {
     pub default: u16,
 }
 
-#[derive(Clone, Copy)]
-pub(crate) struct Made {
-    pub turn: Turn,
-    pub after: Record,
-}
-
 // The outcome of the run, and terminal b's record after the last round at place b. A refused run
 // leaves start records.
 #[derive(Clone, Copy)]
 pub struct Ran {
-    pub outcome: Outcome,
+    pub outcome: Result<(), RunError>,
     pub records: [Record; 20],
 }
 
-// The outcome of a run, its first turn, and how many turns it has: none where it is refused.
-#[derive(Clone, Copy)]
-pub(crate) struct Begun {
-    pub outcome: Outcome,
-    pub turn: Turn,
-    pub turns: usize,
-}
-
-// An entry of the list; silence past its end.
-fn entry(later: &[u32], i: usize) -> u32
-    ensures { result ≡ get_or later.now i 0 }
-{
-    if i < later.len() {
-        return later[i];
-    }
-    0
-}
-
-// What the office issues in each of forty rounds.
+// What the office issues in each of forty rounds: silence past the list's end.
 fn carried(later: &[u32]) -> [u32; 40]
     ensures { result ≡ carried later.now }
 {
-    let mut notices = [0u32; 40];
-    let mut i = 0;
-    while i < 40 {
-        notices[i] = entry(later, i);
-        i += 1;
-    }
-    notices
+    array::from_fn(|i| later.get(i).copied().unwrap_or(0))
 }
 
-fn first_turn(p: Plan, faulty: u32, first: u32, later: &[u32]) -> Turn
-    ensures { result ≡ first_turn p faulty first later.now 0 }
+// The default is that of a shared channel, 0 where each hearer has its word.
+fn first_turn(p: Plan, faulty: u32, first: u32, later: &[u32], default: u16) -> Turn
+    ensures { result ≡ first_turn p faulty first later.now default }
 {
     Turn {
         plan: p,
-        faulty: faulty,
-        first: first,
+        faulty,
+        first,
         later: carried(later),
         round: 0,
         at: 0,
-        spoken: [0u32; 20],
-        next: [0u32; 20],
-        default: 0,
-    }
-}
-
-fn refused(c: FaultSetCheck) -> Outcome
-    ensures { number_of result ≡ fault_number_of c }
-{
-    match c {
-        FaultSetCheck::Sound => Outcome::Played,
-        FaultSetCheck::WrongRange => Outcome::WrongRange,
-        FaultSetCheck::WrongLink => Outcome::WrongLink,
-        FaultSetCheck::WrongGroups => Outcome::WrongGroups,
-        FaultSetCheck::WrongMember => Outcome::WrongMember,
-        FaultSetCheck::OverBound => Outcome::OverBound,
+        spoken: [0; 20],
+        next: [0; 20],
+        default,
     }
 }
 
@@ -141,10 +125,7 @@ fn office_sound(first: u32, later: &[u32]) -> bool
     ensures { result ≡ office_sound first later.now }
 {
     let edition = quorum::edition_of(first);
-    if edition == 0 {
-        return false;
-    }
-    quorum::rising(edition, later)
+    edition != 0 && quorum::rising(edition, later)
 }
 
 // The lists fit: a word for each round, sender and hearer, a later notice for each round, and a record
@@ -153,60 +134,35 @@ fn lists_fit(p: Plan, rounds: u8, words: usize, issues: usize, places: usize) ->
     requires { (p.n ≤ 20) × (rounds ≤ 40) }
     ensures { result ≡ lists_fit p rounds words issues places }
 {
-    let n = p.n;
-    if words == (rounds as usize) * (n * n) {
-        if issues == rounds as usize {
-            return places == n;
-        }
-    }
-    false
+    words == (rounds as usize) * (p.n * p.n) && issues == rounds as usize && places == p.n
 }
 
 // The first cause that applies where plan and fault set are sound.
-fn given_cause(
+fn judge_given(
     p: Plan,
     first: u32,
     later: &[u32],
     rounds: u8,
     words: usize,
     places: usize,
-) -> Outcome
+) -> Result<(), RunError>
     requires { p.n ≤ 20 }
     ensures { number_of result ≡ given_cause p first later.now rounds words places }
 {
-    if quorum::start_sound(quorum::layout_of(first), rounds) {
-        if office_sound(first, later) {
-            if lists_fit(p, rounds, words, later.len(), places) {
-                return Outcome::Played;
-            }
-            return Outcome::WrongLength;
-        }
-        return Outcome::WrongEdition;
+    if !quorum::start_sound(quorum::layout_of(first), rounds) {
+        return Err(RunError::WrongStart);
     }
-    Outcome::WrongStart
-}
-
-// The first cause that applies.
-fn first_cause(
-    p: Plan,
-    faulty: u32,
-    first: u32,
-    later: &[u32],
-    rounds: u8,
-    words: usize,
-    places: usize,
-) -> Outcome
-    ensures { number_of result ≡ run_cause p faulty first later.now rounds words places }
-{
-    let fault = refused(faults::check_fault_set(p, faulty));
-    if let Outcome::Played = fault {
-        return given_cause(p, first, later, rounds, words, places);
+    if !office_sound(first, later) {
+        return Err(RunError::WrongEdition);
     }
-    fault
+    if !lists_fit(p, rounds, words, later.len(), places) {
+        return Err(RunError::WrongLength);
+    }
+    Ok(())
 }
 
 // Judges a run, before a record is touched.
-fn begin(
+fn judge(
     p: Plan,
     faulty: u32,
     first: u32,
@@ -214,48 +170,52 @@ fn begin(
     rounds: u8,
     words: usize,
     places: usize,
-) -> Begun
-    ensures { (number_of result.outcome ≡ run_cause p faulty first later.now rounds words places) × (result.turn ≡ first_turn p faulty first later.now 0) × (result.turns ≡ turns_of p faulty first later.now rounds words places) }
+) -> Result<(), RunError>
+    ensures { number_of result ≡ run_cause p faulty first later.now rounds words places }
 {
-    let outcome = first_cause(p, faulty, first, later, rounds, words, places);
-    let turn = first_turn(p, faulty, first, later);
-    if let Outcome::Played = outcome {
-        return Begun {
-            outcome: Outcome::Played,
-            turn: turn,
-            turns: ((rounds as usize) + 1) * p.n,
-        };
-    }
-    Begun {
-        outcome: outcome,
-        turn: turn,
-        turns: 0,
+    faults::check_fault_set(p, faulty)?;
+    judge_given(p, first, later, rounds, words, places)
+}
+
+// Plays round 0 and the rounds after it, terminal by terminal, one record a turn, in place. The player makes the
+// record of a turn from the one before.
+fn play<F: Fn(Turn, Record) -> Record>(first: Turn, rounds: u8, player: F, records: &mut [Record])
+    requires small { (first.plan.n ≤ 20) × (rounds ≤ 40) }
+    requires ready { Playable (F.pre player) (F.post player) first records.old ((rounds + 1) * first.plan.n) }
+    ensures { (make : Maker) → Plays (F.pre player) (F.post player) make → records.new ≡ left_after make first records.old ((rounds + 1) * first.plan.n) }
+{
+    let mut t = first;
+    for _ in 0..((rounds as usize) + 1) * first.plan.n {
+        let after = player(t, records[t.at]);
+        records[t.at] = after;
+        t = playing::next_turn(t, after.state);
     }
 }
 
-// Plays some turns, one record a turn, in place.
-fn play_turns(t: Turn, turns: usize, words: &[u32], records: &mut [Record])
-    requires { CanPlay (record_of words.now) t records.old turns }
-    ensures { records.new ≡ left_after (record_of words.now) t records.old turns }
+// The run over records of which `places` are counted, changed in place. A refused run changes none.
+fn run_over(
+    p: Plan,
+    faulty: u32,
+    first: u32,
+    later: &[u32],
+    rounds: u8,
+    words: &[u32],
+    places: usize,
+    records: &mut [Record],
+) -> Result<(), RunError>
+    requires { run_cause p faulty first later.now rounds (length words.now) places ≡ 0 → p.n ≤ length records.old }
+    ensures outcome { number_of result ≡ run_cause p faulty first later.now rounds (length words.now) places }
+    ensures left { records.new ≡ left_after (record_of words.now) (first_turn p faulty first later.now 0) records.old (turns_of p faulty first later.now rounds (length words.now) places) }
 {
-    let mut u = t;
-    let mut k = 0;
-    while k < turns {
-        let m = playing::play(u, words, records[u.at]);
-        records[u.at] = m.after;
-        u = m.turn;
-        k += 1;
-    }
-}
-
-// The same on an array by value: whoever has the records in an array calls this, and needs no walk.
-fn play_array(t: Turn, turns: usize, words: &[u32], records: [Record; 20]) -> [Record; 20]
-    requires { CanPlay (record_of words.now) t records turns }
-    ensures { result ≡ left_after (record_of words.now) t records turns }
-{
-    let mut s = records;
-    play_turns(t, turns, words, &mut s);
-    s
+    judge(p, faulty, first, later, rounds, words.len(), places)?;
+    let player = |t: Turn, before: Record| playing::record_of(t, words, before);
+    play(
+        first_turn(p, faulty, first, later, 0),
+        rounds,
+        player,
+        records,
+    );
+    Ok(())
 }
 
 // The run by value. later[r - 1] is what the office issues in round r; a zero in either half of it is
@@ -265,12 +225,9 @@ pub fn run_site(p: Plan, faulty: u32, first: u32, later: &[u32], rounds: u8, wor
     ensures records_after { result.records ≡ array_after p faulty first later.now rounds words.now }
     ensures demand3 { number_of result.outcome ≡ 0 → Demand3Holds p faulty first later.now rounds words.now result.records }
 {
-    let b = begin(p, faulty, first, later, rounds, words.len(), p.n);
-    let outcome = b.outcome;
-    Ran {
-        outcome: outcome,
-        records: play_array(b.turn, b.turns, words, [terminal::start(); 20]),
-    }
+    let mut records = [terminal::start(); 20];
+    let outcome = run_over(p, faulty, first, later, rounds, words, p.n, &mut records);
+    Ran { outcome, records }
 }
 
 // The run over records that are lent, changed in place. A refused run changes none.
@@ -282,42 +239,23 @@ pub fn run(
     rounds: u8,
     words: &[u32],
     records: &mut [Record],
-) -> Outcome
+) -> Result<(), RunError>
     ensures outcome { number_of result ≡ run_cause p faulty first later.now rounds (length words.now) (length records.old) }
     ensures records_after { records.new ≡ records_after p faulty first later.now rounds words.now records.old }
     ensures demand3 { number_of result ≡ 0 → Demand3Holds p faulty first later.now rounds words.now records.new }
 {
-    let b = begin(p, faulty, first, later, rounds, words.len(), records.len());
-    play_turns(b.turn, b.turns, words, records);
-    b.outcome
+    let places = records.len();
+    run_over(p, faulty, first, later, rounds, words, places, records)
 }
 
 // ---- On a shared channel, where every word reaches all who hear its sender and the source may be bad. Words,
-// the source's value and the default are layouts.
-
-fn shared_turn(p: Plan, faulty: u32, value: u16, default: u16) -> Turn
-    ensures { result ≡ first_turn p faulty (notice_of 1 value) [] default }
-{
-    Turn {
-        plan: p,
-        faulty: faulty,
-        first: quorum::notice_of(1, value),
-        later: [0u32; 40],
-        round: 0,
-        at: 0,
-        spoken: [0u32; 20],
-        next: [0u32; 20],
-        default: default,
-    }
-}
+// the source's value and the default are layouts. Causes, lists and lengths are others than above, so each function that
+// asks for them has its own here; the loop over the turns and the first of them are one for both.
 
 fn shared_start_sound(value: u16, default: u16, rounds: u8) -> bool
     ensures { result ≡ shared_start_sound value default rounds }
 {
-    if quorum::start_sound(value, rounds) {
-        return default != 0;
-    }
-    false
+    quorum::start_sound(value, rounds) && default != 0
 }
 
 // The lists fit: a word for each round and sender, and a record for each terminal.
@@ -325,40 +263,11 @@ fn shared_lists_fit(p: Plan, rounds: u8, words: usize, places: usize) -> bool
     requires { (p.n ≤ 20) × (rounds ≤ 40) }
     ensures { result ≡ shared_lists_fit p rounds words places }
 {
-    let n = p.n;
-    if words == (rounds as usize) * n {
-        return places == n;
-    }
-    false
-}
-
-// The first cause that applies.
-fn shared_cause(
-    p: Plan,
-    faulty: u32,
-    value: u16,
-    default: u16,
-    rounds: u8,
-    words: usize,
-    places: usize,
-) -> Outcome
-    ensures { number_of result ≡ shared_run_cause p faulty value default rounds words places }
-{
-    let fault = refused(faults::check_shared_fault_set(p, faulty));
-    if let Outcome::Played = fault {
-        if shared_start_sound(value, default, rounds) {
-            if shared_lists_fit(p, rounds, words, places) {
-                return Outcome::Played;
-            }
-            return Outcome::WrongLength;
-        }
-        return Outcome::WrongStart;
-    }
-    fault
+    words == (rounds as usize) * p.n && places == p.n
 }
 
 // Judges a run, before a record is touched.
-fn begin_shared(
+fn judge_shared(
     p: Plan,
     faulty: u32,
     value: u16,
@@ -366,48 +275,45 @@ fn begin_shared(
     rounds: u8,
     words: usize,
     places: usize,
-) -> Begun
-    ensures { (number_of result.outcome ≡ shared_run_cause p faulty value default rounds words places) × (result.turn ≡ first_turn p faulty (notice_of 1 value) [] default) × (result.turns ≡ shared_turns_of p faulty value default rounds words places) }
+) -> Result<(), RunError>
+    ensures { number_of result ≡ shared_run_cause p faulty value default rounds words places }
 {
-    let outcome = shared_cause(p, faulty, value, default, rounds, words, places);
-    let turn = shared_turn(p, faulty, value, default);
-    if let Outcome::Played = outcome {
-        return Begun {
-            outcome: Outcome::Played,
-            turn: turn,
-            turns: ((rounds as usize) + 1usize) * p.n,
-        };
+    faults::check_shared_fault_set(p, faulty)?;
+    if !shared_start_sound(value, default, rounds) {
+        return Err(RunError::WrongStart);
     }
-    Begun {
-        outcome: outcome,
-        turn: turn,
-        turns: 0usize,
+    if !shared_lists_fit(p, rounds, words, places) {
+        return Err(RunError::WrongLength);
     }
+    Ok(())
 }
 
-// Plays some turns, one record a turn, in place.
-fn play_shared_turns(t: Turn, turns: usize, words: &[u16], records: &mut [Record])
-    requires { CanPlay (shared_record_of words.now) t records.old turns }
-    ensures { records.new ≡ left_after (shared_record_of words.now) t records.old turns }
+// The run over records of which `places` are counted, changed in place. A refused run changes none. It is judged by
+// other causes and of other arguments than run_over, so the two are not one function.
+fn run_shared_over(
+    p: Plan,
+    faulty: u32,
+    value: u16,
+    default: u16,
+    rounds: u8,
+    words: &[u16],
+    places: usize,
+    records: &mut [Record],
+) -> Result<(), RunError>
+    requires { shared_run_cause p faulty value default rounds (length words.now) places ≡ 0 → p.n ≤ length records.old }
+    ensures outcome { number_of result ≡ shared_run_cause p faulty value default rounds (length words.now) places }
+    ensures left { records.new ≡ left_after (shared_record_of words.now) (first_turn p faulty (notice_of 1 value) [] default) records.old (shared_turns_of p faulty value default rounds (length words.now) places) }
 {
-    let mut u = t;
-    let mut k = 0;
-    while k < turns {
-        let m = channel::play(u, words, records[u.at]);
-        records[u.at] = m.after;
-        u = m.turn;
-        k += 1;
-    }
-}
-
-// The same on an array by value.
-fn play_shared_array(t: Turn, turns: usize, words: &[u16], records: [Record; 20]) -> [Record; 20]
-    requires { CanPlay (shared_record_of words.now) t records turns }
-    ensures { result ≡ left_after (shared_record_of words.now) t records turns }
-{
-    let mut s = records;
-    play_shared_turns(t, turns, words, &mut s);
-    s
+    judge_shared(p, faulty, value, default, rounds, words.len(), places)?;
+    let first = quorum::notice_of(1, value);
+    let player = |t: Turn, before: Record| channel::record_of(t, words, before);
+    play(
+        first_turn(p, faulty, first, &[], default),
+        rounds,
+        player,
+        records,
+    );
+    Ok(())
 }
 
 // The run by value.
@@ -423,12 +329,9 @@ pub fn run_shared_site(
     ensures records_after { result.records ≡ shared_array_after p faulty value default rounds words.now }
     ensures agreement { number_of result.outcome ≡ 0 → AgreementHolds p faulty value default rounds words.now result.records }
 {
-    let b = begin_shared(p, faulty, value, default, rounds, words.len(), p.n);
-    let outcome = b.outcome;
-    Ran {
-        outcome: outcome,
-        records: play_shared_array(b.turn, b.turns, words, [terminal::start(); 20]),
-    }
+    let mut records = [terminal::start(); 20];
+    let outcome = run_shared_over(p, faulty, value, default, rounds, words, p.n, &mut records);
+    Ran { outcome, records }
 }
 
 // The run over records that are lent, changed in place. A refused run changes none.
@@ -440,20 +343,11 @@ pub fn run_shared(
     rounds: u8,
     words: &[u16],
     records: &mut [Record],
-) -> Outcome
+) -> Result<(), RunError>
     ensures outcome { number_of result ≡ shared_run_cause p faulty value default rounds (length words.now) (length records.old) }
     ensures records_after { records.new ≡ shared_records_after p faulty value default rounds words.now records.old }
     ensures agreement { number_of result ≡ 0 → AgreementHolds p faulty value default rounds words.now records.new }
 {
-    let b = begin_shared(
-        p,
-        faulty,
-        value,
-        default,
-        rounds,
-        words.len(),
-        records.len(),
-    );
-    play_shared_turns(b.turn, b.turns, words, records);
-    b.outcome
+    let places = records.len();
+    run_shared_over(p, faulty, value, default, rounds, words, places, records)
 }

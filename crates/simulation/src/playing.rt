@@ -3,10 +3,10 @@ ghost use Rattle.std.specs.Prelude.{◌≡◌, ◌+◌, ◌<◌, ◌≤◌};
 ghost use Rattle.propagation.specs.Run.{start_record, script_of};
 ghost use Rattle.terminal.specs.Rule.{says_in};
 ghost use Rattle.terminal.specs.Shown.{shown};
-ghost use Rattle.simulation.specs.Turns.{heard_in, issued_in, record_of, next_turn, made_of};
-ghost use Rattle.sets.specs.Tables.{table};
+ghost use Rattle.simulation.specs.Turns.{heard_where, issued_in, record_of, next_turn};
 
-use super::{Made, Turn};
+use super::Turn;
+use std::array;
 use terminal::{Record, State};
 
 // The word of a round, a sender and a hearer; 0 past the list's end.
@@ -15,48 +15,27 @@ fn word(words: &[u32], n: usize, round: u8, sender: usize, hearer: usize) -> u32
     ensures { result ≡ script_of n words.now round sender hearer }
 {
     let k = ((round as usize) - 1) * (n * n) + sender * n + hearer;
-    if k < words.len() {
-        return words[k];
-    }
-    0
+    words.get(k).copied().unwrap_or(0)
 }
 
-fn heard_from(t: Turn, words: &[u32], j: usize) -> u32
-    requires { (t.plan.n ≤ 20) × (t.at < t.plan.n) × (1 ≤ t.round) × (t.round ≤ 40) × (j < 20) }
-    ensures { result ≡ heard_in t words.now j }
+// What the terminal whose turn it is hears from terminal j, where `word` is the script's: a bad one says it.
+pub(crate) fn heard_from(t: Turn, j: usize, word: u32) -> u32
+    requires { (t.plan.n ≤ 20) × (t.at < t.plan.n) × (j < 20) }
+    ensures { result ≡ heard_where t j word }
 {
-    let plan = t.plan;
-    let rows = plan.rows;
-    let at = t.at;
-    let spoken = t.spoken;
-    if sets::member(rows[at], j) {
-        if sets::member(t.faulty, j) {
-            return word(words, plan.n, t.round, j, at);
-        }
-        return spoken[j];
+    if !sets::member(t.plan.rows[t.at], j) {
+        0
+    } else if sets::member(t.faulty, j) {
+        word
+    } else {
+        t.spoken[j]
     }
-    0
-}
-
-// All that the terminal hears this round.
-fn heard(t: Turn, words: &[u32]) -> [u32; 20]
-    requires { (t.plan.n ≤ 20) × (t.at < t.plan.n) × (1 ≤ t.round) × (t.round ≤ 40) }
-    ensures { result ≡ table 20 (heard_in t words.now) }
-{
-    let mut said = [0u32; 20];
-    let mut j = 0;
-    while j < 20 {
-        said[j] = heard_from(t, words, j);
-        j += 1;
-    }
-    said
 }
 
 pub(crate) fn start_record(t: Turn) -> Record
     ensures { result ≡ shown (start_record t.plan t.first t.at) }
 {
-    let plan = t.plan;
-    if t.at == plan.source {
+    if t.at == t.plan.source {
         return terminal::source_start(t.first);
     }
     terminal::start()
@@ -67,37 +46,35 @@ fn issued(t: Turn, stepped: Record) -> Record
     requires { (1 ≤ t.round) × (t.round ≤ 40) }
     ensures { result ≡ issued_in t stepped }
 {
-    let plan = t.plan;
-    let later = t.later;
-    if t.at == plan.source {
-        let notice = later[(t.round - 1) as usize];
-        if quorum::silent(notice) {
-            return stepped;
-        }
-        let taken = terminal::issue(stepped, notice);
-        return taken.after;
+    let notice = t.later[(t.round - 1) as usize];
+    if t.at == t.plan.source && !quorum::silent(notice) {
+        return terminal::issue(stepped, notice).after;
     }
     stepped
 }
 
 // The record after the turn. A bad terminal is not played.
-fn record_of(t: Turn, words: &[u32], before: Record) -> Record
+pub(crate) fn record_of(t: Turn, words: &[u32], before: Record) -> Record
     requires { (t.plan.n ≤ 20) × (t.at < t.plan.n) × (t.round ≤ 40) }
     ensures { result ≡ record_of words.now t before }
 {
-    let plan = t.plan;
-    let rows = plan.rows;
-    let bound = plan.bound;
-    let n = plan.n;
-    let at = t.at;
     if t.round == 0 {
         return start_record(t);
     }
-    if sets::member(t.faulty, at) {
+    if sets::member(t.faulty, t.at) {
         return terminal::start();
     }
-    let said = heard(t, words);
-    let stepped = terminal::step(n, plan.source, bound, at, rows[at], before, &said[..n]);
+    let p = t.plan;
+    let said: [u32; 20] = array::from_fn(|j| heard_from(t, j, word(words, p.n, t.round, j, t.at)));
+    let stepped = terminal::step(
+        p.n,
+        p.source,
+        p.bound,
+        t.at,
+        p.rows[t.at],
+        before,
+        &said[..p.n],
+    );
     issued(t, stepped.after)
 }
 
@@ -108,68 +85,33 @@ fn says_in(round: u8, state: State) -> u32
 {
     match state {
         State::Waiting => 0,
-        State::Taken(at, notice) => {
-            if (at as u16) + 1 == round as u16 {
-                return notice;
-            }
+        State::Taken(at, notice) => if (at as u16) + 1 == round as u16 {
+            notice
+        } else {
             0
-        }
+        },
     }
 }
 
-fn next_turn(t: Turn, word: u32) -> Turn
+// The turn after one that left its terminal in a state.
+pub(crate) fn next_turn(t: Turn, state: State) -> Turn
     requires { (t.plan.n ≤ 20) × (t.at < t.plan.n) × (t.round ≤ 40) }
-    ensures { result ≡ next_turn t word }
+    ensures { result ≡ next_turn t (says_in (t.round + 1) state) }
 {
-    let plan = t.plan;
-    let at = t.at;
-    let spoken = t.spoken;
-    let later = t.later;
     let mut next = t.next;
-    next[at] = word;
-    if at + 1 < plan.n {
+    next[t.at] = says_in(t.round + 1, state);
+    if t.at + 1 < t.plan.n {
         return Turn {
-            plan: plan,
-            faulty: t.faulty,
-            first: t.first,
-            later: later,
-            round: t.round,
-            at: at + 1,
-            spoken: spoken,
-            next: next,
-            default: t.default,
+            at: t.at + 1,
+            next,
+            ..t
         };
     }
     Turn {
-        plan: plan,
-        faulty: t.faulty,
-        first: t.first,
-        later: later,
         round: t.round + 1,
         at: 0,
         spoken: next,
-        next: [0u32; 20],
-        default: t.default,
+        next: [0; 20],
+        ..t
     }
-}
-
-// The turn after one that made a record.
-pub(crate) fn made(t: Turn, after: Record) -> Made
-    requires { (t.plan.n ≤ 20) × (t.at < t.plan.n) × (t.round ≤ 40) }
-    ensures { result ≡ record { turn = next_turn t (says_in (t.round + 1) after.state); after = after } }
-{
-    let state = after.state;
-    Made {
-        turn: next_turn(t, says_in(t.round + 1, state)),
-        after: after,
-    }
-}
-
-// One turn, by value.
-pub(crate) fn play(t: Turn, words: &[u32], before: Record) -> Made
-    requires { (t.plan.n ≤ 20) × (t.at < t.plan.n) × (t.round ≤ 40) }
-    ensures { result ≡ made_of (record_of words.now) t before }
-{
-    let after = record_of(t, words, before);
-    made(t, after)
 }

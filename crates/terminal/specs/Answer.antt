@@ -1,6 +1,6 @@
 -- What the step, and the office's notice to its own terminal, answer for all arguments: the documents' number for each cause of refusal, and the record.
 -- Assumes nothing.
-use Rattle.std.specs.Prelude.{ℕ, Bool, true, not, List, [], ◌∷◌, eqb, ltb, leb, length, get_or}
+use Rattle.std.specs.Prelude.{ℕ, Result, Ok, Err, Bool, true, not, List, [], ◌∷◌, eqb, ltb, leb, length, get_or}
 use Rattle.sets.specs.Tests.{◌and◌, ◌implies◌, pick}
 use Rattle.sets.specs.Causes.{◌gives◌, first_cause}
 use Rattle.sets.specs.Sets.{Terminal, Set, mem, all}
@@ -12,21 +12,21 @@ use Rattle.terminal.specs.declared.State.{State}
 use Rattle.terminal.specs.declared.State.TheVariants.{Waiting, Taken}
 use Rattle.terminal.specs.declared.Note.{Note}
 use Rattle.terminal.specs.declared.Record.{Record}
-use Rattle.terminal.specs.declared.Outcome.{Outcome}
-use Rattle.terminal.specs.declared.Outcome.TheVariants.{Accepted, WrongRange, WrongLink, WrongGroups, WrongLayout, WrongEdition, WrongLength, WrongRecord}
+use Rattle.terminal.specs.declared.StepError.{StepError}
+use Rattle.terminal.specs.declared.StepError.TheVariants.{WrongRange, WrongLink, WrongGroups, WrongLayout, WrongEdition, WrongLength, WrongRecord}
 use Rattle.terminal.specs.Rule.{Round, held_by, step}
 use Rattle.terminal.specs.Shown.{note_of, view_of, shown_over}
 
 -- the documents' number of each outcome, 0 where nothing is refused
-abbrev pub number_of : Outcome → ℕ
-number_of Accepted = 0
-number_of WrongRange = 4
-number_of WrongLink = 5
-number_of WrongGroups = 17
-number_of WrongLayout = 9
-number_of WrongEdition = 16
-number_of WrongLength = 12
-number_of WrongRecord = 13
+abbrev pub number_of : Result Unit StepError → ℕ
+number_of (Ok done) = 0
+number_of (Err WrongRange) = 4
+number_of (Err WrongLink) = 5
+number_of (Err WrongGroups) = 17
+number_of (Err WrongLayout) = 9
+number_of (Err WrongEdition) = 16
+number_of (Err WrongLength) = 12
+number_of (Err WrongRecord) = 13
 
 -- not the source waiting; not taken later than the record's round, nor with edition 0 or layout 0 (document 02, P8)
 unfoldable pub state_sound : State → (isSource : Bool) (round : Round) → Bool

@@ -1,16 +1,20 @@
--- What the functions that look for a certified value promise each other: the code's notes one by one, and sets of neighbours in the place of counts. No caller
--- of the step sees this: proofs/Search.antt shows that what they find is the rule's choice. Assumes nothing.
-use Rattle.std.specs.Prelude.{ℕ, ◌≤◌, ◌<◌, ◌≡◌, true, List, eqb, ltb, get_or}
+-- What the functions that look for a certified value promise each other: the code's notes one by one, and sets of neighbours in the place of counts; and what
+-- those that look for a cause of refusal do. No caller of the step sees this: proofs/Search.antt shows that what the former find is the rule's choice, and
+-- proofs/Refused.antt that the latter find the step's cause. Assumes nothing.
+use Rattle.std.specs.Prelude.{ℕ, ◌≤◌, ◌<◌, ◌≡◌, true, not, List, [], ◌∷◌, eqb, ltb, get_or}
 use Rattle.std.specs.Int.Bits.{bit_or}
 use Rattle.sets.specs.Tests.{◌and◌, pick}
+use Rattle.sets.specs.Causes.{◌gives◌, first_cause}
 use Rattle.sets.specs.Sets.{Terminal, Set, mem, mask}
 use Rattle.quorum.specs.declared.Bound.{Bound}
-use Rattle.quorum.specs.Quorum.{enough}
+use Rattle.quorum.specs.Quorum.{in_range, others, groups_sound, enough}
 use Rattle.quorum.specs.Notice.{Edition, Layout}
 use Rattle.quorum.specs.Words.{most_rounds}
 use Rattle.terminal.specs.declared.Note.{Note}
+use Rattle.terminal.specs.declared.Record.{Record}
 use Rattle.terminal.specs.Rule.{among}
 use Rattle.terminal.specs.Shown.{note_of, values_in}
+use Rattle.terminal.specs.Answer.{record_sound}
 
 -- the notes of a set of neighbours have no more values than there are places
 abbrev pub HavePlaces : Set → List Note → Type 0
@@ -56,3 +60,22 @@ speakers_in n notes heard edition = mask n (λ j. eqb (note_of notes j).edition 
 
 unfoldable pub above_in : (n : ℕ) (notes : List Note) (heard : Set) (held : Edition) → Set
 above_in n notes heard held = mask n (λ j. ltb held (note_of notes j).edition and mem j heard)
+
+-- ---- the causes of refusal, in two parts: a shared channel has one more between them
+
+unfoldable pub site_cause_of : (n : ℕ) (source : Terminal) (bound : Bound) (own : Terminal) (heard : Set) → ℕ
+site_cause_of n source bound own heard =
+    first_cause (
+    not (in_range n source bound.kind) gives 4
+    ∷ not (others n own heard) gives 5
+    ∷ not (groups_sound n source bound) gives 17
+    ∷ []
+    )
+
+unfoldable pub record_cause_of : (n : ℕ) (source own : Terminal) (heard : Set) → Record → (words : ℕ) → ℕ
+record_cause_of n source own heard r words =
+    first_cause (
+    not (record_sound n source own heard r) gives 13
+    ∷ not (eqb words n) gives 12
+    ∷ []
+    )

@@ -1,39 +1,32 @@
 // One round on a shared channel, where the source itself may be bad.
-ghost use Rattle.std.specs.Prelude.{◌≡◌, ◌+◌, ◌<◌, ◌≤◌, eqb, length, get_or};
-ghost use Rattle.sets.specs.Tests.{◌or◌, pick};
+ghost use Rattle.std.specs.Prelude.{◌≡◌, ◌<◌, ◌≤◌, length, get_or};
 ghost use Rattle.sets.specs.Tables.{table};
 ghost use Rattle.sets.specs.Sets.{mem};
-ghost use Rattle.quorum.specs.Notice.{notice_of, first_edition};
-ghost use Rattle.terminal.specs.declared.State.TheVariants.{Taken};
+ghost use Rattle.quorum.specs.Notice.{first_edition};
 ghost use Rattle.terminal.specs.Shown.{Whole, view_of, shown_over};
 ghost use Rattle.terminal.specs.Votes.{HaveRoom};
 ghost use Rattle.terminal.specs.Answer.{number_of};
-ghost use Rattle.terminal.specs.Channel.{first_hearing, word_or, shared_step};
+ghost use Rattle.terminal.specs.Channel.{first_hearing, word_or, shared_step, shared_cause_of};
 
-use super::{Outcome, Record, State, number, play};
+use super::{Record, State, StepError, play, record_cause, site_cause};
 use quorum::Bound;
+use std::array;
 
 // What terminal j said, as a notice; silence past the list's end.
 fn notice_at(said: &[u16], j: usize) -> u32
     ensures { result ≡ first_edition (get_or said.now j 0) }
 {
-    if j < said.len() {
-        return quorum::first_edition(said[j]);
+    match said.get(j) {
+        Some(layout) => quorum::first_edition(*layout),
+        None => 0,
     }
-    0
 }
 
 // All that was said.
 pub fn notices(said: &[u16]) -> [u32; 20]
     ensures { result ≡ table 20 (λ j. first_edition (get_or said.now j 0)) }
 {
-    let mut all = [0u32; 20];
-    let mut j = 0;
-    while j < 20 {
-        all[j] = notice_at(said, j);
-        j += 1;
-    }
-    all
+    array::from_fn(|j| notice_at(said, j))
 }
 
 // Round 1 of a terminal that waits and hears the source.
@@ -41,12 +34,7 @@ pub fn first_hearing(state: State, round: u8, hears_source: bool) -> bool
     ensures { result ≡ first_hearing state round hears_source }
 {
     match state {
-        State::Waiting => {
-            if round == 0 {
-                return hears_source;
-            }
-            false
-        }
+        State::Waiting => round == 0 && hears_source,
         State::Taken(_, _) => false,
     }
 }
@@ -54,23 +42,7 @@ pub fn first_hearing(state: State, round: u8, hears_source: bool) -> bool
 pub fn word_or(default: u16, word: u16) -> u16
     ensures { result ≡ word_or default word }
 {
-    if word == 0 {
-        return default;
-    }
-    word
-}
-
-// The record after a round of it, where this was its first and it hears the source: it has taken.
-fn taken_first(stepped: Record, layout: u16) -> Record
-    ensures { result ≡ record { state = Taken stepped.round (notice_of 1 layout); round = stepped.round; notes = stepped.notes } }
-{
-    let round = stepped.round;
-    let notes = stepped.notes;
-    Record {
-        state: State::Taken(round, quorum::notice_of(1, layout)),
-        round: round,
-        notes: notes,
-    }
+    if word == 0 { default } else { word }
 }
 
 // The round of a record that can be stepped: the old rules, but for whoever hears the source in round 1.
@@ -87,33 +59,32 @@ pub(crate) fn play_shared(
     requires { (n ≤ 20) × (source < n) × (length said.now ≡ n) × (before.round < 40) × Whole before.notes × HaveRoom heard before.notes }
     ensures { result ≡ shown_over (λ j. mem j heard) before (shared_step n source bound own heard default (λ j. get_or said.now j 0) (view_of before)) }
 {
-    let state = before.state;
-    let round = before.round;
     let all = notices(said);
-    let stepped = play(n, source, bound, own, heard, before, &all[..n]);
-    if first_hearing(state, round, sets::member(heard, source)) {
-        return taken_first(stepped, word_or(default, said[source]));
+    let mut after = play(n, source, bound, own, heard, before, &all[..n]);
+    if first_hearing(before.state, before.round, sets::member(heard, source)) {
+        let layout = word_or(default, said[source]);
+        after.state = State::Taken(after.round, quorum::notice_of(1, layout));
     }
-    stepped
+    after
 }
 
-// The first cause that applies, from that of a step: a default that is 0 comes after the site's causes and
-// before those of the record and the list.
-pub(crate) fn with_nine(found: Outcome, default: u16) -> Outcome
-    ensures { number_of result ≡ pick (eqb (number_of found) 4 or eqb (number_of found) 5 or eqb (number_of found) 17) (number_of found) (pick (eqb default 0) 9 (number_of found)) }
+// The first cause that applies: a default that is 0 comes after the site's causes and before those of the
+// record and the list.
+pub(crate) fn first_cause(
+    n: usize,
+    source: usize,
+    bound: Bound,
+    own: usize,
+    heard: u32,
+    default: u16,
+    before: &Record,
+    words: usize,
+) -> Result<(), StepError>
+    ensures { (number_of result ≡ shared_cause_of n source bound own heard default before.now words) × (number_of result ≡ 0 → Whole before.now.notes) }
 {
-    let cause = number(found);
-    if cause == 4 {
-        return found;
-    }
-    if cause == 5 {
-        return found;
-    }
-    if cause == 17 {
-        return found;
-    }
+    site_cause(n, source, bound, own, heard)?;
     if default == 0 {
-        return Outcome::WrongLayout;
+        return Err(StepError::WrongLayout);
     }
-    found
+    record_cause(n, source, own, heard, before, words)
 }

@@ -12,53 +12,35 @@ use super::{Note, choice};
 use quorum::Bound;
 
 // Those of a set whose note has this edition.
-fn speakers(notes: [Note; 20], n: usize, heard: u32, edition: u16) -> u32
+fn speakers(notes: &[Note; 20], n: usize, heard: u32, edition: u16) -> u32
     requires { n ≤ 20 }
-    ensures { result ≡ speakers_in n notes heard edition }
+    ensures { result ≡ speakers_in n notes.now heard edition }
 {
-    let mut who: u32 = 0;
-    let mut j: usize = 0;
-    while j < n {
-        let note = notes[j];
-        let same = (note.edition == edition) as u32;
-        who = who | (same << j);
-        j += 1;
-    }
-    who & heard
+    sets::those(n, |j| notes[j].edition == edition) & heard
 }
 
 // Those of a set whose note has a higher edition.
-fn above(notes: [Note; 20], n: usize, heard: u32, held: u16) -> u32
+fn above(notes: &[Note; 20], n: usize, heard: u32, held: u16) -> u32
     requires { n ≤ 20 }
-    ensures { result ≡ above_in n notes heard held }
+    ensures { result ≡ above_in n notes.now heard held }
 {
-    let mut who: u32 = 0;
-    let mut j: usize = 0;
-    while j < n {
-        let note = notes[j];
-        let higher = (held < note.edition) as u32;
-        who = who | (higher << j);
-        j += 1;
-    }
-    who & heard
+    sets::those(n, |j| held < notes[j].edition) & heard
 }
 
 // The layout that is chosen in an edition, where `who` has said something in it. The source's word
 // qualifies by itself; without it nothing does where they are not enough.
-fn layout_in(notes: [Note; 20], n: usize, source: usize, bound: Bound, who: u32) -> u16
-    requires { (n ≤ 20) × (source < n) × (who < 2 ^ n) × Whole notes × HavePlaces who notes }
-    ensures { result ≡ choice n source bound who (map values_in notes) }
+fn layout_in(notes: &[Note; 20], n: usize, source: usize, bound: Bound, who: u32) -> u16
+    requires { (n ≤ 20) × (source < n) × (who < 2 ^ n) × Whole notes.now × HavePlaces who notes.now }
+    ensures { result ≡ choice n source bound who (map values_in notes.now) }
 {
-    if sets::member(who, source) {
-        return choice::choice(notes, n, source, bound, who);
+    if !sets::member(who, source) && !quorum::enough(bound, who) {
+        return 0;
     }
-    if quorum::enough(bound, who) {
-        return choice::choice(notes, n, source, bound, who);
-    }
-    0
+    choice::choice(notes, n, source, bound, who)
 }
 
-// An edition in which something qualifies, and the layout; 0 and 0 for none.
+// An edition in which something qualifies, and the layout; 0 and 0 for none. No Option, since edition 0 is none in
+// the documents too, and every edition is above it.
 #[derive(Clone, Copy)]
 pub(crate) struct Best {
     pub edition: u16,
@@ -69,52 +51,44 @@ pub(crate) struct Best {
 fn better(best: Best, edition: u16, layout: u16) -> Best
     ensures { result ≡ pick (ltb best.edition edition and not (eqb layout 0)) (record { edition = edition; layout = layout }) best }
 {
-    if best.edition < edition {
-        if layout != 0 {
-            return Best {
-                edition: edition,
-                layout: layout,
-            };
-        }
+    if best.edition < edition && layout != 0 {
+        return Best { edition, layout };
     }
     best
 }
 
 // The highest edition above the one that is held in which something qualifies.
-fn newest(notes: [Note; 20], n: usize, source: usize, bound: Bound, heard: u32, held: u16) -> Best
-    requires { (n ≤ 20) × (source < n) × Whole notes × HavePlaces heard notes }
-    ensures { (result.edition ≡ newest n source bound heard (map spoken_in notes) held) × ((result.edition ≡ 0 → ⊥) → result.layout ≡ layout_in n source bound heard (map spoken_in notes) result.edition) }
+fn newest(notes: &[Note; 20], n: usize, source: usize, bound: Bound, heard: u32, held: u16) -> Best
+    requires { (n ≤ 20) × (source < n) × Whole notes.now × HavePlaces heard notes.now }
+    ensures { (result.edition ≡ newest n source bound heard (map spoken_in notes.now) held) × ((result.edition ≡ 0 → ⊥) → result.layout ≡ layout_in n source bound heard (map spoken_in notes.now) result.edition) }
 {
     let mut best = Best {
         edition: 0,
         layout: 0,
     };
     let mut rest = above(notes, n, heard, held);
-    let mut j: usize = 0;
-    while j < n {
-        if sets::member(rest, j) {
-            let edition = notes[j].edition;
-            let who = speakers(notes, n, heard, edition);
-            best = better(best, edition, layout_in(notes, n, source, bound, who));
-            rest = rest & !who;
-            j += 1;
-        } else {
-            j += 1;
+    for j in 0..n {
+        if !sets::member(rest, j) {
+            continue;
         }
+        let edition = notes[j].edition;
+        let who = speakers(notes, n, heard, edition);
+        best = better(best, edition, layout_in(notes, n, source, bound, who));
+        rest &= !who;
     }
     best
 }
 
 pub(crate) fn chosen(
-    notes: [Note; 20],
+    notes: &[Note; 20],
     n: usize,
     source: usize,
     bound: Bound,
     heard: u32,
     held: u16,
 ) -> u32
-    requires { (n ≤ 20) × (source < n) × Whole notes × HavePlaces heard notes }
-    ensures { result ≡ chosen n source bound heard (map spoken_in notes) held }
+    requires { (n ≤ 20) × (source < n) × Whole notes.now × HavePlaces heard notes.now }
+    ensures { result ≡ chosen n source bound heard (map spoken_in notes.now) held }
 {
     let best = newest(notes, n, source, bound, heard, held);
     if best.edition == 0 {

@@ -8,8 +8,8 @@ use native.Mathlib.Nat.{zero-add}
 use native.Mathlib.Numerals.{add-one}
 use native.Mathlib.Omega.{arith}
 use lib.Dec.{eqb, ltb}
-use lib.ListN.{length, get_or, take, drop, set, length-take, length-append}
-use lib.Seq.{take_all, take-append-le, take-append_seam, take-suc-set, sets, sets-eq, paste, paste-suc}
+use lib.ListN.{length, take, drop, set, length-take, length-append}
+use lib.Seq.{take_all, take-append-le, take-append_seam, take-suc-set, sets, sets-eq}
 use borrow.Author.Tests.{ne_eqb, lt-ltb, le-ltb, ltb-false}
 use Rattle.sets.specs.Causes.{◌gives◌, first_cause}
 use Rattle.sets.proofs.Bools.{and_i, not_i, pick_yes, pick_no, pick_case, every}
@@ -17,7 +17,6 @@ use Rattle.sets.proofs.Causes.{cause_here, cause_none, given_passes, given_decid
 use Rattle.sets.proofs.Laws.{equal_or_not}
 use Rattle.digits.specs.Digits.{character_of}
 use Rattle.digits.proofs.Laws.{character_no_end}
-use Rattle.text.specs.declared.Written.{Written}
 use Rattle.text.specs.Digits.{hex_byte, decimal}
 use Rattle.text.specs.Texts.{joined, written_of, put_into}
 
@@ -75,21 +74,7 @@ module _ (bytes : List ℕ) (len b : ℕ) (room : length bytes ≡ 344) where
       ∙ sym (take-append-le 344 bytes (b ∷ []) k)
       ∙ ap (λ (l : List ℕ). joined l (b ∷ [])) (sym all)
 
--- ---- one byte of a copy
-
-pub pasted : (out from : List ℕ) (i : ℕ) → i < length out → i < length from → set (paste out 0 from i) i (get_or from i 0) ≡ paste out 0 from (i + 1)
-pasted out from i o f =
-    let at : 0 + i ≡ i = zero-add i in
-    ap (λ (k : ℕ). set (paste out 0 from i) k (get_or from i 0)) (sym at)
-    ∙ paste-suc out 0 from i 0 (omega arith) f
-    ∙ ap (paste out 0 from) (sym (add-one i))
-
 -- ---- a text that is put into a list
-
-take_count : (n : ℕ) (l : List ℕ) → take (length (take n l)) l ≡ take n l
-take_count zero l = refl
-take_count (suc n) [] = refl
-take_count (suc n) (x ∷ l) = ap (λ (k : List ℕ). x ∷ k) (take_count n l)
 
 pub put_fits : (text out : List ℕ) → length text ≤ length out → put_into text out ≡ sets out 0 text
 unfolding put_into
@@ -99,13 +84,15 @@ pub put_short : (text out : List ℕ) → length out < length text → put_into 
 unfolding put_into
 put_short text out h = pick_yes _ _ _ (lt-ltb (length out) (length text) h)
 
-pub put_front : (bytes out : List ℕ) (len n : ℕ) → n ≡ length (take len bytes) → n ≤ length out → paste out 0 bytes n ≡ put_into (take len bytes) out
-put_front bytes out len n e k =
-    let fits : length (take len bytes) ≤ length out = omega arith in
-    ap (paste out 0 bytes) e
-    ∙ ap (λ (l : List ℕ). l ++ drop (0 + length (take len bytes)) out) (take_count len bytes)
-    ∙ sym (sets-eq (take len bytes) out 0 (omega arith))
-    ∙ sym (put_fits (take len bytes) out fits)
+-- the text's bytes are stored over the front of the list
+pub put_front : (own : List ℕ) {text part : List ℕ} (out : List ℕ) → own ≡ text → part ≡ own → length own ≤ length out
+    → part ++ drop (length own) out ≡ put_into text out
+put_front own {text} {part} out e f k =
+    ap (λ (l : List ℕ). l ++ drop (length own) out) f
+    ∙ sym (ap (λ (n : ℕ). own ++ drop n out) (zero-add (length own)))
+    ∙ sym (sets-eq own out 0 (omega arith))
+    ∙ sym (put_fits own out k)
+    ∙ ap (λ (l : List ℕ). put_into l out) e
 
 -- what is answered
 module _ (number len room : ℕ) where
@@ -131,10 +118,6 @@ module _ (number len room : ℕ) where
 pub written_within : (number len room : ℕ) → (written_of number len room).len ≤ room
 unfolding written_of
 written_within number len room = pick_case (λ (n : ℕ). n ≤ room) (ltb room len) 0 len (λ h. omega arith) (λ h. ltb-false room len h)
-
--- a text of the length that was counted
-pub counted : (w : Written) (number n len room : ℕ) → n ≡ len → w ≡ written_of number n room → w ≡ written_of number len room
-counted w number n len room e a = a ∙ ap (λ (k : ℕ). written_of number k room) e
 
 -- where nothing is refused, the list begins with the text, of the length that is answered
 pub put_back : (number : ℕ) (text out : List ℕ) → (written_of number (length text) (length out)).number ≡ 0

@@ -1,14 +1,17 @@
--- A phrase that is joined byte by byte, and texts that are compared byte by byte. Assumes nothing.
+-- A phrase that is joined byte by byte, and texts that are compared by the library. Assumes nothing.
 use Prim.Native.Nat.{ℕ, ◌+◌, ◌≤◌, ◌<◌}
 use mathlib.Core.Path.{◌≡◌, refl, sym, ap, ap₂, ◌∙◌}
-use mathlib.Core.Bool.{true, false}
+use mathlib.Core.Bool.{Bool, true, false, ◌&&◌}
 use mathlib.Core.List.{List, [], ◌∷◌, ◌++◌}
 use native.Mathlib.Numerals.{add-one}
 use native.Mathlib.Omega.{arith}
+use lib.Dec.{eqb}
 use lib.ListN.{length, get_or, take, length-take}
-use lib.Seq.{take_all, take-suc, get_or-take, ext_get_or}
+use lib.Pointwise.{pointwise}
+use lib.Seq.{take_all, take-suc}
 use borrow.Author.Tests.{eq-eqb, eqb-true}
-use Rattle.sets.proofs.Bools.{clash, and_l, and_r, and_i, no_by}
+use Rattle.sets.specs.Tests.{◌and◌}
+use Rattle.sets.proofs.Bools.{clash, and_l, and_r, and_i}
 use Rattle.text.specs.Texts.{joined}
 use Rattle.text.specs.Phrases.{same, begins}
 use Rattle.text.proofs.Laws.{then}
@@ -51,41 +54,24 @@ same_is (x ∷ xs) (y ∷ ys) h = ap₂ (λ (a : ℕ) (l : List ℕ). a ∷ l) (
 pub same_yes : (xs ys : List ℕ) → xs ≡ ys → same xs ys ≡ true
 same_yes xs ys e = ap (same xs) (sym e) ∙ same_refl xs
 
-pub same_no : (xs ys : List ℕ) → (xs ≡ ys → ⊥) → same xs ys ≡ false
-same_no xs ys f = no_by (λ h. f (same_is xs ys h))
+-- the library's test of two slices
+and_and : (a : Bool) {b c : Bool} → b ≡ c → (a && b) ≡ (a and c)
+unfolding ◌and◌
+and_and true e = e
+and_and false e = refl
 
--- a loop that compares the first n bytes, which are all of the text's
-module _ (own bytes : List ℕ) (len n : ℕ) (e : n ≡ length (take len own)) where
-  pub begins_short : length bytes < n → begins (take len own) bytes ≡ false
-  unfolding begins
-  begins_short h =
-      same_no _ _
-      (λ q. let k : length (take len own) ≡ length (take (length (take len own)) bytes) = ap length q in
-      omega (arith, k, length-take (length (take len own)) bytes))
+pub pointwise_same : (xs ys : List ℕ) → pointwise eqb xs ys ≡ same xs ys
+unfolding same
+pointwise_same [] [] = refl
+pointwise_same [] (y ∷ ys) = refl
+pointwise_same (x ∷ xs) [] = refl
+pointwise_same (x ∷ xs) (y ∷ ys) = and_and (eqb x y) (pointwise_same xs ys)
 
-  pub begins_differs : (i : ℕ) → i < n → (get_or own i 0 ≡ get_or bytes i 0 → ⊥) → begins (take len own) bytes ≡ false
-  unfolding begins
-  begins_differs i h f =
-      same_no _ _
-      (λ q. f
-      (sym (get_or-take len own i 0 (omega (arith, length-take len own)))
-      ∙ ap (λ (l : List ℕ). get_or l i 0) q
-      ∙ get_or-take (length (take len own)) bytes i 0 (omega arith)))
+-- by the bytes that are held
+pub same_as : (own bytes : List ℕ) {xs : List ℕ} {answer : Bool} → own ≡ xs → answer ≡ pointwise eqb own bytes → answer ≡ same xs bytes
+same_as own bytes e a = a ∙ pointwise_same own bytes ∙ ap (λ (l : List ℕ). same l bytes) e
 
-  pub begins_all : n ≤ length bytes → ((k : ℕ) → k < n → get_or own k 0 ≡ get_or bytes k 0) → begins (take len own) bytes ≡ true
-  unfolding begins
-  begins_all h f =
-      same_yes _ _
-      (ext_get_or 0 (take len own) (take (length (take len own)) bytes) (omega (arith, length-take (length (take len own)) bytes))
-      (λ k l.
-      get_or-take len own k 0 (omega (arith, length-take len own))
-      ∙ f k (omega arith)
-      ∙ sym (get_or-take (length (take len own)) bytes k 0 l)))
-
--- as many bytes: all of them are compared
-pub begins_is : (xs bytes : List ℕ) → length xs ≡ length bytes → begins xs bytes ≡ same xs bytes
+pub begins_with : (own bytes : List ℕ) {xs : List ℕ} {answer : Bool} → own ≡ xs → answer ≡ pointwise eqb own (take (length own) bytes)
+    → answer ≡ begins xs bytes
 unfolding begins
-begins_is xs bytes e = ap (same xs) (take_all (length xs) bytes (omega arith))
-
-pub length_same : (xs bytes : List ℕ) → (length xs ≡ length bytes → ⊥) → same xs bytes ≡ false
-length_same xs bytes f = same_no xs bytes (λ q. f (ap length q))
+begins_with own bytes e a = a ∙ pointwise_same own (take (length own) bytes) ∙ ap (λ (l : List ℕ). begins l bytes) e

@@ -2,8 +2,7 @@
 // lent list once it is whole.
 #![tactic(auto)]
 
-ghost use Rattle.std.specs.Prelude.{◌≡◌, [], ◌∷◌, ◌≤◌, ◌/◌, ◌%◌, length};
-ghost use Rattle.std.proofs.Math.Seq.{paste};
+ghost use Rattle.std.specs.Prelude.{◌≡◌, [], ◌∷◌, ◌/◌, ◌%◌, length};
 ghost use Rattle.digits.specs.Digits.{character_of};
 ghost use Rattle.text.specs.Digits.{hex_byte, hex_pair, hex_triple, decimal};
 ghost use Rattle.text.specs.Texts.{held, joined, written_of, put_into};
@@ -12,13 +11,16 @@ ghost use Rattle.text.specs.Phrases.{same, begins};
 // The bytes that a text has room for.
 const ROOM: usize = 344;
 
+// A fixed buffer, since there is no heap. No ghost field ties the length to the room: both fields are public, and a
+// length past the room is taken as all of it.
 #[derive(Clone, Copy)]
 pub struct Text {
     pub bytes: [u8; ROOM],
     pub len: usize,
 }
 
-// The number of a refusal, 0 for none, and the length of the text that was put.
+// The number of a refusal, 0 for none, and the length of the text that was put. It is no Result, since a text
+// may be put beside a refusal's number: the line that tells it (`written_of`).
 #[derive(Clone, Copy)]
 pub struct Written {
     pub number: u8,
@@ -44,30 +46,12 @@ pub fn answer(number: u8, len: usize, room: usize) -> Written
     ensures { result ≡ written_of number len room }
 {
     if len <= room {
-        return Written {
-            number: number,
-            len: len,
-        };
+        return Written { number, len };
     }
     if number == 0 {
         return Written { number: 12, len: 0 };
     }
-    Written {
-        number: number,
-        len: 0,
-    }
-}
-
-// The first n bytes of one list over the first n of another.
-fn copy(from: &[u8], n: usize, to: &mut [u8])
-    requires { (n ≤ length from.now) × (n ≤ length to.old) }
-    ensures { to.new ≡ paste to.old 0 from.now n }
-{
-    let mut i = 0;
-    while i < n {
-        to[i] = from[i];
-        i += 1;
-    }
+    Written { number, len: 0 }
 }
 
 // A text without a byte.
@@ -85,10 +69,9 @@ impl Text {
     pub fn raw(mut self, b: u8) -> Text
         ensures { held result ≡ joined (held self) (b ∷ []) }
     {
-        let at = self.len;
-        if at < ROOM {
-            self.bytes[at] = b;
-            self.len = at + 1;
+        if self.len < ROOM {
+            self.bytes[self.len] = b;
+            self.len += 1;
         }
         self
     }
@@ -131,55 +114,34 @@ impl Text {
     }
 
     // The bytes of a phrase, as they are.
-    pub fn phrase(self, bytes: &[u8]) -> Text
+    pub fn phrase(mut self, bytes: &[u8]) -> Text
         ensures { held result ≡ joined (held self) bytes.now }
     {
-        let mut t = self;
-        let mut i = 0;
-        while i < bytes.len() {
-            t = t.raw(bytes[i]);
-            i += 1;
+        for b in bytes {
+            self = self.raw(*b);
         }
-        t
+        self
     }
 
     // The bytes begin with those that it holds.
     pub fn begins(self, bytes: &[u8]) -> bool
         ensures { result ≡ begins (held self) bytes.now }
     {
-        let own = self.bytes;
-        let n = self.count();
-        if bytes.len() < n {
-            return false;
-        }
-        let mut i = 0;
-        while i < n {
-            if own[i] != bytes[i] {
-                return false;
-            }
-            i += 1;
-        }
-        true
+        bytes.starts_with(self.held())
     }
 
     // It holds just these bytes.
     pub fn is(self, bytes: &[u8]) -> bool
         ensures { result ≡ same (held self) bytes.now }
     {
-        if self.count() == bytes.len() {
-            return self.begins(bytes);
-        }
-        false
+        self.held() == bytes
     }
 
-    // How many bytes it holds.
-    fn count(self) -> usize
-        ensures { result ≡ length (held self) }
+    // The bytes that it holds; where its length is past its room, all of them.
+    fn held(&self) -> &[u8]
+        ensures { result.now ≡ held self.now }
     {
-        if self.len < ROOM {
-            return self.len;
-        }
-        ROOM
+        &self.bytes[..self.len.min(ROOM)]
     }
 
     // The text at the front of the list, if it has room.
@@ -187,11 +149,10 @@ impl Text {
         ensures value { result ≡ written_of number (length (held self)) (length out.old) }
         ensures out_after { out.new ≡ put_into (held self) out.old }
     {
-        let n = self.count();
-        let w = answer(number, n, out.len());
-        if n <= out.len() {
-            let bytes = self.bytes;
-            copy(&bytes, n, out);
+        let held = self.held();
+        let w = answer(number, held.len(), out.len());
+        if held.len() <= out.len() {
+            out[..held.len()].copy_from_slice(held);
         }
         w
     }

@@ -1,11 +1,14 @@
 -- What the verdict's answer tells of a bound, which records are refused, and how many bounds are counted. Assumes nothing.
-use Prim.Native.Nat.{ℕ, suc, ◌≤◌, ◌<◌}
+use Prim.Native.Nat.{ℕ, suc, ◌-◌, ◌≤◌, ◌<◌}
 use mathlib.Core.Path.{◌≡◌, refl, sym, ap, ap₂, ◌∙◌, subst}
 use mathlib.Core.Logic.{⊎_elim}
-use mathlib.Core.Bool.{true, false}
+use mathlib.Core.Bool.{Bool, true, false}
 use native.Mathlib.Omega.{arith}
 use borrow.Author.Tests.{lt-ltb, eq-eqb, ne_eqb, eqb-true}
 use lib.Dec.{eqb}
+use Rattle.std.specs.Prelude.{Option, Some, None, is_none, Result, Ok, Err, MatchResult}
+use Rattle.std.specs.Option.{SomeIff}
+use Rattle.std.specs.Result.{IsErrAnd}
 use Rattle.sets.specs.Tests.{◌and◌, pick}
 use Rattle.sets.specs.Sets.{all}
 use Rattle.sets.proofs.Bools.{clash, decide, and_l, and_r, and_i, not_i, no_by, pick_yes, pick_no, pick_case}
@@ -13,14 +16,21 @@ use Rattle.sets.proofs.Causes.{cause_here}
 use Rattle.quorum.specs.declared.BoundKind.TheVariants.{Most}
 use Rattle.quorum.specs.Quorum.{at_most, in_range, groups_sound, group_at}
 use Rattle.plan.specs.declared.Plan.{Plan}
-use Rattle.plan.specs.Plan.{heard_by, links_sound, cause_of}
+use Rattle.plan.specs.declared.Unsound.{Unsound}
+use Rattle.plan.specs.declared.Unsound.TheVariants as unsound
+use Rattle.plan.specs.Plan.{number_of, heard_by, links_sound, cause_of}
 use Rattle.plan.proofs.Laws.{range_cause, later_cause_lem, tests, tested, sound}
 use Rattle.closure.specs.Verdict.{verdict}
 use Rattle.closure.specs.Answer.{Answer, judged, answer_within, answer_of}
 use Rattle.tolerance.specs.declared.Drawing.{Drawing}
-use Rattle.tolerance.specs.declared.Greatest.{Greatest}
+use Rattle.tolerance.specs.declared.DrawingError.{DrawingError}
 use Rattle.tolerance.specs.Greatest.{with_bound, passes_with, Tolerance, none, greatest, height}
-use Rattle.tolerance.specs.Answer.{Told, told, greatest_of}
+use Rattle.tolerance.specs.Answer.{Told, of_plan, told, greatest_of}
+use Rattle.partition.specs.declared.Witness.{Witness}
+use Rattle.partition.specs.declared.VerdictError.{VerdictError}
+use Rattle.partition.specs.declared.VerdictError.TheVariants as verdict_error
+use Rattle.partition.specs.Answer.{answered}
+use Rattle.partition.proofs.Laws.{err_of}
 use Rattle.tolerance.proofs.Heights.{same_height, highest, highest_only}
 use Rattle.tolerance.proofs.Links.{smaller}
 
@@ -40,6 +50,12 @@ module _ (p : Plan) (z : cause_of p ≡ 0) where
   failed_is = ap (λ (x : Answer). x.failed) answer_is
 
 -- ---- the records
+
+refuses : (x : VerdictError) → (answered (Err x)).number ≡ 0 → ⊥
+refuses verdict_error.WrongRange y = omega arith
+refuses verdict_error.TooMany y = omega arith
+refuses verdict_error.WrongLink y = omega arith
+refuses verdict_error.WrongGroups y = omega arith
 
 module _ (d : Drawing) where
   pub greatest_sound : cause_of (with_bound d 0) ≡ 0 → greatest_of d ≡ record { number = 0; passed = greatest d }
@@ -86,6 +102,14 @@ module _ (d : Drawing) where
           let u = ap (λ (x : Answer). x.failed) told_as ∙ failed_is (with_bound d f) (sound_with f l) in
           sym (no_by (λ v. let w = u ∙ pick_yes _ 0 1 v in omega arith))
 
+  -- it passes exactly where the verdict is a pass
+  module _ (z : cause_of (with_bound d 0) ≡ 0) where
+    pub passes_told : (f : ℕ) → f < d.n → (q : Plan) → q ≡ with_bound d f → (j : Result (Option Witness) VerdictError) → answered j ≡ answer_of q
+        → (b : Bool) → MatchResult j (λ w. b ≡ is_none w) (λ x. b ≡ false) → b ≡ passes_with d f
+    passes_told f l q e (Ok None) t b h = h ∙ told_pass z f l q e _ t refl
+    passes_told f l q e (Ok (Some w)) t b h = h ∙ told_fail z f l q e _ t refl
+    passes_told f l q e (Err x) t b h = absurd (never_refused z f l q e _ t (refuses x))
+
     pub source_below : d.source < d.n
     source_below = (sound (with_bound d 0) z).source_below
 
@@ -102,11 +126,16 @@ module _ (d : Drawing) where
     counted_all f e last =
         highest_only d d.n _ _ (record { most = omega arith; above = λ g m k. absurd (omega arith); last = last }) (highest d)
 
-    pub told_greatest : (r : Greatest) → (told r).number ≡ 0 → height (told r).passed ≡ height (greatest d) → told r ≡ greatest_of d
+    pub told_greatest : (r : Result (Option ℕ) DrawingError) → (told r).number ≡ 0 → height (told r).passed ≡ height (greatest d) → told r ≡ greatest_of d
     told_greatest r n h = told_both (told r) n (same_height _ _ h) ∙ sym (greatest_sound z)
       where
         told_both : (t : Told) → t.number ≡ 0 → t.passed ≡ greatest d → t ≡ record { number = 0; passed = greatest d }
         told_both t n p = ap₂ (λ (a : ℕ) (b : Tolerance). record { number = a; passed = b }) n p
+
+    -- the last of so many
+    pub told_last : (last : Option ℕ) (k : ℕ) → SomeIff last (1 ≤ k) (k - 1) → k ≡ height (greatest d) → told (Ok last) ≡ greatest_of d
+    told_last None k h e = told_greatest (Ok None) refl (omega arith)
+    told_last (Some f) k h e = told_greatest (Ok (Some f)) refl (omega arith)
 
   -- at most twenty bounds pass, and none of a record that is refused
   pub height_small : (t : Told) → t ≡ greatest_of d → height t.passed ≤ 20
@@ -134,3 +163,10 @@ module _ (d : Drawing) where
       ⊎_elim (λ l. let t = tested (with_bound d 0) (record { range = r; links = l; groups = groups_sound_lem }) in omega arith)
       (λ l. let t = later_cause_lem (with_bound d 0) r ∙ cause_here _ 5 _ (not_i l) in omega arith) (decide (links_sound (with_bound d 0))))
       (λ r. let t = range_cause (with_bound d 0) r in omega arith) (decide (in_range d.n d.source (Most 0)))
+
+  -- what refuses the plan, handed on as the answer
+  pub plan_refused : (e : Unsound) (r : Result (Option ℕ) DrawingError) → IsErrAnd r (λ x. x ≡ of_plan e) → number_of (Err e) ≡ cause_of (with_bound d 0)
+      → told r ≡ greatest_of d
+  plan_refused unsound.WrongRange r k h = rw (err_of r _ k) (told_refused 3 h)
+  plan_refused unsound.WrongLink r k h = rw (err_of r _ k) (told_refused 4 h)
+  plan_refused unsound.WrongGroups r k h = absurd (never_seventeen (sym h))

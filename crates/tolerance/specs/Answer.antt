@@ -1,10 +1,12 @@
 -- What the function answers for every record of a drawing (document 02, P13): the documents' number and values for each case. Assumes nothing.
-use Rattle.std.specs.Prelude.{ℕ, eqb}
+use Rattle.std.specs.Prelude.{ℕ, Option, Some, None, Result, Ok, Err, eqb}
 use Rattle.sets.specs.Tests.{pick}
+use Rattle.plan.specs.declared.Unsound.{Unsound}
+use Rattle.plan.specs.declared.Unsound.TheVariants as unsound
 use Rattle.plan.specs.Plan.{cause_of}
 use Rattle.tolerance.specs.declared.Drawing.{Drawing}
-use Rattle.tolerance.specs.declared.Greatest.{Greatest}
-use Rattle.tolerance.specs.declared.Greatest.TheVariants.{None, Bound, WrongRange, WrongLink}
+use Rattle.tolerance.specs.declared.DrawingError.{DrawingError}
+use Rattle.tolerance.specs.declared.DrawingError.TheVariants.{WrongRange, WrongLink}
 use Rattle.tolerance.specs.Greatest.{with_bound, Tolerance, none, up_to, greatest}
 
 -- the number of a refusal, 0 where nothing is refused, and what it passes: none beside a refusal
@@ -12,11 +14,18 @@ pub record Told : Type 0 where
   pub number : ℕ
   pub passed : Tolerance
 
-abbrev pub told : Greatest → Told
-told None = record { number = 0; passed = none }
-told (Bound f) = record { number = 0; passed = up_to f }
-told WrongRange = record { number = 4; passed = none }
-told WrongLink = record { number = 5; passed = none }
+-- none: it fails for 0 already
+abbrev pub told : Result (Option ℕ) DrawingError → Told
+told (Ok None) = record { number = 0; passed = none }
+told (Ok (Some f)) = record { number = 0; passed = up_to f }
+told (Err WrongRange) = record { number = 4; passed = none }
+told (Err WrongLink) = record { number = 5; passed = none }
+
+-- what refuses the plan with the bound 0 refuses the drawing
+abbrev pub of_plan : Unsound → DrawingError
+of_plan unsound.WrongRange = WrongRange
+of_plan unsound.WrongLink = WrongLink
+of_plan unsound.WrongGroups = WrongLink
 
 -- a record is refused as the plan with the bound 0 is, by 4 or 5
 unfoldable pub greatest_of : Drawing → Told

@@ -1,13 +1,12 @@
 // The greatest bound for which a drawing passes, from its links alone.
 #![tactic(auto)]
 
-ghost use Rattle.std.specs.Prelude.{◌≡◌, ◌<◌};
+ghost use Rattle.std.specs.Prelude.{◌≡◌, ◌<◌, Err};
 ghost use Rattle.plan.specs.Plan.{cause_of};
 ghost use Rattle.tolerance.specs.Greatest.{with_bound, passes_with, greatest, height};
-ghost use Rattle.tolerance.specs.Answer.{told, greatest_of};
+ghost use Rattle.tolerance.specs.Answer.{of_plan, told, greatest_of};
 
-use partition::Judgement;
-use plan::{Plan, Soundness};
+use plan::{Plan, Unsound};
 use quorum::{Bound, BoundKind};
 
 // Who hears whom: rows[b] is the set that terminal b hears. A plan without its bound.
@@ -18,20 +17,42 @@ pub struct Drawing {
     pub rows: [u32; 20],
 }
 
-// The greatest bound for which the drawing passes; none, if it fails for 0 already; or why the record is
-// no drawing.
+// Why a record is no drawing.
 #[derive(Clone, Copy)]
-pub enum Greatest {
-    None,
-    Bound(usize),
+pub enum DrawingError {
     WrongRange,
     WrongLink,
+}
+
+// A drawing lists no group, so that none is wrong.
+impl From<Unsound> for DrawingError {
+    ghost from_gives = { λ e r. r ≡ of_plan e };
+
+    fn from(e: Unsound) -> DrawingError {
+        match e {
+            Unsound::WrongRange => DrawingError::WrongRange,
+            Unsound::WrongLink | Unsound::WrongGroups => DrawingError::WrongLink,
+        }
+    }
+}
+
+// The documents' number.
+impl From<DrawingError> for u8 {
+    ghost from_gives = { λ e n. n ≡ (told (Err e)).number };
+
+    fn from(e: DrawingError) -> u8 {
+        match e {
+            DrawingError::WrongRange => 4,
+            DrawingError::WrongLink => 5,
+        }
+    }
 }
 
 // The plan with this bound.
 fn with_bound(d: Drawing, f: usize) -> Plan
     ensures { result ≡ with_bound d f }
 {
+    // Rattle takes an array into a literal from a variable only.
     let rows = d.rows;
     Plan {
         n: d.n,
@@ -40,7 +61,7 @@ fn with_bound(d: Drawing, f: usize) -> Plan
             kind: BoundKind::Most(f),
             groups: [0u32; 16],
         },
-        rows: rows,
+        rows,
     }
 }
 
@@ -49,15 +70,7 @@ fn passes(d: Drawing, f: usize) -> bool
     requires { (cause_of (with_bound d 0) ≡ 0) × (f < d.n) }
     ensures { result ≡ passes_with d f }
 {
-    let judgement = partition::verdict(with_bound(d, f));
-    match judgement {
-        Judgement::Pass => true,
-        Judgement::Fail(_) => false,
-        Judgement::WrongRange => false,
-        Judgement::TooMany => false,
-        Judgement::WrongLink => false,
-        Judgement::WrongGroups => false,
-    }
+    partition::verdict(with_bound(d, f)).is_ok_and(|witness| witness.is_none())
 }
 
 // How many bounds it passes, from 0 upwards to the first that it fails: it fails for every greater one too.
@@ -65,36 +78,19 @@ fn passed(d: Drawing) -> usize
     requires { cause_of (with_bound d 0) ≡ 0 }
     ensures { result ≡ height (greatest d) }
 {
-    let mut f = 0;
-    while f < d.n {
-        if passes(d, f) {
-            f += 1;
-        } else {
+    for f in 0..d.n {
+        if !passes(d, f) {
             return f;
         }
     }
-    f
+    d.n
 }
 
-// The greatest of so many.
-fn last_of(count: usize) -> Greatest
-    ensures { ((told result).number ≡ 0) × (height (told result).passed ≡ count) }
-{
-    if count == 0 {
-        return Greatest::None;
-    }
-    Greatest::Bound(count - 1)
-}
-
-// For any record: the drawing with the bound 0 is a plan, or is refused as that is.
-pub fn greatest_bound(d: Drawing) -> Greatest
+// The greatest bound for which the drawing passes; none, if it fails for 0 already. For any record: the drawing with
+// the bound 0 is a plan, or is refused as that is.
+pub fn greatest_bound(d: Drawing) -> Result<Option<usize>, DrawingError>
     ensures { told result ≡ greatest_of d }
 {
-    let soundness = plan::check(with_bound(d, 0));
-    match soundness {
-        Soundness::Sound => last_of(passed(d)),
-        Soundness::WrongRange => Greatest::WrongRange,
-        Soundness::WrongLink => Greatest::WrongLink,
-        Soundness::WrongGroups => Greatest::WrongLink,
-    }
+    plan::check(with_bound(d, 0))?;
+    Ok(passed(d).checked_sub(1))
 }

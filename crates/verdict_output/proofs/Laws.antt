@@ -7,7 +7,7 @@ use lib.Dec.{eqb}
 use lib.ListN.{length}
 use Rattle.sets.proofs.Bools.{pick_case}
 use Rattle.closure.specs.Answer.{Answer, answer_within}
-use Rattle.frames.specs.declared.FileRead.{FileRead}
+use Rattle.frames.specs.Reading.{FileRead}
 use Rattle.output.specs.OnFile.{refusal_line, answer_on}
 use Rattle.output.proofs.Laws.{refusal_length, on_length, whole_text}
 use Rattle.verdict_output.specs.Verdict.{verdict_line, answer_text, verdict_on}

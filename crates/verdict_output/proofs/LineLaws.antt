@@ -13,14 +13,22 @@ use Rattle.closure.specs.Verdict.{defeats}
 use Rattle.closure.proofs.Faults.{fault_below}
 use Rattle.closure.proofs.Growth.{reached_below}
 use Rattle.closure.proofs.Witness.{cut_below}
-use Rattle.partition.specs.declared.Judgement.{Judgement}
-use Rattle.partition.specs.declared.Judgement.TheVariants.{Pass, Fail, WrongRange, TooMany, WrongLink, WrongGroups}
+use Rattle.std.specs.Prelude.{Option, Some, None, Result, Ok, Err}
+use Rattle.partition.specs.declared.Witness.{Witness}
+use Rattle.partition.specs.declared.VerdictError.{VerdictError}
+use Rattle.partition.specs.declared.VerdictError.TheVariants.{WrongRange, TooMany, WrongLink, WrongGroups}
 use Rattle.partition.specs.Answer.{answered}
 use Rattle.closure.specs.Answer.{Answer, answer_within}
 use Rattle.partition.proofs.Laws.{Failed, answer_fails}
-use Rattle.frames.specs.declared.FileRead.{FileRead}
+use Rattle.frames.specs.declared.Progress.{Progress}
+use Rattle.frames.specs.declared.Refusal.{Refusal}
+use Rattle.frames.specs.Reading.{FileRead}
+use Rattle.frames.specs.Causes.{number, answer}
 use Rattle.text.specs.Digits.{hex_byte, hex_pair, hex_triple}
-use Rattle.output.specs.OnFile.{refusal_line, text_on}
+use Rattle.text.specs.Texts.{written_of, put_into}
+use Rattle.output.specs.declared.Written.{Written}
+use Rattle.output.specs.OnFile.{refusal_line, on_line, answer_on}
+use Rattle.output.proofs.Laws.{put_accepted, put_refused}
 use Rattle.verdict_output.specs.Verdict.{verdict_line, answer_text, verdict_on}
 
 -- ---- F, L and R fit three bytes
@@ -36,15 +44,15 @@ failed_small p a w =
       below p.n a.r t (subst (λ (s : ℕ). s < 2 ^ p.n) (sym w.r_is) (cut_below p a.f)),
     )
 
-pub answer_small : (most : ℕ) (p : Plan) (j : Judgement) → answered j ≡ answer_within most p
+pub answer_small : (most : ℕ) (p : Plan) (j : Result (Option Witness) VerdictError) → answered j ≡ answer_within most p
     → ((answered j).f < 16777216) × ((answered j).l < 16777216) × ((answered j).r < 16777216)
-answer_small most p Pass e = omega arith
-answer_small most p (Fail w) e =
-    failed_small p (answered (Fail w)) (subst (Failed p) (sym e) (answer_fails most p (sym (ap (λ (a : Answer). a.failed) e))))
-answer_small most p WrongRange e = omega arith
-answer_small most p TooMany e = omega arith
-answer_small most p WrongLink e = omega arith
-answer_small most p WrongGroups e = omega arith
+answer_small most p (Ok None) e = omega arith
+answer_small most p (Ok (Some w)) e =
+    failed_small p (answered (Ok (Some w))) (subst (Failed p) (sym e) (answer_fails most p (sym (ap (λ (a : Answer). a.failed) e))))
+answer_small most p (Err WrongRange) e = omega arith
+answer_small most p (Err TooMany) e = omega arith
+answer_small most p (Err WrongLink) e = omega arith
+answer_small most p (Err WrongGroups) e = omega arith
 
 -- such a set is its low three bytes
 pub low_sets : (failed f l r : ℕ) → (f < 16777216) × (l < 16777216) × (r < 16777216)
@@ -61,22 +69,34 @@ pub verdict_length : (failed f l r : ℕ) → length (verdict_line failed f l r)
 unfolding verdict_line hex_triple hex_pair hex_byte
 verdict_length failed f l r = refl
 
-module _ (j found : Judgement) (t : List ℕ) (e : j ≡ found) where
+some_number : (e : VerdictError) → (answered (Err e)).number ≡ 0 → ⊥
+some_number WrongRange z = omega arith
+some_number TooMany z = omega arith
+some_number WrongLink z = omega arith
+some_number WrongGroups z = omega arith
+
+module _ (j found : Result (Option Witness) VerdictError) (t : List ℕ) (e : j ≡ found) where
   same_answer : answer_text (answered found) ≡ answer_text (answered j)
-  same_answer = ap (λ (x : Judgement). answer_text (answered x)) (sym e)
+  same_answer = ap (λ (x : Result (Option Witness) VerdictError). answer_text (answered x)) (sym e)
 
   pub says_verdict : (answered found).number ≡ 0 → t ≡ verdict_line (answered found).failed (answered found).f (answered found).l (answered found).r → t ≡ answer_text (answered j)
   unfolding answer_text
   says_verdict h a = a ∙ sym (pick_yes _ _ _ (eq-eqb (answered found).number 0 h)) ∙ same_answer
 
-  pub says_refusal : ((answered found).number ≡ 0 → ⊥) → t ≡ refusal_line (answered found).number 0 → t ≡ answer_text (answered j)
-  unfolding answer_text
-  says_refusal h a = a ∙ sym (pick_no _ _ _ (ne_eqb (answered found).number 0 h)) ∙ same_answer
+pub says_refusal : (j : Result (Option Witness) VerdictError) (why : VerdictError) (t : List ℕ) → j ≡ Err why → t ≡ refusal_line (answered (Err why)).number 0 → t ≡ answer_text (answered j)
+unfolding answer_text
+says_refusal j why t e a =
+    a ∙ sym (pick_no _ _ _ (ne_eqb (answered (Err why)).number 0 (some_number why))) ∙ same_answer j (Err why) t e
 
--- ---- the line on a plan file
+-- ---- the line on a plan file, where its plan was judged and where it is refused
 
--- by a file and a judgement that were found to be these
-pub verdict_is : (most : ℕ) (read file : FileRead) (a : Answer) (t : List ℕ) → read ≡ file → a ≡ answer_within most read.progress.plan
-    → t ≡ text_on read (answer_text a) → t ≡ verdict_on most file
-unfolding verdict_on
-verdict_is most read file a t e j h = h ∙ ap (λ (x : Answer). text_on read (answer_text x)) j ∙ ap (verdict_on most) e
+module _ (most : ℕ) {w : Written} {last : List ℕ} (out : List ℕ) (file : FileRead) where
+  pub put_verdict : (p : Progress) (j : Result (Option Witness) VerdictError) (t : List ℕ) → answer (Ok p) ≡ file → answered j ≡ answer_within most p.plan → t ≡ answer_text (answered j)
+      → w ≡ on_line 0 (written_of 0 (length t) (length out)) → last ≡ put_into t out → (w ≡ answer_on file (verdict_on most file) (length out)) × (last ≡ put_into (verdict_on most file) out)
+  unfolding verdict_on
+  put_verdict p j t e v s = put_accepted w last out file (λ (x : Progress). answer_text (answer_within most x.plan)) p t e (s ∙ ap answer_text v)
+
+  pub put_refusal : (e : Refusal) → answer (Err e) ≡ file → w ≡ answer_on (answer (Err e)) (refusal_line (number e.cause) e.line) (length out) → last ≡ put_into (refusal_line (number e.cause) e.line) out
+      → (w ≡ answer_on file (verdict_on most file) (length out)) × (last ≡ put_into (verdict_on most file) out)
+  unfolding verdict_on
+  put_refusal = put_refused w last out file (λ (x : Progress). answer_text (answer_within most x.plan))

@@ -11,8 +11,7 @@ use Rattle.plan.specs.Plan.{most_quoted}
 use Rattle.plan.proofs.Laws.{few_terminals}
 use Rattle.closure.specs.Answer.{Answer, answer_of}
 use Rattle.closure.proofs.Quote.{few_answered}
-use Rattle.frames.specs.declared.FileRead.{FileRead}
-use Rattle.frames.specs.Reading.{Reading, refusal, quote_reading, file_read}
+use Rattle.frames.specs.Reading.{FileRead, Reading, refusal, quote_reading, file_read}
 use Rattle.frames.specs.Quote.{file_above}
 use Rattle.frames.proofs.Quote.{quoting, quoted_most}
 use Rattle.output.specs.OnFile.{refusal_line, text_on}

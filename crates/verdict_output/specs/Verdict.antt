@@ -6,8 +6,7 @@ use Rattle.quorum.specs.Quorum.{most_terminals}
 use Rattle.plan.specs.Plan.{most_quoted}
 use Rattle.closure.specs.Answer.{Answer, answer_within}
 use Rattle.text.specs.Digits.{hex_byte, hex_triple}
-use Rattle.frames.specs.declared.FileRead.{FileRead}
-use Rattle.frames.specs.Reading.{plan_reading, archive_reading, quote_reading, file_read}
+use Rattle.frames.specs.Reading.{FileRead, plan_reading, archive_reading, quote_reading, file_read}
 use Rattle.output.specs.OnFile.{refusal_line, text_on}
 
 -- 81: 00 pass or 01 fail, then F, L, R

@@ -5,5 +5,6 @@ pub mod Causes
 pub mod Lengths
 pub mod Hearing
 pub mod Telling
+pub mod Refusals
 pub mod Reading
 pub mod Rows

@@ -1,7 +1,6 @@
 -- The numbers of a set, as they are said: one after the other in a loop, and how many there are. Assumes nothing.
 use Prim.Native.Nat.{ℕ, zero, suc, ◌+◌, ◌-◌, ◌/◌, ◌%◌, ◌^◌, ◌≤◌, ◌<◌}
-use Prim.Native.String.{String}
-use mathlib.Core.Path.{◌≡◌, refl, sym, ap, ap₂, ◌∙◌, subst}
+use mathlib.Core.Path.{◌≡◌, refl, sym, ap, ◌∙◌, subst}
 use mathlib.Core.Logic.{⊎_elim}
 use mathlib.Core.Bool.{true, false}
 use mathlib.Core.List.{List, [], ◌∷◌, ◌++◌, append_assoc}
@@ -13,6 +12,7 @@ use lib.Dec.{eqb}
 use borrow.Author.Tests.{eq-eqb, ne_eqb}
 use lib.ListN.{length}
 use lib.Pow.{shr-shr, shr_lt}
+use Rattle.sets.specs.Tests.{pick}
 use Rattle.sets.specs.Sets.{bit, mem, count, size}
 use Rattle.sets.proofs.Bools.{decide, pick_yes, pick_no}
 use Rattle.sets.proofs.Laws.{count_cong}
@@ -21,7 +21,7 @@ use Rattle.text.specs.Digits.{decimal}
 use Rattle.text.specs.Texts.{joined}
 use Rattle.text.specs.Phrases.{phrase}
 use Rattle.text.proofs.Laws.{then}
-use Rattle.wording.specs.Sentence.{members_from, members, between, listing, agreeing, opening, closing}
+use Rattle.wording.specs.Sentence.{members_from, members, between, listing, agreeing, opening}
 use Rattle.wording.specs.Turn.{named}
 
 -- ---- how many there are
@@ -100,30 +100,27 @@ size_ones n s h = ones_count n s h
 
 -- ---- the parts of the sentence, one after the other
 
-module _ (n f : ℕ) (below : f < 2 ^ n) where
-  pub agreeing_one : (one several : String) → ones f ≡ 1 → phrase one ≡ agreeing n f one several
-  unfolding agreeing
-  agreeing_one one several h = sym (pick_yes _ _ _ (eq-eqb (size n f) 1 (sym (size_ones n f below) ∙ h)))
+-- one phrase of one terminal, the other of several
+module _ (n s : ℕ) (below : s < 2 ^ n) (xs one several : List ℕ) {mid last : List ℕ} (numbers : mid ≡ joined xs (listing (members n s))) where
+  pub said_one : ones s ≡ 1 → last ≡ joined mid one → last ≡ joined xs (listing (members n s) ++ pick (eqb (size n s) 1) one several)
+  said_one h a =
+      then xs (listing (members n s)) one numbers a
+      ∙ ap (λ (l : List ℕ). joined xs (listing (members n s) ++ l)) (sym (pick_yes _ _ _ (eq-eqb (size n s) 1 (sym (size_ones n s below) ∙ h))))
 
-  pub agreeing_several : (one several : String) → (ones f ≡ 1 → ⊥) → phrase several ≡ agreeing n f one several
-  unfolding agreeing
-  agreeing_several one several h = sym (pick_no _ _ _ (ne_eqb (size n f) 1 (λ e. h (size_ones n f below ∙ e))))
+  pub said_several : (ones s ≡ 1 → ⊥) → last ≡ joined mid several → last ≡ joined xs (listing (members n s) ++ pick (eqb (size n s) 1) one several)
+  said_several h a =
+      then xs (listing (members n s)) several numbers a
+      ∙ ap (λ (l : List ℕ). joined xs (listing (members n s) ++ l)) (sym (pick_no _ _ _ (ne_eqb (size n s) 1 (λ e. h (size_ones n s below ∙ e)))))
 
 pub opened_none : (n f : ℕ) {empty last : List ℕ} → f ≡ 0 → empty ≡ [] → last ≡ joined empty (phrase "Even if all work, ") → last ≡ joined [] (opening n f)
 unfolding opening
 opened_none n f z e a =
     a ∙ ap (λ (l : List ℕ). joined l (phrase "Even if all work, ")) e ∙ ap (joined []) (sym (pick_yes _ _ _ (eq-eqb f 0 z)))
 
-pub opened_some : (n f : ℕ) (verb : List ℕ) {empty first mid last : List ℕ} → (f ≡ 0 → ⊥) → empty ≡ [] → first ≡ joined empty (phrase "If ")
-    → mid ≡ joined first (listing (members n f)) → last ≡ joined mid verb → verb ≡ agreeing n f " stays silent, " " stay silent, "
-    → last ≡ joined [] (opening n f)
+pub opened_some : (n f : ℕ) {empty first last : List ℕ} → (f ≡ 0 → ⊥) → empty ≡ [] → first ≡ joined empty (phrase "If ")
+    → last ≡ joined first (listing (members n f) ++ agreeing n f " stays silent, " " stay silent, ") → last ≡ joined [] (opening n f)
 unfolding opening
-opened_some n f verb {empty} z e a b c v =
-    then empty (phrase "If ") (listing (members n f) ++ verb) a (then _ (listing (members n f)) verb b c)
-    ∙ ap₂ (λ (x y : List ℕ). joined x (phrase "If " ++ (listing (members n f) ++ y))) e v
+opened_some n f {empty} z e a b =
+    then empty (phrase "If ") (listing (members n f) ++ agreeing n f " stays silent, " " stay silent, ") a b
+    ∙ ap (λ (l : List ℕ). joined l (phrase "If " ++ (listing (members n f) ++ agreeing n f " stays silent, " " stay silent, "))) e
     ∙ ap (joined []) (sym (pick_no _ _ _ (ne_eqb f 0 z)))
-
-pub closed_by : (n r : ℕ) (xs verb : List ℕ) {mid last : List ℕ} → mid ≡ joined xs (listing (members n r)) → last ≡ joined mid verb
-    → verb ≡ agreeing n r " never gets the notice." " never get the notice." → last ≡ joined xs (closing n r)
-unfolding closing
-closed_by n r xs verb a b v = then xs (listing (members n r)) verb a b ∙ ap (λ (l : List ℕ). joined xs (listing (members n r) ++ l)) v

@@ -5,6 +5,7 @@ use mathlib.Core.Logic.{⊎_elim}
 use mathlib.Core.Bool.{Bool, true, false}
 use mathlib.Core.List.{List}
 use native.Mathlib.Omega.{arith}
+use Rattle.std.specs.Prelude.{None, Err}
 use Rattle.sets.specs.Sets.{outside}
 use Rattle.sets.proofs.Bools.{clash, decide, no_by}
 use Rattle.sets.proofs.Partition.{few_outside}
@@ -13,7 +14,10 @@ use Rattle.text.proofs.Phrases.{same_yes, same_is}
 use Rattle.wording.specs.declared.ear.Ear.{Ear}
 use Rattle.wording.specs.Ear.{attentive, after_all}
 use Rattle.wording.specs.Sentence.{terminals_in_range, composes, sentence, sentence_cause, composed}
-use Rattle.wording.specs.Heard.{refused, speaks_of, heard_of}
+use Rattle.wording.specs.declared.SentenceError.{SentenceError}
+use Rattle.wording.specs.declared.SentenceError.TheVariants.{WrongRange, NoPartition}
+use Rattle.wording.specs.Answers.{number_of, heard_instead}
+use Rattle.wording.specs.Heard.{refused, told, speaks_of, heard_of}
 use Rattle.wording.proofs.Causes.{range_twenty, cause_range, cause_sets, cause_right, composed_is, sound}
 use Rattle.wording.proofs.Telling.{speaks_i, speaks_cause, speaks_text, speaks_heard, heard_sets, heard_other, heard_range}
 
@@ -30,7 +34,7 @@ module _ (n : ℕ) (text : List ℕ) (e : Ear) (l number : ℕ) (worded : List �
   -- whatever the text speaks of was heard, and has this sentence
   found : (f r : ℕ) → speaks_of n text f r ≡ true → (number ≡ 0) × (same worded text ≡ true)
   found f r h =
-      let q : ◌≡◌ {A = Ear} e (record { waiting = true; number = 0; f = f; r = r }) = heard ∙ speaks_heard n text f r h in
+      let q : ◌≡◌ {A = Ear} e (record { waiting = true; number = None; f = f; r = r }) = heard ∙ speaks_heard n text f r h in
       let a : e.f ≡ f = ap (λ (x : Ear). x.f) q in
       let b : e.r ≡ r = ap (λ (x : Ear). x.r) q in
       let z = speaks_cause n text f r h in
@@ -62,3 +66,7 @@ module _ (n : ℕ) (text : List ℕ) (e : Ear) (l number : ℕ) (worded : List �
 
   pub read_refused : (number ≡ 4 → ⊥) → (number ≡ 0 → ⊥) → refused 2 ≡ heard_of n text
   read_refused z y = sym (heard_other n text (range_of z) (λ f r h. y (found f r h).0))
+
+  pub read_instead : (why : SentenceError) → number_of why ≡ number → told (Err (heard_instead why)) ≡ heard_of n text
+  read_instead WrongRange q = read_range (sym q)
+  read_instead NoPartition q = read_refused (λ z. omega arith) (λ z. omega arith)

@@ -8,6 +8,7 @@ use native.Mathlib.Nat.{mul-le-mul_right, add-mul, one-mul}
 use native.Mathlib.Omega.{arith}
 use lib.Pow.{high, low, pow_mono}
 use borrow.Author.Tests.{eq-eqb, eqb-true}
+use Rattle.std.specs.Prelude.{None}
 use Rattle.sets.specs.Sets.{outside}
 use Rattle.sets.proofs.Bools.{clash, decide, and_i, and_l, and_r, no_by, pick_yes, pick_no, pick_case}
 use Rattle.sets.proofs.Laws.{equal_or_not}
@@ -40,7 +41,7 @@ module _ (n : ℕ) (text : List ℕ) where
   speaks_text f r h = same_is _ _ (and_r _ _ h)
 
   -- those sets are heard
-  pub speaks_heard : (f r : ℕ) → speaks_of n text f r ≡ true → after_all attentive text ≡ record { waiting = true; number = 0; f = f; r = r }
+  pub speaks_heard : (f r : ℕ) → speaks_of n text f r ≡ true → after_all attentive text ≡ record { waiting = true; number = None; f = f; r = r }
   speaks_heard f r h = ap (after_all attentive) (sym (speaks_text f r h)) ∙ sentence_heard n f (outside n f r) r (speaks_cause f r h)
 
   silent_one : (f r f' r' : ℕ) → speaks_of n text f r ≡ true → speaks_of n text f' r' ≡ true → f ≡ f'
@@ -133,7 +134,7 @@ telling n = record {
         speaks_text n text (heard_of n text).f (heard_of n text).r w.0,
       );
   distinct = λ f l r f' l' r' h k e.
-      let q : ◌≡◌ {A = Ear} (record { waiting = true; number = 0; f = f; r = r }) (record { waiting = true; number = 0; f = f'; r = r' }) =
+      let q : ◌≡◌ {A = Ear} (record { waiting = true; number = None; f = f; r = r }) (record { waiting = true; number = None; f = f'; r = r' }) =
       sym (sentence_heard n f l r h) ∙ ap (after_all attentive) e ∙ sentence_heard n f' l' r' k in
       let a : f ≡ f' = ap (λ (x : Ear). x.f) q in
       let b : r ≡ r' = ap (λ (x : Ear). x.r) q in

@@ -1,20 +1,24 @@
 -- Which sets a text could speak of, byte by byte: numbers go to F, and from the phrase about the silent on to R. Only private functions cite this; whether
 -- the text is the sentence of these sets is looked at afterwards. Assumes nothing.
-use Rattle.std.specs.Prelude.{ℕ, ◌+◌, ◌-◌, ◌*◌, Bool, true, false, List, [], ◌∷◌, eqb, ltb, leb}
+use Rattle.std.specs.Prelude.{ℕ, ◌+◌, ◌-◌, ◌*◌, Bool, true, false, List, [], ◌∷◌, Option, Some, None, eqb, ltb, leb}
+use Rattle.std.specs.Option.{unwrap_or}
 use Rattle.sets.specs.Tests.{◌and◌, ◌or◌, pick}
 use Rattle.sets.specs.Sets.{with}
 use Rattle.wording.specs.declared.ear.Ear.{Ear}
 
 -- nothing is heard yet
 abbrev pub attentive : Ear
-attentive = record { waiting = false; number = 0; f = 0; r = 0 }
+attentive = record { waiting = false; number = None; f = 0; r = 0 }
 
--- the number that was read goes to its set; it is kept as one more, 0 for none
+-- the number that was read goes to its set
+abbrev pub placed_by : Option ℕ → Ear → Ear
+placed_by None e = e
+placed_by (Some i) e =
+    pick e.waiting (record { waiting = e.waiting; number = None; f = e.f; r = with 32 e.r i })
+    (record { waiting = e.waiting; number = None; f = with 32 e.f i; r = e.r })
+
 unfoldable pub placed : Ear → Ear
-placed e =
-    pick (eqb e.number 0) e
-    (pick e.waiting (record { waiting = e.waiting; number = 0; f = e.f; r = with 32 e.r (e.number - 1) })
-    (record { waiting = e.waiting; number = 0; f = with 32 e.f (e.number - 1); r = e.r }))
+placed e = placed_by e.number e
 
 -- "Even" and "stay" come before those who wait: 69 is E, 115 is s
 unfoldable pub is_turn : (byte : ℕ) → Bool
@@ -29,8 +33,12 @@ is_figure byte = leb 48 byte and leb byte 57
 
 -- a figure more of the number, which grows no larger than it must
 unfoldable pub figured : Ear → (byte : ℕ) → Ear
-figured e byte =
-    record { waiting = e.waiting; number = pick (ltb 100 e.number) e.number ((e.number - 1) * 10 + (byte - 47)); f = e.f; r = e.r }
+figured e byte = record {
+  waiting = e.waiting;
+  number = pick (ltb 99 (unwrap_or e.number 0)) e.number (Some (unwrap_or e.number 0 * 10 + (byte - 48)));
+  f = e.f;
+  r = e.r;
+}
 
 unfoldable pub after_byte : Ear → (byte : ℕ) → Ear
 after_byte e byte = pick (is_figure byte) (figured e byte) (turned (placed e) byte)

@@ -1,10 +1,11 @@
 -- The sets that a text speaks of (document 02, P9): those of which it is the sentence. Any other text is refused. Assumes nothing.
-use Rattle.std.specs.Prelude.{ℕ, zero, suc, ◌*◌, ◌/◌, ◌%◌, ◌^◌, Bool, List, eqb}
+use Rattle.std.specs.Prelude.{ℕ, zero, suc, ◌*◌, ◌/◌, ◌%◌, ◌^◌, Bool, List, eqb, Result, Ok, Err}
 use Rattle.sets.specs.Tests.{◌and◌, pick}
 use Rattle.sets.specs.Sets.{Set, outside}
 use Rattle.text.specs.Phrases.{same}
-use Rattle.wording.specs.declared.Heard.{Heard}
-use Rattle.wording.specs.declared.Heard.TheVariants.{Sets, WrongRange, OtherText}
+use Rattle.wording.specs.declared.Sets.{Sets}
+use Rattle.wording.specs.declared.HeardError.{HeardError}
+use Rattle.wording.specs.declared.HeardError.TheVariants.{WrongRange, OtherText}
 use Rattle.wording.specs.Sentence.{terminals_in_range, sentence, sentence_cause}
 
 -- the number of a refusal, 0 where nothing is refused, and F, L, R: zeros beside a refusal
@@ -17,10 +18,10 @@ pub record Told : Type 0 where
 abbrev pub refused : (number : ℕ) → Told
 refused number = record { number = number; f = 0; l = 0; r = 0 }
 
-abbrev pub told : Heard → Told
-told (Sets f l r) = record { number = 0; f = f; l = l; r = r }
-told WrongRange = refused 4
-told OtherText = refused 2
+abbrev pub told : Result Sets HeardError → Told
+told (Ok s) = record { number = 0; f = s.f; l = s.l; r = s.r }
+told (Err WrongRange) = refused 4
+told (Err OtherText) = refused 2
 
 -- the text is the sentence of F, R and everyone else, of whom there is one
 unfoldable pub speaks_of : (n : ℕ) (text : List ℕ) (f r : Set) → Bool

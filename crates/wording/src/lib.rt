@@ -4,48 +4,85 @@
 mod ear;
 mod names;
 
-ghost use Rattle.std.specs.Prelude.{◌≡◌, [], ◌≤◌, ◌<◌, ◌^◌, length};
+ghost use Rattle.std.specs.Prelude.{◌≡◌, [], ◌++◌, ◌≤◌, ◌<◌, ◌^◌, eqb, length};
+ghost use Rattle.sets.specs.Tests.{pick};
+ghost use Rattle.sets.specs.Sets.{size};
 ghost use Rattle.text.specs.Texts.{held, joined, written_of, put_into};
-ghost use Rattle.wording.specs.Sentence.{opening, closing, sentence_cause, composed};
+ghost use Rattle.wording.specs.Sentence.{members, listing, opening, closing, sentence_cause, composed};
+ghost use Rattle.wording.specs.Answers.{number_of, cause_of, words_of, heard_instead};
 ghost use Rattle.wording.specs.Heard.{told, heard_of};
 
 use text::{Text, Written};
 
-// The number of a refusal, 0 for none, and the sentence; where the sets are refused it is empty.
-#[derive(Clone, Copy)]
-pub struct Composed {
-    pub number: u8,
-    pub text: Text,
+// Why there is no sentence of some sets.
+#[derive(Clone, Copy, Debug, PartialEq, Eq)]
+pub enum SentenceError {
+    WrongRange,
+    NoPartition,
 }
 
-// The sets F, L and R that a text speaks of, or why it speaks of none.
-#[derive(Clone, Copy)]
-pub enum Heard {
-    Sets(u32, u32, u32),
+// The sets F, L and R that a text speaks of.
+#[derive(Clone, Copy, Debug, PartialEq, Eq)]
+pub struct Sets {
+    pub f: u32,
+    pub l: u32,
+    pub r: u32,
+}
+
+// Why a text speaks of no sets.
+#[derive(Clone, Copy, Debug, PartialEq, Eq)]
+pub enum HeardError {
     WrongRange,
     OtherText,
 }
 
-// Why there is no sentence of these sets; 0 if there is one.
-fn cause(n: usize, f: u32, l: u32, r: u32) -> u8
-    ensures { result ≡ sentence_cause n f l r }
+// A text of which some sets could be heard, but not a witness, is none of the sentences.
+impl From<SentenceError> for HeardError {
+    ghost from_gives = { λ e h. h ≡ heard_instead e };
+
+    fn from(e: SentenceError) -> HeardError {
+        match e {
+            SentenceError::WrongRange => HeardError::WrongRange,
+            SentenceError::NoPartition => HeardError::OtherText,
+        }
+    }
+}
+
+// The documents' number.
+impl From<SentenceError> for u8 {
+    ghost from_gives = { λ e n. n ≡ number_of e };
+
+    fn from(e: SentenceError) -> u8 {
+        match e {
+            SentenceError::WrongRange => 4,
+            SentenceError::NoPartition => 2,
+        }
+    }
+}
+
+// There is a sentence of these sets.
+fn check(n: usize, f: u32, l: u32, r: u32) -> Result<(), SentenceError>
+    ensures { cause_of result ≡ sentence_cause n f l r }
 {
-    if n < 2 {
-        return 4;
+    if n < 2 || 20 < n {
+        return Err(SentenceError::WrongRange);
     }
-    if 20 < n {
-        return 4;
+    if l == 0 || r == 0 || !sets::is_partition(n, f, l, r) {
+        return Err(SentenceError::NoPartition);
     }
-    if l == 0 {
-        return 2;
+    Ok(())
+}
+
+// A set's numbers, and what is said of them: one phrase of one terminal, the other of several.
+fn said_of(t: Text, n: usize, s: u32, one: &[u8], several: &[u8]) -> Text
+    requires { (n ≤ 20) × (s < 2 ^ n) × (length (held t) ≤ 344) }
+    ensures { held result ≡ joined (held t) (listing (members n s) ++ pick (eqb (size n s) 1) one.now several.now) }
+{
+    let named = names::with_names(t, n, s);
+    if s.count_ones() == 1 {
+        return named.phrase(one);
     }
-    if r == 0 {
-        return 2;
-    }
-    if sets::is_partition(n, f, l, r) {
-        return 0;
-    }
-    2
+    named.phrase(several)
 }
 
 // Who stays silent.
@@ -56,11 +93,13 @@ fn opened(n: usize, f: u32) -> Text
     if f == 0 {
         return text::empty().phrase(b"Even if all work, ");
     }
-    let named = names::with_names(text::empty().phrase(b"If "), n, f);
-    if u32::count_ones(f) == 1 {
-        return named.phrase(b" stays silent, ");
-    }
-    named.phrase(b" stay silent, ")
+    said_of(
+        text::empty().phrase(b"If "),
+        n,
+        f,
+        b" stays silent, ",
+        b" stay silent, ",
+    )
 }
 
 // Who never gets the notice.
@@ -68,29 +107,22 @@ fn closed(t: Text, n: usize, r: u32) -> Text
     requires { (n ≤ 20) × (r < 2 ^ n) × (length (held t) ≤ 344) }
     ensures { held result ≡ joined (held t) (closing n r) }
 {
-    let named = names::with_names(t, n, r);
-    if u32::count_ones(r) == 1 {
-        return named.phrase(b" never gets the notice.");
-    }
-    named.phrase(b" never get the notice.")
+    said_of(
+        t,
+        n,
+        r,
+        b" never gets the notice.",
+        b" never get the notice.",
+    )
 }
 
 // The sentence of a witness, by value.
-pub fn sentence(n: usize, f: u32, l: u32, r: u32) -> Composed
-    ensures cause { result.number ≡ sentence_cause n f l r }
-    ensures sentence { held result.text ≡ composed n f l r }
+pub fn sentence(n: usize, f: u32, l: u32, r: u32) -> Result<Text, SentenceError>
+    ensures cause { cause_of result ≡ sentence_cause n f l r }
+    ensures sentence { words_of result ≡ composed n f l r }
 {
-    let number = cause(n, f, l, r);
-    if number != 0 {
-        return Composed {
-            number: number,
-            text: text::empty(),
-        };
-    }
-    Composed {
-        number: 0,
-        text: closed(opened(n, f), n, r),
-    }
+    check(n, f, l, r)?;
+    Ok(closed(opened(n, f), n, r))
 }
 
 // The sentence of a witness, into the lent list.
@@ -98,26 +130,20 @@ pub fn compose(n: usize, f: u32, l: u32, r: u32, out: &mut [u8]) -> Written
     ensures value { result ≡ written_of (sentence_cause n f l r) (length (composed n f l r)) (length out.old) }
     ensures out_after { out.new ≡ put_into (composed n f l r) out.old }
 {
-    let s = sentence(n, f, l, r);
-    let t = s.text;
-    t.put(s.number, out)
+    match sentence(n, f, l, r) {
+        Ok(t) => t.put(0, out),
+        Err(e) => text::empty().put(u8::from(e), out),
+    }
 }
 
 // The sets of which the text is the sentence.
-pub fn read_sentence(n: usize, text: &[u8]) -> Heard
+pub fn read_sentence(n: usize, text: &[u8]) -> Result<Sets, HeardError>
     ensures { told result ≡ heard_of n text.now }
 {
     let e = ear::heard(text);
     let l = sets::outside(n, e.f, e.r);
-    let s = sentence(n, e.f, l, e.r);
-    let t = s.text;
-    if s.number == 4 {
-        return Heard::WrongRange;
+    if !sentence(n, e.f, l, e.r)?.is(text) {
+        return Err(HeardError::OtherText);
     }
-    if s.number == 0 {
-        if t.is(text) {
-            return Heard::Sets(e.f, l, e.r);
-        }
-    }
-    Heard::OtherText
+    Ok(Sets { f: e.f, l, r: e.r })
 }

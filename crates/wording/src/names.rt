@@ -11,13 +11,11 @@ fn with_between(t: Text, more: u32) -> Text
     requires { length (held t) ≤ 344 }
     ensures { held result ≡ joined (held t) (between more) }
 {
-    if more == 0 {
-        return t;
+    match more {
+        0 => t,
+        1 => t.phrase(b" and "),
+        _ => t.phrase(b", "),
     }
-    if more == 1 {
-        return t.phrase(b" and ");
-    }
-    t.phrase(b", ")
 }
 
 // Terminal i, if it is a member, and what stands after it.
@@ -26,21 +24,18 @@ fn with_one(t: Text, s: u32, i: usize) -> Text
     ensures { held result ≡ joined (held t) (named s i) }
 {
     if sets::member(s, i) {
-        return with_between(t.decimal(i as u8), u32::count_ones(s >> (i + 1)));
+        return with_between(t.decimal(i as u8), (s >> (i + 1)).count_ones());
     }
     t
 }
 
 // All members, ascending.
-pub(crate) fn with_names(t: Text, n: usize, s: u32) -> Text
+pub(crate) fn with_names(mut t: Text, n: usize, s: u32) -> Text
     requires { (n ≤ 20) × (s < 2 ^ n) × (length (held t) ≤ 344) }
     ensures { held result ≡ joined (held t) (listing (members n s)) }
 {
-    let mut all = t;
-    let mut i: usize = 0;
-    while i < n {
-        all = with_one(all, s, i);
-        i += 1;
+    for i in 0..n {
+        t = with_one(t, s, i);
     }
-    all
+    t
 }

@@ -4,17 +4,20 @@ use mathlib.Core.Path.{◌≡◌, refl, sym, ap, ap₂, ◌∙◌}
 use mathlib.Core.Logic.{◌⊎◌, inl, inr, ⊎_elim}
 use mathlib.Core.Bool.{Bool, true, false}
 use mathlib.Core.List.{List, [], ◌∷◌, ◌++◌}
-use native.Mathlib.Nat.{add-zero, sub-zero}
+use native.Mathlib.Nat.{add-zero}
 use native.Mathlib.Numerals.{add-one, add-two, add-four, add_six, add_eight}
 use native.Mathlib.Omega.{arith}
 use lib.ListN.{length, get_or, set, length-append}
 use lib.Seq.{sets, length-sets}
 use borrow.Author.Tests.{ne_eqb}
+use Rattle.std.specs.Prelude.{Err}
 use Rattle.sets.specs.Tests.{pick}
 use Rattle.sets.proofs.Bools.{pick_yes, pick_no}
 use Rattle.quorum.specs.Quorum.{listed}
 use Rattle.plan.specs.declared.Plan.{Plan}
-use Rattle.plan.specs.Plan.{hears, cause_of}
+use Rattle.plan.specs.declared.Unsound.{Unsound}
+use Rattle.plan.specs.declared.Unsound.TheVariants.{WrongRange, WrongLink, WrongGroups}
+use Rattle.plan.specs.Plan.{number_of, hears, cause_of}
 use Rattle.text.specs.declared.Written.{Written}
 use Rattle.digits.specs.Digits.{character_of}
 use Rattle.text.specs.Digits.{hex_byte, hex_pair, hex_triple}
@@ -60,7 +63,7 @@ links_none p k h =
 -- the links of the places before k are put: those from k on have room, and with them the list is what it shall be
 abbrev pub Putting : Plan → List ℕ → List ℕ → ℕ → ℕ → Type 0
 Putting p before out at k =
-    (k ≤ 400) × (length out ≡ length before) × (at + length (link_lines p (400 - k) k) ≤ length out)
+    (length out ≡ length before) × (at + length (link_lines p (400 - k) k) ≤ length out)
     × (sets out at (link_lines p (400 - k) k) ≡ sets before 9 (link_lines p 400 0))
 
 -- place k passed, with its link put or without
@@ -113,7 +116,7 @@ module _ (p : Plan) (k : ℕ) (h : k < 400) (b : Bool) (e : b ≡ hears p (k % 2
       let same : length next ≡ length out = length_turn out next at on t in
       let l : on + length (link_lines p (400 - (k + 1)) (k + 1)) ≡ at + length (link_lines p (400 - k) k) =
       len_turn at on (at + length (link_lines p (400 - k) k)) (⊎_elim (λ w. inl (w.0, w.2)) (λ w. inr (w.0, w.2)) t) refl in
-      (omega arith, same ∙ i.1, omega arith, list_turn out next (sets before 9 (link_lines p 400 0)) at on t i.3)
+      (same ∙ i.0, omega arith, list_turn out next (sets before 9 (link_lines p 400 0)) at on t i.2)
 
 -- ---- bytes put one after the other
 
@@ -141,23 +144,18 @@ group_put out o₁ o₂ o₃ o₄ at s a b c d = rw (d, c, b, a, add-two, add-fo
 -- the first i of so many groups are put
 abbrev pub PuttingGroups : List ℕ → ℕ → List ℕ → List ℕ → ℕ → ℕ → Type 0
 PuttingGroups groups count before out from i =
-    (i ≤ count) × (length out ≡ length before) × (sets out (from + 9 * i) (group_lines groups (count - i) i) ≡ sets before from (group_lines groups count 0))
+    (length out ≡ length before) × (sets out (from + 9 * i) (group_lines groups (count - i) i) ≡ sets before from (group_lines groups count 0))
 
 module _ (groups : List ℕ) (count : ℕ) (before out : List ℕ) (from i : ℕ) where
-  pub groups_start : PuttingGroups groups count before before from 0
-  groups_start =
-      (omega arith, refl, ap₂ (λ (j m : ℕ). sets before j (group_lines groups m 0)) (let e : from + 9 * 0 ≡ from = omega arith in e) (sub-zero count))
-
   pub groups_room : i < count → from + 9 * count ≤ length before → PuttingGroups groups count before out from i → from + 9 * i + 9 ≤ length out
-  groups_room h l (a, b, c) = omega arith
+  groups_room h l (b, c) = omega arith
 
   pub groups_turn : (next : List ℕ) → i < count → next ≡ sets out (from + 9 * i) (group_line (get_or groups i 0)) → PuttingGroups groups count before out from i
       → PuttingGroups groups count before next from (i + 1)
   unfolding group_lines
-  groups_turn next h e (a, b, c) =
+  groups_turn next h e (b, c) =
       let one : count - i ≡ suc (count - (i + 1)) = omega arith in
       let on : from + 9 * (i + 1) ≡ from + 9 * i + length (group_line (get_or groups i 0)) = omega (arith, group_length (get_or groups i 0)) in (
-        omega arith,
         ap length e ∙ length-sets out (from + 9 * i) (group_line (get_or groups i 0)) ∙ b,
         ap₂ (λ (l : List ℕ) (j : ℕ). sets l j (group_lines groups (count - (i + 1)) (i + 1))) e on
             ∙ ap (λ (j : ℕ). sets (sets out (from + 9 * i) (group_line (get_or groups i 0))) (from + 9 * i + length (group_line (get_or groups i 0))) (group_lines groups (count - (i + 1)) j)) (add-one i)
@@ -168,7 +166,7 @@ module _ (groups : List ℕ) (count : ℕ) (before out : List ℕ) (from i : ℕ
 
   pub groups_done : count ≤ i → PuttingGroups groups count before out from i → out ≡ sets before from (group_lines groups count 0)
   unfolding group_lines
-  groups_done h (a, b, c) =
+  groups_done h (b, c) =
       let e : count - i ≡ 0 = omega arith in
       sym (ap (λ (m : ℕ). sets out (from + 9 * i) (group_lines groups m i)) e) ∙ c
 
@@ -211,14 +209,19 @@ pub written_sound : (p : Plan) (w : Written) (out last : List ℕ) → cause_of 
     → (w ≡ written_of (cause_of p) (length (written_text p)) (length out)) × (last ≡ put_into (written_text p) out)
 written_sound p w out last s a b = rw (s, sound_text p s) (a, b)
 
--- a record that is no plan
-pub written_unsound : (p : Plan) (out : List ℕ) (cause : ℕ) → cause_of p ≡ cause → (cause ≡ 0 → ⊥)
-    → (◌≡◌ {A = Written} (record { number = cause; len = 0 }) (written_of (cause_of p) (length (written_text p)) (length out)))
+-- a record that is no plan, for which every cause has a number
+refuses : (e : Unsound) → number_of (Err e) ≡ 0 → ⊥
+refuses WrongRange z = absurd (omega arith)
+refuses WrongLink z = absurd (omega arith)
+refuses WrongGroups z = absurd (omega arith)
+
+pub written_unsound : (p : Plan) (out : List ℕ) (e : Unsound) (number : ℕ) → number_of (Err e) ≡ cause_of p → number ≡ number_of (Err e)
+    → (◌≡◌ {A = Written} (record { number = number; len = 0 }) (written_of (cause_of p) (length (written_text p)) (length out)))
     × (out ≡ put_into (written_text p) out)
 unfolding written_text
-written_unsound p out cause e h =
-    let none : written_text p ≡ [] = pick_no _ _ _ (ne_eqb (cause_of p) 0 (λ z. h (sym e ∙ z))) in (
-      ap (λ (n : ℕ). record { number = n; len = 0 }) (sym e)
+written_unsound p out e number h k =
+    let none : written_text p ≡ [] = pick_no _ _ _ (ne_eqb (cause_of p) 0 (λ z. refuses e (h ∙ z))) in (
+      ap (λ (n : ℕ). record { number = n; len = 0 }) (k ∙ h)
           ∙ sym (written_fits (cause_of p) 0 (length out) (omega arith))
           ∙ ap (λ (l : List ℕ). written_of (cause_of p) (length l) (length out)) (sym none),
       sym (put_fits [] out (omega arith)) ∙ ap (λ (l : List ℕ). put_into l out) (sym none),

@@ -9,7 +9,7 @@ ghost use Rattle.text.specs.Digits.{hex_byte};
 ghost use Rattle.text.specs.Texts.{written_of, put_into};
 ghost use Rattle.writer.specs.Written.{bound_byte, head_line, link_line, link_lines, group_line, group_lines, plan_text, written_text};
 
-use plan::{Plan, Soundness};
+use plan::Plan;
 use quorum::BoundKind;
 use text::Written;
 
@@ -35,12 +35,10 @@ fn put_head(p: Plan, out: &mut [u8])
     requires { (9 ≤ length out.old) × (p.n < 256) × (p.source < 256) × (bound_byte p.bound.kind < 256) }
     ensures { out.new ≡ sets out.old 0 (head_line p) }
 {
-    let bound = p.bound;
-    let kind = bound.kind;
     put_byte(out, 0, 1);
     put_byte(out, 2, p.n);
     put_byte(out, 4, p.source);
-    put_byte(out, 6, bound_byte(kind));
+    put_byte(out, 6, bound_byte(p.bound.kind));
     out[8] = 10;
 }
 
@@ -58,20 +56,17 @@ fn put_link(out: &mut [u8], at: usize, from: usize, to: usize)
 fn linked(p: Plan, k: usize) -> bool
     ensures { result ≡ hears p (k % 20) (k / 20) }
 {
-    let rows = p.rows;
-    sets::member(rows[k % 20], k / 20)
+    sets::member(p.rows[k % 20], k / 20)
 }
 
 fn links_len(p: Plan) -> usize
     ensures { result ≡ length (link_lines p 400 0) }
 {
     let mut len = 0;
-    let mut k = 0;
-    while k < 400 {
+    for k in 0..400 {
         if linked(p, k) {
             len += 7;
         }
-        k += 1;
     }
     len
 }
@@ -81,13 +76,11 @@ fn put_links(p: Plan, out: &mut [u8])
     ensures { out.new ≡ sets out.old 9 (link_lines p 400 0) }
 {
     let mut at = 9;
-    let mut k = 0;
-    while k < 400 {
+    for k in 0..400 {
         if linked(p, k) {
             put_link(out, at, k / 20, k % 20);
             at += 7;
         }
-        k += 1;
     }
 }
 
@@ -107,14 +100,8 @@ fn put_groups(p: Plan, from: usize, out: &mut [u8])
     requires { (cause_of p ≡ 0) × (from + 9 * listed p.bound.kind ≤ length out.old) }
     ensures { out.new ≡ sets out.old from (group_lines p.bound.groups (listed p.bound.kind) 0) }
 {
-    let bound = p.bound;
-    let groups = bound.groups;
-    let kind = bound.kind;
-    let count = quorum::listed(kind);
-    let mut i = 0;
-    while i < count {
-        put_group(out, from + 9 * i, groups[i]);
-        i += 1;
+    for i in 0..quorum::listed(p.bound.kind) {
+        put_group(out, from + 9 * i, p.bound.groups[i]);
     }
 }
 
@@ -124,10 +111,8 @@ fn put_plan(p: Plan, out: &mut [u8]) -> Written
     ensures value { result ≡ written_of 0 (length (plan_text p)) (length out.old) }
     ensures out_after { out.new ≡ put_into (plan_text p) out.old }
 {
-    let bound = p.bound;
-    let kind = bound.kind;
     let groups_at = 9 + links_len(p);
-    let len = groups_at + 9 * quorum::listed(kind);
+    let len = groups_at + 9 * quorum::listed(p.bound.kind);
     let written = text::answer(0, len, out.len());
     if len <= out.len() {
         put_head(p, out);
@@ -142,11 +127,11 @@ pub fn write_plan(p: Plan, out: &mut [u8]) -> Written
     ensures value { result ≡ written_of (cause_of p) (length (written_text p)) (length out.old) }
     ensures out_after { out.new ≡ put_into (written_text p) out.old }
 {
-    let soundness = plan::check(p);
-    match soundness {
-        Soundness::Sound => put_plan(p, out),
-        Soundness::WrongRange => Written { number: 4, len: 0 },
-        Soundness::WrongLink => Written { number: 5, len: 0 },
-        Soundness::WrongGroups => Written { number: 17, len: 0 },
+    match plan::check(p) {
+        Ok(()) => put_plan(p, out),
+        Err(e) => Written {
+            number: u8::from(e),
+            len: 0,
+        },
     }
 }

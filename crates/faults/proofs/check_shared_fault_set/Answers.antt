@@ -9,5 +9,5 @@ returns-then-within c =
     c.check_fault_set.ensures ∙ ap (fault_cause_of c.args.p) c.without.ensures
     ∙ shared_within _ _ (sym c.within.ensures ∙ c.if-within.true)
 
-pub returns : goal.returns
-returns c = c.check_fault_set-2.ensures ∙ shared_past _ _ (sym c.within.ensures ∙ c.if-within.false)
+pub returns-else-within : goal.returns-else-within
+returns-else-within c = c.check_fault_set-else-within.ensures ∙ shared_past _ _ (sym c.within.ensures ∙ c.if-within.false)

@@ -1,18 +1,17 @@
-use mathlib.Core.Path.{◌≡◌, refl, ap, ◌∙◌}
-use native.Mathlib.Omega.{arith}
+use mathlib.Core.Path.{◌≡◌, ◌∙◌}
+use mathlib.Core.Bool.{not}
 use lib.ListN.{get_or}
-use Rattle.sets.specs.Sets.{bit, mask}
-use Rattle.sets.proofs.Laws.{mask_cong}
-use Rattle.sets.proofs.Masks.{next_bit, byte_bit}
+use borrow.Author.Rules.{rules}
+use Rattle.sets.specs.Tests.{◌and◌, ◌implies◌}
+use Rattle.sets.specs.Sets.{mem, all, some}
 use Rattle.faults.proofs.Rows.{row_fits}
 use Rattle.faults.proofs.fitting_none.Goals as goal
 
-pub loop-b-init : goal.loop-b-init
-unfolding mask
-loop-b-init c = (omega arith, refl)
-
-pub loop-b-preserved : goal.loop-b-preserved
-loop-b-preserved c = (omega arith, next_bit _ _ _ _ (omega arith) c.loop-b.invariant.1 (byte_bit c.meets_all-more.result ∙ ap bit c.meets_all-more.ensures))
-
 pub returns : goal.returns
-returns c = let e : c.loop-b.b ≡ 20 = omega arith in let a = c.args in (rw e at c.loop-b.invariant.1) ∙ mask_cong 20 _ _ (λ b k. row_fits (get_or a.rows b 0) a.a c.outside_groups-others.result a.groups c.outside_groups-others.ensures)
+returns c =
+    let a = c.args in
+    let outer = c.outside_groups-others.result in
+    c.those.ensures (λ b. not (some 16 (λ i. all 32 (λ j. (mem j (get_or a.rows b 0) and mem j a.a) implies mem j (get_or a.groups i 0)))))
+    (λ b x k h.
+    let meets : x ≡ not (some 16 (λ i. all 32 (λ j. not (mem j (get_or a.rows b 0) and mem j (get_or outer i 0))))) = search rules in
+    meets ∙ row_fits (get_or a.rows b 0) a.a outer a.groups c.outside_groups-others.ensures)

@@ -11,12 +11,12 @@ use Rattle.sets.proofs.Laws.{some_turn}
 use Rattle.sets.proofs.Operations.{test_apart}
 use Rattle.faults.proofs.meets_all.Goals as goal
 
-pub loop-i-init : goal.loop-i-init
+pub loop-other-init : goal.loop-other-init
 unfolding some
-loop-i-init c = (omega arith, refl)
+loop-other-init c = refl
 
-pub loop-i-preserved : goal.loop-i-preserved
-loop-i-preserved c = let turn = c.loop-i in let a = c.args in let set : Fits w32 a.row = search rules in (omega arith, ap (λ (b : Bool). turn.missed || b) (test_apart 32 a.row (get_or a.others turn.i 0) set.fits) ∙ some_turn turn.i (λ k. all 32 (λ j. not (mem j a.row and mem j (get_or a.others k 0)))) turn.missed turn.invariant.1)
+pub loop-other-preserved : goal.loop-other-preserved
+loop-other-preserved c = let turn = c.loop-other in let a = c.args in let set : Fits w32 a.row = search rules in ap (λ (b : Bool). turn.missed || b) (test_apart 32 a.row (get_or a.others turn.other-index 0) set.fits) ∙ some_turn turn.other-index (λ k. all 32 (λ j. not (mem j a.row and mem j (get_or a.others k 0)))) turn.missed turn.invariant
 
 pub returns : goal.returns
-returns c = let e : c.loop-i.i ≡ 16 = omega arith in ap not (rw e at c.loop-i.invariant.1)
+returns c = let e : c.loop-other.other-index ≡ 16 = omega arith in ap not (rw e at c.loop-other.invariant)

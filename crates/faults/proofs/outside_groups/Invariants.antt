@@ -1,4 +1,4 @@
-use Prim.Native.Nat.{ℕ, ◌≤◌, ◌<◌, ◌-◌}
+use Prim.Native.Nat.{ℕ, ◌<◌}
 use mathlib.Core.Path.{◌≡◌}
 use mathlib.Core.Bool.{not}
 use lib.ListN.{length, get_or}
@@ -8,7 +8,4 @@ use Rattle.faults.proofs.outside_groups.Given as goal
 
 abbrev pub invariant-loop-i : goal.invariant-loop-i
 invariant-loop-i l =
-    (l.i ≤ 16) × (length l.masks ≡ 16) × ((k : ℕ) → k < l.i → (j : ℕ) → j < 32 → mem j (get_or l.masks k 0) ≡ mem j l.a and not (mem j (get_or l.groups k 0)))
-
-abbrev pub decreases-loop-i : goal.decreases-loop-i
-decreases-loop-i l = 16 - l.i
+    (length l.masks ≡ 16) × ((k : ℕ) → k < l.i → (j : ℕ) → j < 32 → mem j (get_or l.masks k 0) ≡ mem j l.a and not (mem j (get_or l.groups k 0)))

@@ -6,4 +6,4 @@ use Rattle.firmware.proofs.bound_of.Goals as goal
 
 pub returns : goal.returns
 unfolding bound_of
-returns c = ap (λ (k : BoundKind). record { kind = k; groups = c.args.told.groups }) c.kind_of.ensures
+returns c = ap (λ (k : BoundKind). record { kind = k; groups = c.args.told.now.groups }) c.kind_of.ensures

@@ -6,4 +6,4 @@ use Rattle.firmware.proofs.record_of.Goals as goal
 
 pub returns : goal.returns
 unfolding record_of
-returns c = ap (λ (s : State). record { state = s; round = c.args.b.round; notes = c.args.b.notes }) c.state_of-state.ensures
+returns c = ap (λ (s : State). record { state = s; round = c.args.b.now.round; notes = c.args.b.now.notes }) c.state_of.ensures

@@ -1,11 +1,17 @@
 -- The length decides, then the lines do. Assumes nothing.
+use mathlib.Core.Path.{sym, ◌∙◌}
 use native.Mathlib.Omega.{arith}
-use Rattle.frames.proofs.LineLaws.{file_refused}
+use lib.ListN.{length}
+use borrow.Author.Tests.{eqb-true}
 use Rattle.frames.proofs.FileLaws.{empty_file, long_file}
+use Rattle.frames.proofs.read.Goals.{then-is_empty-via-then-is_empty, then-is_empty-via-else-is_empty+then-text-gt-MOST_BYTES}
 use Rattle.frames.proofs.read.Goals as goal
 
-pub returns-then-text-lt1 : goal.returns-then-text-lt1
-returns-then-text-lt1 c = file_refused _ _ _ _ _ c.refusal.ensures (empty_file _ _ c.if-text-lt1.true) (λ z. omega arith)
-
-pub returns-then-text-gt-MOST_BYTES : goal.returns-then-text-gt-MOST_BYTES
-returns-then-text-gt-MOST_BYTES c = file_refused _ _ _ _ _ c.refusal-then-text-gt-MOST_BYTES.ensures (long_file _ _ c.if-text-gt-MOST_BYTES.true) (λ z. omega arith)
+pub returns-then-is_empty : goal.returns-then-is_empty
+returns-then-is_empty c =
+    elim c.then-is_empty.branch [
+      | then-is_empty-via-then-is_empty w ↦
+          let none = eqb-true (length c.args.text.now) 0 (sym c.is_empty.ensures ∙ w.if-is_empty.true) in
+          empty_file _ _ (omega arith)
+      | then-is_empty-via-else-is_empty+then-text-gt-MOST_BYTES w ↦ long_file _ _ w.if-text-gt-MOST_BYTES.true
+    ]

@@ -1,21 +1,24 @@
 -- Each answer's line, by what it tells. Assumes nothing.
-use mathlib.Core.Path.{refl}
+use Prim.Native.Nat.{ℕ}
+use mathlib.Core.Path.{◌≡◌, refl, ap, ◌∙◌}
 use native.Mathlib.Omega.{arith}
-use Rattle.tolerance.specs.declared.Greatest.TheVariants.{None, Bound, WrongRange, WrongLink}
+use Rattle.std.specs.Prelude.{Some, None, Ok}
+use Rattle.output.specs.OnFile.{refusal_line}
 use Rattle.greatest_output.proofs.LineLaws.{says_found, says_refusal}
 use Rattle.greatest_output.proofs.answer.Goals as goal
 
+pub returns-in-Ok-None : goal.returns-in-Ok-None
+returns-in-Ok-None c = let e : c.in-Ok-None.field-0 ≡ None = rw c.in-Ok-None.is at c.in-Ok-None.field-0-is in
+    says_found _ (Ok None) _ (c.in-Ok-None.is ∙ ap Ok e) refl c.none_line.ensures
+
 pub bound_line-requires : goal.bound_line-requires
-bound_line-requires c = let small = rw c.in-Bound.is at c.requires in omega (arith, small)
+bound_line-requires c = let e : c.in-Ok-Some.field-0 ≡ Some c.in-Ok-Some.f = rw c.in-Ok-Some.is at c.in-Ok-Some.field-0-is in
+    let small = rw (c.in-Ok-Some.is ∙ ap Ok e) at c.requires in
+    omega (arith, small)
 
-pub returns-in-None : goal.returns-in-None
-returns-in-None c = says_found _ None _ c.in-None.is refl c.none_line.ensures
+pub returns-in-Ok-Some : goal.returns-in-Ok-Some
+returns-in-Ok-Some c = let e : c.in-Ok-Some.field-0 ≡ Some c.in-Ok-Some.f = rw c.in-Ok-Some.is at c.in-Ok-Some.field-0-is in
+    says_found _ (Ok (Some _)) _ (c.in-Ok-Some.is ∙ ap Ok e) refl c.bound_line.ensures
 
-pub returns-in-Bound : goal.returns-in-Bound
-returns-in-Bound c = says_found _ (Bound _) _ c.in-Bound.is refl c.bound_line.ensures
-
-pub returns-in-WrongRange : goal.returns-in-WrongRange
-returns-in-WrongRange c = says_refusal _ WrongRange _ c.in-WrongRange.is (λ z. omega arith) c.refusal.ensures
-
-pub returns-in-WrongLink : goal.returns-in-WrongLink
-returns-in-WrongLink c = says_refusal _ WrongLink _ c.in-WrongLink.is (λ z. omega arith) c.refusal-in-WrongLink.ensures
+pub returns-in-Err : goal.returns-in-Err
+returns-in-Err c = says_refusal _ _ _ c.in-Err.is (c.refusal.ensures ∙ ap (λ (k : ℕ). refusal_line k 0) c.from.ensures)

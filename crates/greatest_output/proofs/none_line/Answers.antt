@@ -1,6 +1,9 @@
--- The word, byte by byte. Assumes nothing.
-use Rattle.greatest_output.proofs.LineLaws.{says_none}
+-- The word and the line end. Assumes nothing.
+use native.Mathlib.Omega.{arith}
+use Rattle.text.proofs.Laws.{whole}
+use Rattle.greatest_output.specs.Greatest.{tolerance_line}
 use Rattle.greatest_output.proofs.none_line.Goals as goal
 
 pub returns : goal.returns
-returns c = says_none c.empty.ensures c.raw.ensures c.raw-2.ensures c.raw-3.ensures c.raw-4.ensures c.raw-5.ensures
+unfolding tolerance_line
+returns c = whole c.empty.ensures c.phrase.ensures (omega arith)

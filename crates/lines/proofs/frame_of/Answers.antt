@@ -8,30 +8,29 @@ use Rattle.lines.proofs.FrameLaws.{formed_length, frame_foreign, frame_long, fra
 use Rattle.lines.proofs.frame_of.Goals as goal
 
 pub slice_bounds-first-end : goal.slice_bounds-first-end
-slice_bounds-first-end c = let room : length c.bytes_of-read.result.first ≡ 8 = search rules in omega arith
+slice_bounds-first-end c = let room : length c.in-Some.first ≡ 8 = search rules in omega arith
 
 pub slice_bounds-known_frame-end : goal.slice_bounds-known_frame-end
 slice_bounds-known_frame-end c =
-    let first = c.bytes_of-read.result.first in
+    let first = c.in-Some.first in
     let room : length first ≡ 8 = search rules in
     omega (arith, length-take (length c.args.line.now / 2) first)
 
 pub known_frame-requires : goal.known_frame-requires
 known_frame-requires c =
-    let first = c.bytes_of-read.result.first in
+    let first = c.in-Some.first in
     let room : length first ≡ 8 = search rules in
-    let long = formed_length _ (sym c.bytes_of-read.ensures.whole ∙ c.if-read.true) in
+    let long = formed_length _ c.in-Some.ensures.0 in
     omega (arith, length-take (length c.args.line.now / 2) first)
 
-pub returns-then-n-le-MOST : goal.returns-then-n-le-MOST
-returns-then-n-le-MOST c =
-    let read = c.bytes_of-read in
-    let room : length read.result.first ≡ 8 = search rules in
-    let whole = c.if-read.true in
-    c.known_frame.ensures ∙ frame_short _ _ read.result.first room (sym read.ensures.whole ∙ whole) c.if-n-le-MOST.true (read.ensures.bytes whole)
+pub returns-in_default : goal.returns-in_default
+returns-in_default c = sym (frame_foreign _ _ c.in_default.ensures)
 
-pub returns-then-read : goal.returns-then-read
-returns-then-read c = sym (frame_long _ _ (sym c.bytes_of-read.ensures.whole ∙ c.if-read.true) c.if-n-le-MOST.false)
+pub returns-then-n-gt-MOST : goal.returns-then-n-gt-MOST
+returns-then-n-gt-MOST c = sym (frame_long _ _ c.in-Some.ensures.0 c.if-n-gt-MOST.true)
 
 pub returns : goal.returns
-returns c = sym (frame_foreign _ _ (sym c.bytes_of-read.ensures.whole ∙ c.if-read.false))
+returns c =
+    let first = c.in-Some.first in
+    let room : length first ≡ 8 = search rules in
+    c.known_frame.ensures ∙ frame_short _ _ first room c.in-Some.ensures.0 c.if-n-gt-MOST.false c.in-Some.ensures.1

@@ -6,7 +6,7 @@ use Rattle.lines.specs.Frames.{known_frame}
 use Rattle.lines.proofs.known_frame.Goals as goal
 
 pub overflow_cast-kind : goal.overflow_cast-kind
-overflow_cast-kind c = omega (arith, c.shared_slice_known-2-1.given 0)
+overflow_cast-kind c = omega (arith, c.type_inv.bytes 0)
 
 pub returns-then-member : goal.returns-then-member
 unfolding known_frame

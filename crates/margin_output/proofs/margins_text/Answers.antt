@@ -1,14 +1,14 @@
--- The table on the file, put into the list. Assumes nothing.
-use mathlib.Core.Path.{ap, ◌∙◌}
-use Rattle.output.proofs.Laws.{put_as}
-use Rattle.margin_output.specs.Margins.{margins_on, margins_text}
+-- The table on the file, or why it is refused, put into the list. Assumes nothing.
+use Rattle.margin_output.specs.Margins.{margins_text}
+use Rattle.margin_output.proofs.AnswerLaws.{put_margins, put_refusal}
 use Rattle.margin_output.proofs.margins_text.Goals as goal
 
-pub of_plan-requires : goal.of_plan-requires
-of_plan-requires c = c.margins-sheet.ensures
-
-pub returns : goal.returns
+pub returns-in-Ok : goal.returns-in-Ok
 unfolding margins_text
-returns c = let e = c.read_margins-read.ensures in
-    let p = put_as _ _ _ _ _ _ _ e (c.of_plan.ensures ∙ ap margins_on e) c.put.ensures.value c.put.ensures.out_after in
+returns-in-Ok c = let p = put_margins _ _ _ _ (c.in-Ok.ensures {u = tt}) c.answer.ensures c.put.ensures.value c.put.ensures.out_after in
+    record { value = p.0; out_after = p.1 }
+
+pub returns-in-Err : goal.returns-in-Err
+unfolding margins_text
+returns-in-Err c = let p = put_refusal _ _ _ (c.in-Err.ensures {u = tt}) c.refused.ensures.value c.refused.ensures.out_after in
     record { value = p.0; out_after = p.1 }

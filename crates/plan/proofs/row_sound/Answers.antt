@@ -9,6 +9,6 @@ pub returns-then-b-n : goal.returns-then-b-n
 unfolding row_sound
 returns-then-b-n c = c.others.ensures ∙ sym (pick_yes _ _ _ (lt-ltb _ _ c.if-b-n.true))
 
-pub returns : goal.returns
+pub returns-else-b-n : goal.returns-else-b-n
 unfolding row_sound
-returns c = sym (pick_no _ _ _ (le-ltb _ _ c.if-b-n.false))
+returns-else-b-n c = sym (pick_no _ _ _ (le-ltb _ _ c.if-b-n.false))

@@ -8,6 +8,6 @@ pub returns-then-in_range : goal.returns-then-in_range
 unfolding too_many
 returns-then-in_range c = sym (and_yes _ _ (sym c.in_range.ensures ∙ c.if-in_range.true))
 
-pub returns : goal.returns
+pub returns-else-in_range : goal.returns-else-in_range
 unfolding too_many
-returns c = sym (and_no_l _ _ (sym c.in_range.ensures ∙ c.if-in_range.false))
+returns-else-in_range c = c.if-in_range.false ∙ sym (and_no_l _ _ (sym c.in_range.ensures ∙ c.if-in_range.false))

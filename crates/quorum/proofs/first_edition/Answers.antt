@@ -9,6 +9,6 @@ pub returns-then-layout-eq0 : goal.returns-then-layout-eq0
 unfolding first_edition
 returns-then-layout-eq0 c = sym (pick_yes _ _ _ (eq-eqb _ 0 c.if-layout-eq0.true))
 
-pub returns : goal.returns
+pub returns-else-layout-eq0 : goal.returns-else-layout-eq0
 unfolding first_edition
-returns c = c.notice_of.ensures ∙ sym (pick_no _ _ _ (ne_eqb _ 0 c.if-layout-eq0.false))
+returns-else-layout-eq0 c = c.notice_of.ensures ∙ sym (pick_no _ _ _ (ne_eqb _ 0 c.if-layout-eq0.false))

@@ -16,6 +16,6 @@ returns-then-listed_sound c =
     ∙ ap (λ (k : ℕ). all 16 (λ i. pick (ltb i k) (others a.n a.source (get_or a.bound.groups i 0)) (eqb (get_or a.bound.groups i 0) 0))) c.listed.ensures
     ∙ sym (and_yes _ _ (sym c.listed_sound.ensures ∙ c.if-listed_sound.true))
 
-pub returns : goal.returns
+pub returns-else-listed_sound : goal.returns-else-listed_sound
 unfolding groups_sound group_at
-returns c = sym (and_no_l _ _ (sym c.listed_sound.ensures ∙ c.if-listed_sound.false))
+returns-else-listed_sound c = c.if-listed_sound.false ∙ sym (and_no_l _ _ (sym c.listed_sound.ensures ∙ c.if-listed_sound.false))

@@ -1,4 +1,4 @@
--- `others` meets its contract: the two tests of the rule, in its order. Assumes nothing.
+-- The two tests of the rule, in its order. Assumes nothing.
 use mathlib.Core.Path.{sym, ◌∙◌}
 use Rattle.sets.specs.Tests.{◌and◌}
 use Rattle.quorum.specs.Quorum.{others}
@@ -8,6 +8,6 @@ pub returns-then-within : goal.returns-then-within
 unfolding others ◌and◌
 returns-then-within c = simp (sym c.within.ensures ∙ c.if-within.true, c.member.ensures)
 
-pub returns : goal.returns
+pub returns-else-within : goal.returns-else-within
 unfolding others ◌and◌
-returns c = simp (sym c.within.ensures ∙ c.if-within.false)
+returns-else-within c = simp (sym c.within.ensures ∙ c.if-within.false, c.if-within.false)

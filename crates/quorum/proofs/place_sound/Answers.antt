@@ -5,5 +5,5 @@ use Rattle.quorum.proofs.place_sound.Goals as goal
 pub returns-then-is_listed : goal.returns-then-is_listed
 returns-then-is_listed c = c.others.ensures ∙ sym (pick_yes _ _ _ c.if-is_listed.true)
 
-pub returns : goal.returns
-returns c = sym (pick_no _ _ _ c.if-is_listed.false)
+pub returns-else-is_listed : goal.returns-else-is_listed
+returns-else-is_listed c = sym (pick_no _ _ _ c.if-is_listed.false)

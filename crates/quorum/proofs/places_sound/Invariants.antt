@@ -1,4 +1,3 @@
-use Prim.Native.Nat.{◌≤◌, ◌-◌}
 use mathlib.Core.Path.{◌≡◌}
 use mathlib.Core.Bool.{true}
 use lib.Dec.{eqb, ltb}
@@ -9,7 +8,4 @@ use Rattle.quorum.specs.Quorum.{others}
 use Rattle.quorum.proofs.places_sound.Given as goal
 
 abbrev pub invariant-loop-i : goal.invariant-loop-i
-invariant-loop-i l = (l.i ≤ 16) × (all l.i (λ k. pick (ltb k l.count) (others l.n l.source (get_or l.groups k 0)) (eqb (get_or l.groups k 0) 0)) ≡ true)
-
-abbrev pub decreases-loop-i : goal.decreases-loop-i
-decreases-loop-i l = 16 - l.i
+invariant-loop-i l = all l.i (λ k. pick (ltb k l.count) (others l.n l.source (get_or l.groups k 0)) (eqb (get_or l.groups k 0) 0)) ≡ true

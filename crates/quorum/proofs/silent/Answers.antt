@@ -9,8 +9,9 @@ use Rattle.quorum.proofs.silent.Goals as goal
 
 pub returns-then-edition_of-eq0 : goal.returns-then-edition_of-eq0
 unfolding silent
-returns-then-edition_of-eq0 c = sym (or_l _ _ (eq-eqb _ 0 (sym c.edition_of.ensures ∙ c.if-edition_of-eq0.true)))
+returns-then-edition_of-eq0 c =
+    eq-eqb _ 0 c.if-edition_of-eq0.true ∙ sym (or_l _ _ (eq-eqb _ 0 (sym c.edition_of.ensures ∙ c.if-edition_of-eq0.true)))
 
-pub returns : goal.returns
+pub returns-else-edition_of-eq0 : goal.returns-else-edition_of-eq0
 unfolding silent
-returns c = sym (or_none _ _ (ne_eqb _ 0 (λ e. c.if-edition_of-eq0.false (c.edition_of.ensures ∙ e))) ∙ ap (λ (k : ℕ). eqb k 0) (sym c.layout_of.ensures))
+returns-else-edition_of-eq0 c = sym (or_none _ _ (ne_eqb _ 0 (λ e. c.if-edition_of-eq0.false (c.edition_of.ensures ∙ e))) ∙ ap (λ (k : ℕ). eqb k 0) (sym c.layout_of.ensures))

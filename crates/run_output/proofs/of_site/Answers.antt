@@ -1,5 +1,4 @@
-use Prim.Native.Nat.{ℕ, ◌<◌}
-use mathlib.Core.Path.{◌≡◌, ap, ◌∙◌, sym}
+use mathlib.Core.Path.{sym}
 use mathlib.Core.List.{[]}
 use native.Mathlib.Omega.{arith}
 use Rattle.terminal.specs.declared.State.TheVariants.{Waiting}
@@ -13,19 +12,10 @@ use Rattle.run_output.proofs.of_site.Goals as goal
 
 pub loop-b-init : goal.loop-b-init
 unfolding site_lines
-loop-b-init c = (omega arith, c.empty-t.ensures)
-
-pub bounds-records-b : goal.bounds-records-b
-bounds-records-b c = let b : c.loop-b.b < 20 = omega arith in b
+loop-b-init c = c.empty-t.ensures
 
 pub loop-b-preserved : goal.loop-b-preserved
 loop-b-preserved c = let l = c.loop-b in
     let a = c.args in
     let e = same_state a.records l.b (record { state = Waiting; round = 0; notes = [] }) nothing_heard (sym (shown_state start)) in
-    (omega arith, next_line a.form l.b a.faulty (state_of a.records) _ _ _ _ (omega arith) c.member.ensures e l.invariant.1 c.with_terminal-t.ensures)
-
-pub returns : goal.returns
-returns c = let l = c.loop-b in
-    let a = c.args in
-    let e : l.b ≡ a.n = omega arith in
-    l.invariant.1 ∙ ap (λ (k : ℕ). site_lines a.form k a.faulty (state_of a.records)) e
+    next_line a.form l.b a.faulty (state_of a.records) _ _ _ _ (omega arith) c.member-bad.ensures e l.invariant c.with_terminal-t.ensures

@@ -1,5 +1,4 @@
 -- The invariant: the lines of the terminals so far. Assumes nothing.
-use Prim.Native.Nat.{◌-◌, ◌≤◌}
 use mathlib.Core.Path.{◌≡◌}
 use Rattle.simulation.specs.Answer.{state_of}
 use Rattle.text.specs.Texts.{held}
@@ -7,7 +6,4 @@ use Rattle.run_output.specs.Site.{site_lines}
 use Rattle.run_output.proofs.of_site.Given as goal
 
 abbrev pub invariant-loop-b : goal.invariant-loop-b
-invariant-loop-b l = (l.b ≤ l.n) × (held l.t ≡ site_lines l.form l.b l.faulty (state_of l.records))
-
-abbrev pub decreases-loop-b : goal.decreases-loop-b
-decreases-loop-b l = l.n - l.b
+invariant-loop-b l = held l.t ≡ site_lines l.form l.b l.faulty (state_of l.records)

@@ -1,27 +1,23 @@
 -- Each judgement's line, by what the judgement tells. Assumes nothing.
-use mathlib.Core.Path.{refl}
-use native.Mathlib.Omega.{arith}
-use Rattle.partition.specs.declared.Judgement.TheVariants.{Pass, Fail, WrongRange, TooMany, WrongLink, WrongGroups}
+use Prim.Native.Nat.{ℕ}
+use mathlib.Core.Path.{◌≡◌, refl, ap, ◌∙◌}
+use Rattle.std.specs.Prelude.{Some, None, Ok}
+use Rattle.output.specs.OnFile.{refusal_line}
 use Rattle.sentence_output.proofs.Answers.{says_passed, says_failed, says_refused}
 use Rattle.sentence_output.proofs.answer.Goals as goal
 
+pub returns-in-Ok-None : goal.returns-in-Ok-None
+returns-in-Ok-None c = let e : c.in-Ok-None.field-0 ≡ None = rw c.in-Ok-None.is at c.in-Ok-None.field-0-is in
+    says_passed _ _ _ (c.in-Ok-None.is ∙ ap Ok e) c.pass_line.ensures
+
 pub fail_line-requires : goal.fail_line-requires
-fail_line-requires c = let composes = rw c.in-Fail.is at c.requires in composes refl
+fail_line-requires c = let e : c.in-Ok-Some.field-0 ≡ Some c.in-Ok-Some.w = rw c.in-Ok-Some.is at c.in-Ok-Some.field-0-is in
+    let composes = rw (c.in-Ok-Some.is ∙ ap Ok e) at c.requires in
+    composes refl
 
-pub returns-in-Pass : goal.returns-in-Pass
-returns-in-Pass c = says_passed _ _ Pass _ c.in-Pass.is refl refl c.pass_line.ensures
+pub returns-in-Ok-Some : goal.returns-in-Ok-Some
+returns-in-Ok-Some c = let e : c.in-Ok-Some.field-0 ≡ Some c.in-Ok-Some.w = rw c.in-Ok-Some.is at c.in-Ok-Some.field-0-is in
+    says_failed _ _ _ _ (c.in-Ok-Some.is ∙ ap Ok e) c.fail_line.ensures
 
-pub returns-in-Fail : goal.returns-in-Fail
-returns-in-Fail c = says_failed _ _ (Fail _) _ c.in-Fail.is refl (λ z. omega arith) c.fail_line.ensures
-
-pub returns-in-WrongRange : goal.returns-in-WrongRange
-returns-in-WrongRange c = says_refused _ _ WrongRange _ c.in-WrongRange.is (λ z. omega arith) c.refusal.ensures
-
-pub returns-in-TooMany : goal.returns-in-TooMany
-returns-in-TooMany c = says_refused _ _ TooMany _ c.in-TooMany.is (λ z. omega arith) c.refusal-in-TooMany.ensures
-
-pub returns-in-WrongLink : goal.returns-in-WrongLink
-returns-in-WrongLink c = says_refused _ _ WrongLink _ c.in-WrongLink.is (λ z. omega arith) c.refusal-in-WrongLink.ensures
-
-pub returns-in-WrongGroups : goal.returns-in-WrongGroups
-returns-in-WrongGroups c = says_refused _ _ WrongGroups _ c.in-WrongGroups.is (λ z. omega arith) c.refusal-in-WrongGroups.ensures
+pub returns-in-Err : goal.returns-in-Err
+returns-in-Err c = says_refused _ _ _ _ c.in-Err.is (c.refusal.ensures ∙ ap (λ (k : ℕ). refusal_line k 0) c.from.ensures)

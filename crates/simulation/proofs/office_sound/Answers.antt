@@ -7,10 +7,12 @@ use Rattle.quorum.specs.Notice.{rising}
 use Rattle.simulation.specs.Answer.{office_sound}
 use Rattle.simulation.proofs.office_sound.Goals as goal
 
-pub returns-then-edition-eq0 : goal.returns-then-edition-eq0
+pub returns-then-edition-ne0 : goal.returns-then-edition-ne0
 unfolding office_sound
-returns-then-edition-eq0 c = sym (and_no_l _ _ (not_yes (eq-eqb _ 0 (sym c.edition_of-edition.ensures ∙ c.if-edition-eq0.true))))
+returns-then-edition-ne0 c = c.rising.ensures ∙ ap (λ (e : ℕ). rising e c.args.later.now) c.edition_of-edition.ensures ∙ sym (and_yes _ _ (not_i (ne_eqb _ 0 (λ z. c.if-edition-ne0.true (c.edition_of-edition.ensures ∙ z)))))
 
-pub returns : goal.returns
+pub returns-else-edition-ne0 : goal.returns-else-edition-ne0
 unfolding office_sound
-returns c = c.rising.ensures ∙ ap (λ (e : ℕ). rising e c.args.later.now) c.edition_of-edition.ensures ∙ sym (and_yes _ _ (not_i (ne_eqb _ 0 (λ z. c.if-edition-eq0.false (c.edition_of-edition.ensures ∙ z)))))
+returns-else-edition-ne0 c =
+    let none = not_yes (eq-eqb _ 0 c.if-edition-ne0.false) in
+    none ∙ sym (and_no_l _ _ (not_yes (eq-eqb _ 0 (sym c.edition_of-edition.ensures ∙ c.if-edition-ne0.false))))

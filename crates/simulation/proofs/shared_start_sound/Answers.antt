@@ -8,6 +8,6 @@ pub returns-then-start_sound : goal.returns-then-start_sound
 unfolding shared_start_sound
 returns-then-start_sound c = sym (and_yes _ _ (sym c.start_sound.ensures ∙ c.if-start_sound.true))
 
-pub returns : goal.returns
+pub returns-else-start_sound : goal.returns-else-start_sound
 unfolding shared_start_sound
-returns c = sym (and_no_l _ _ (sym c.start_sound.ensures ∙ c.if-start_sound.false))
+returns-else-start_sound c = c.if-start_sound.false ∙ sym (and_no_l _ _ (sym c.start_sound.ensures ∙ c.if-start_sound.false))

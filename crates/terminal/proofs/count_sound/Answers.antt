@@ -1,12 +1,12 @@
 -- `count_sound` meets its contract, by whether the neighbour is heard. Assumes nothing.
-use Rattle.sets.specs.Tests.{◌implies◌}
 use borrow.Author.Rules.{rules}
+use Rattle.sets.specs.Tests.{◌implies◌}
 use Rattle.terminal.proofs.count_sound.Goals as goal
 
-pub returns-then-hears : goal.returns-then-hears
+pub returns-then-not-hears : goal.returns-then-not-hears
 unfolding ◌implies◌
-returns-then-hears c = (simp c.if-hears.true, search rules)
+returns-then-not-hears c = (simp c.if-not-hears.true, search rules)
 
-pub returns : goal.returns
+pub returns-else-not-hears : goal.returns-else-not-hears
 unfolding ◌implies◌
-returns c = (simp c.if-hears.false, search rules)
+returns-else-not-hears c = (simp c.if-not-hears.false, search rules)

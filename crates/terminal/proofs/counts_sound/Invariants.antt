@@ -1,5 +1,5 @@
--- `counts_sound` meets its contract. The invariant: the counts of the terminals below `j` are sound, and each of their notes has forty places. Assumes nothing.
-use Prim.Native.Nat.{ℕ, ◌≤◌, ◌<◌, ◌-◌}
+-- `counts_sound` meets its contract. The invariant: the counts of the terminals passed are sound, and each of their notes has forty places. Assumes nothing.
+use Prim.Native.Nat.{ℕ, ◌<◌}
 use mathlib.Core.Path.{◌≡◌}
 use mathlib.Core.Bool.{true}
 use lib.Dec.{leb}
@@ -10,7 +10,5 @@ use Rattle.terminal.specs.Shown.{note_of}
 use Rattle.terminal.proofs.counts_sound.Given as goal
 
 abbrev pub invariant-loop-j : goal.invariant-loop-j
-invariant-loop-j l = (l.j ≤ 20) × (all l.j (λ i. mem i l.heard implies leb (note_of l.notes i).count l.round) ≡ true) × ((i : ℕ) → i < l.j → length (note_of l.notes i).values ≡ 40)
-
-abbrev pub decreases-loop-j : goal.decreases-loop-j
-decreases-loop-j l = 20 - l.j
+invariant-loop-j l =
+    (all l.j (λ i. mem i l.heard implies leb (note_of l.notes i).count l.round) ≡ true) × ((i : ℕ) → i < l.j → length (note_of l.notes i).values ≡ 40)

@@ -4,8 +4,8 @@ use borrow.Author.Tests.{le-leb, lt-leb}
 use Rattle.sets.proofs.Bools.{and_yes, and_no_l}
 use Rattle.terminal.proofs.office_sound.Goals as goal
 
-pub returns-then-round-le40 : goal.returns-then-round-le40
-returns-then-round-le40 c = c.state_sound.ensures ∙ sym (and_yes _ _ (le-leb _ _ c.if-round-le40.true))
+pub returns-then-before-le40 : goal.returns-then-before-le40
+returns-then-before-le40 c = c.state_sound.ensures ∙ sym (and_yes _ _ (le-leb _ _ c.if-before-le40.true))
 
-pub returns : goal.returns
-returns c = sym (and_no_l _ _ (lt-leb _ _ c.if-round-le40.false))
+pub returns-else-before-le40 : goal.returns-else-before-le40
+returns-else-before-le40 c = lt-leb _ _ c.if-before-le40.false ∙ sym (and_no_l _ _ (lt-leb _ _ c.if-before-le40.false))

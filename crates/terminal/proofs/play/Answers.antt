@@ -2,27 +2,15 @@
 use Prim.Native.Nat.{ℕ, ◌+◌}
 use mathlib.Core.Path.{◌≡◌, sym, ap, ◌∙◌, subst}
 use mathlib.Core.List.{List, map}
-use native.Mathlib.Omega.{arith}
 use lib.ListN.{get_or}
 use Rattle.sets.specs.Sets.{mem}
 use Rattle.terminal.specs.declared.Record.{Record}
 use Rattle.terminal.specs.Rule.{noted, chosen, held_by, taking}
 use Rattle.terminal.specs.Shown.{spoken_in, Whole, notes_over}
-use Rattle.terminal.specs.Votes.{HavePlaces, HaveRoom}
+use Rattle.terminal.specs.Votes.{HavePlaces}
 use Rattle.terminal.proofs.Shown.{over_whole}
 use Rattle.terminal.proofs.Noting.{noted_fits, other_shown, source_shown}
 use Rattle.terminal.proofs.play.Goals as goal
-
-pub note-heard_all-requires : goal.note-heard_all-requires
-note-heard_all-requires c =
-    let a = c.args in
-    let p = c.requires in
-    let e : c.advance.result.notes ≡ a.before.notes = ap (λ (r : Record). r.notes) c.advance.ensures in (
-      (let l = p.0 in omega arith),
-      (let l = p.2 in omega arith),
-      subst Whole (sym e) p.4,
-      subst (HaveRoom a.heard) (sym e) p.5,
-    )
 
 -- the record that has noted
 raised : (n heard : ℕ) (said : List ℕ) (before up x : Record)

@@ -7,4 +7,4 @@ use Rattle.terminal.proofs.Shown.{shown_nothing}
 use Rattle.terminal.proofs.source_start.Goals as goal
 
 pub returns : goal.returns
-returns c = ap (λ (m : Note). record { state = Taken 0 c.args.notice; round = 0; notes = replicate 20 m }) c.no_note-nothing.ensures ∙ shown_nothing _
+returns c = ap (λ (m : Note). record { state = Taken 0 c.args.notice; round = 0; notes = replicate 20 m }) c.no_note.ensures ∙ shown_nothing _

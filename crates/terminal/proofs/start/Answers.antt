@@ -7,4 +7,4 @@ use Rattle.terminal.proofs.Shown.{shown_nothing}
 use Rattle.terminal.proofs.start.Goals as goal
 
 pub returns : goal.returns
-returns c = ap (λ (m : Note). record { state = Waiting; round = 0; notes = replicate 20 m }) c.no_note-nothing.ensures ∙ shown_nothing _
+returns c = ap (λ (m : Note). record { state = Waiting; round = 0; notes = replicate 20 m }) c.no_note.ensures ∙ shown_nothing _

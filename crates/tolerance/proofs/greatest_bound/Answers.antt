@@ -1,20 +1,14 @@
 -- The plan's cause decides, then the count. Assumes nothing.
 use mathlib.Core.Path.{sym, ap, ◌∙◌}
-use Rattle.plan.specs.Plan.{number_of, cause_of}
-use Rattle.tolerance.proofs.Answers.{told_greatest, told_refused, never_seventeen}
+use Rattle.plan.specs.Plan.{cause_of}
+use Rattle.tolerance.proofs.Answers.{told_last, plan_refused}
 use Rattle.tolerance.proofs.greatest_bound.Goals as goal
 
+pub returns-in_err-check : goal.returns-in_err-check
+returns-in_err-check c = plan_refused c.args.d _ _ c.from_residual.ensures.1 (c.in_err-check.ensures ∙ ap cause_of c.with_bound.ensures)
+
 pub passed-requires : goal.passed-requires
-passed-requires c = ap cause_of (sym c.with_bound.ensures) ∙ sym c.check-soundness.ensures ∙ ap number_of c.in-Sound.is
+passed-requires c = ap cause_of (sym c.with_bound.ensures) ∙ sym c.in_ok-check.ensures
 
-pub returns-in-Sound : goal.returns-in-Sound
-returns-in-Sound c = told_greatest c.args.d (ap cause_of (sym c.with_bound.ensures) ∙ sym c.check-soundness.ensures ∙ ap number_of c.in-Sound.is) c.last_of.result c.last_of.ensures.0 (c.last_of.ensures.1 ∙ c.passed.ensures)
-
-pub returns-in-WrongRange : goal.returns-in-WrongRange
-returns-in-WrongRange c = told_refused c.args.d 3 (sym (ap number_of c.in-WrongRange.is) ∙ c.check-soundness.ensures ∙ ap cause_of c.with_bound.ensures)
-
-pub returns-in-WrongLink : goal.returns-in-WrongLink
-returns-in-WrongLink c = told_refused c.args.d 4 (sym (ap number_of c.in-WrongLink.is) ∙ c.check-soundness.ensures ∙ ap cause_of c.with_bound.ensures)
-
-pub returns-in-WrongGroups : goal.returns-in-WrongGroups
-returns-in-WrongGroups c = absurd (never_seventeen c.args.d (ap cause_of (sym c.with_bound.ensures) ∙ sym c.check-soundness.ensures ∙ ap number_of c.in-WrongGroups.is))
+pub returns : goal.returns
+returns c = told_last c.args.d (ap cause_of (sym c.with_bound.ensures) ∙ sym c.in_ok-check.ensures) _ _ c.checked_sub.ensures c.passed.ensures

@@ -1,17 +1,20 @@
--- The judgement's line on the file, put into the list. Assumes nothing.
+-- The judgement's line on the file, or why it is refused, put into the list. Assumes nothing.
 use Rattle.plan.specs.Plan.{most_quoted}
 use Rattle.closure.specs.Answer.{quote_of}
-use Rattle.output.proofs.Laws.{put_as}
 use Rattle.verdict_output.specs.Verdict.{quote_text}
-use Rattle.verdict_output.proofs.LineLaws.{answer_small, verdict_is}
+use Rattle.verdict_output.proofs.LineLaws.{answer_small, put_verdict, put_refusal}
 use Rattle.verdict_output.proofs.quote_text.Goals as goal
 
-pub of_plan-requires : goal.of_plan-requires
+pub answer-requires : goal.answer-requires
 unfolding quote_of
-of_plan-requires c = answer_small most_quoted _ c.quote-j.result c.quote-j.ensures.answer
+answer-requires c = answer_small most_quoted _ c.quote.result c.quote.ensures.answer
 
-pub returns : goal.returns
+pub returns-in-Ok : goal.returns-in-Ok
 unfolding quote_of quote_text
-returns c = let e = c.read_quote-read.ensures in
-    let p = put_as _ _ _ _ _ _ _ e (verdict_is most_quoted _ _ _ _ e c.quote-j.ensures.answer c.of_plan.ensures) c.put.ensures.value c.put.ensures.out_after in
+returns-in-Ok c = let p = put_verdict most_quoted _ _ _ _ _ (c.in-Ok.ensures {u = tt}) c.quote.ensures.answer c.answer.ensures c.put.ensures.value c.put.ensures.out_after in
+    record { value = p.0; out_after = p.1 }
+
+pub returns-in-Err : goal.returns-in-Err
+unfolding quote_text
+returns-in-Err c = let p = put_refusal most_quoted _ _ _ (c.in-Err.ensures {u = tt}) c.refused.ensures.value c.refused.ensures.out_after in
     record { value = p.0; out_after = p.1 }

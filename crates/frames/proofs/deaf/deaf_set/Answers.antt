@@ -1,26 +1,10 @@
-use Prim.Native.Nat.{ℕ}
-use mathlib.Core.Path.{◌≡◌, refl, ap, ◌∙◌}
-use native.Mathlib.Omega.{arith}
-use Rattle.sets.specs.Sets.{bit, mask}
-use Rattle.sets.proofs.Masks.{next_bit, byte_bit}
+-- The set of those who pass the test. Assumes nothing.
+use mathlib.Core.Path.{◌∙◌}
+use borrow.Author.Rules.{rules}
+use Rattle.sets.proofs.Masks.{mask_few}
 use Rattle.plan.specs.Deaf.{is_deaf, deaf_set}
 use Rattle.frames.proofs.deaf.deaf_set.Goals as goal
 
--- The loop's invariant: the mask so far is that of the terminals passed. Assumes nothing.
-
-pub loop-b-init : goal.loop-b-init
-unfolding mask
-loop-b-init c = (omega arith, refl)
-
-pub loop-b-preserved : goal.loop-b-preserved
-loop-b-preserved c = (
-  omega (arith, c.loop-b-test.true),
-  next_bit _ (is_deaf c.args.p) _ _ (omega (arith, c.requires, c.loop-b-test.true)) c.loop-b.invariant.1 (byte_bit c.is_deaf-one.result ∙ ap bit c.is_deaf-one.ensures),
-)
-
 pub returns : goal.returns
 unfolding deaf_set
-returns c = let l = c.loop-b in
-    let a = c.args in
-    let e : l.b ≡ a.p.n = omega (arith, l.invariant.0, c.loop-b-test.false) in
-    l.invariant.1 ∙ ap (λ (k : ℕ). mask k (is_deaf a.p)) e
+returns c = let p = c.args.p in c.those.ensures (is_deaf p) (λ b x k h. search rules) ∙ mask_few p.n (is_deaf p) c.requires

@@ -6,11 +6,13 @@ use mir.Facts.{to_z-of_z}
 use Rattle.margin_output.proofs.TableLaws.{tally_below, tally_above, tally_level}
 use Rattle.margin_output.proofs.counting.with_margin.Goals as goal
 
-pub returns-then-is_below : goal.returns-then-is_below
-returns-then-is_below c = let a = c.args in let back = to_z-of_z c.ranges.m in tally_below a.t a.m (sym (ap (λ (z : ℤ). lt_z z (pos 0)) back) ∙ sym c.is_below.ensures ∙ c.if-is_below.true)
+pub returns-then-m-lt0 : goal.returns-then-m-lt0
+returns-then-m-lt0 c = let back = to_z-of_z c.ranges.m in tally_below c.args.t c.args.m (sym (ap (λ (z : ℤ). lt_z z (pos 0)) back) ∙ c.if-m-lt0.true)
 
-pub returns-then-is_above : goal.returns-then-is_above
-returns-then-is_above c = let a = c.args in let back = to_z-of_z c.ranges.m in tally_above a.t a.m (sym (ap (λ (z : ℤ). lt_z z (pos 0)) back) ∙ sym c.is_below.ensures ∙ c.if-is_below.false) (sym (ap (λ (z : ℤ). lt_z (pos 0) z) back) ∙ sym c.is_above.ensures ∙ c.if-is_above.true)
+pub returns-then-m-gt0 : goal.returns-then-m-gt0
+returns-then-m-gt0 c = let back = to_z-of_z c.ranges.m in
+    tally_above c.args.t c.args.m (sym (ap (λ (z : ℤ). lt_z z (pos 0)) back) ∙ c.if-m-lt0.false) (sym (ap (λ (z : ℤ). lt_z (pos 0) z) back) ∙ c.if-m-gt0.true)
 
 pub returns : goal.returns
-returns c = let a = c.args in let back = to_z-of_z c.ranges.m in tally_level a.t a.m (sym (ap (λ (z : ℤ). lt_z z (pos 0)) back) ∙ sym c.is_below.ensures ∙ c.if-is_below.false) (sym (ap (λ (z : ℤ). lt_z (pos 0) z) back) ∙ sym c.is_above.ensures ∙ c.if-is_above.false)
+returns c = let back = to_z-of_z c.ranges.m in
+    tally_level c.args.t c.args.m (sym (ap (λ (z : ℤ). lt_z z (pos 0)) back) ∙ c.if-m-lt0.false) (sym (ap (λ (z : ℤ). lt_z (pos 0) z) back) ∙ c.if-m-gt0.false)

@@ -4,7 +4,7 @@ use Rattle.partition.specs.Search.{Grown}
 use Rattle.partition.proofs.bound.settled.Given as goal
 
 abbrev pub invariant-loop-s : goal.invariant-loop-s
-invariant-loop-s l = Grown l.p l.out l.known l.s
+invariant-loop-s l = Grown l.site.plan l.out l.known l.s
 
 abbrev pub decreases-loop-s : goal.decreases-loop-s
-decreases-loop-s l = l.p.n - count l.p.n (λ i. mem i l.s)
+decreases-loop-s l = l.site.plan.n - count l.site.plan.n (λ i. mem i l.s)

@@ -1,7 +1,6 @@
 -- Each return is the least of its part, and each call is given a narrower part. Assumes nothing.
 use mathlib.Core.Path.{sym, ◌∙◌}
 use native.Mathlib.Omega.{arith}
-use Rattle.plan.proofs.Laws.{sound}
 use Rattle.partition.proofs.Parts.{all_low, all_fault, all_part, all_fewer, meets, no_better, takes, widens}
 use Rattle.partition.proofs.Parts.{no_hope, none_left, part_without, without_less, part_with, with_less, both}
 use Rattle.partition.proofs.branch.+inside_split.Goals as goal
@@ -17,8 +16,7 @@ inside-returns-then-best-own t c = no_better c.requires c.spread-all.ensures _ _
 
 pub inside-defeats-requires : goal.inside-defeats-requires
 inside-defeats-requires t c =
-    let part = c.requires in
-    (part.plan, part.hearers_are, all_fault part c.spread-all.ensures c.if-all-out-ne0.false)
+    all_fault c.requires c.spread-all.ensures c.if-all-out-ne0.false
 
 pub inside-returns-then-defeats : goal.inside-returns-then-defeats
 inside-returns-then-defeats t c =
@@ -34,14 +32,8 @@ inside-split-requires t c =
 pub inside-returns : goal.inside-returns
 inside-returns t c = widens c.requires c.spread-all.ensures c.split.ensures
 
-pub split-outside-rest-requires : goal.split-outside-rest-requires
-split-outside-rest-requires t c = (sound _ c.requires.0.plan).twenty
-
 pub split-returns-then-hopeless : goal.split-returns-then-hopeless
 split-returns-then-hopeless t c = no_hope c.requires.0 c.settled-sure.ensures _ (c.hopeless.ensures c.if-hopeless.true)
-
-pub split-outside-free-requires : goal.split-outside-free-requires
-split-outside-free-requires t c = (sound _ c.requires.0.plan).twenty
 
 pub split-returns-then-free-eq0 : goal.split-returns-then-free-eq0
 split-returns-then-free-eq0 t c =

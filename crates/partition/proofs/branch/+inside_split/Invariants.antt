@@ -4,7 +4,7 @@ use Rattle.partition.proofs.Halves.{left_to}
 use Rattle.partition.proofs.branch.+inside_split.Given as goal
 
 abbrev pub decreases-inside : goal.decreases-inside
-decreases-inside l = 2 * left_to l.p.n l.inn l.out + 1
+decreases-inside l = 2 * left_to l.site.now.plan.n l.inn l.out + 1
 
 abbrev pub decreases-split : goal.decreases-split
-decreases-split l = 2 * left_to l.p.n l.inn l.out
+decreases-split l = 2 * left_to l.site.now.plan.n l.inn l.out

@@ -2,7 +2,6 @@
 use mathlib.Core.Path.{sym, ◌∙◌}
 use native.Mathlib.Omega.{arith}
 use Rattle.quorum.specs.Quorum.{group_at}
-use Rattle.plan.proofs.Laws.{sound}
 use Rattle.partition.proofs.Members.{key_low}
 use Rattle.partition.proofs.Cuts.{inn_low_twenty, no_sooner, own_defeats, one_more, none_free, both_below, done_with, no_hope_left}
 use Rattle.partition.proofs.Cuts.{cutting_without, left_without, cutting_with, left_with, both_halves, earlier_still}
@@ -18,10 +17,6 @@ pub inside-returns-then-defeats : goal.inside-returns-then-defeats
 inside-returns-then-defeats t c =
     own_defeats c.requires.0 _ _ c.key-own.ensures c.if-best-own.false (sym c.defeats.ensures ∙ c.if-defeats.true)
 
-pub inside-split-requires : goal.inside-split-requires
-inside-split-requires t c =
-    let given = c.requires in (omega arith, (given.0, sym c.defeats.ensures ∙ c.if-defeats.false, given.1, given.2))
-
 pub split-key-requires : goal.split-key-requires
 split-key-requires t c = inn_low_twenty c.requires.0
 
@@ -31,9 +26,6 @@ split-overflow_add-key t c = let l = key_low _ (inn_low_twenty c.requires.0) in 
 pub split-returns-then-best-key : goal.split-returns-then-best-key
 split-returns-then-best-key t c =
     let given = c.requires in one_more given.0 given.1 _ _ c.key.ensures c.if-best-key.true
-
-pub split-outside-free-requires : goal.split-outside-free-requires
-split-outside-free-requires t c = (sound _ c.requires.0.plan).twenty
 
 pub split-returns-then-free-eq0 : goal.split-returns-then-free-eq0
 split-returns-then-free-eq0 t c =
@@ -47,7 +39,7 @@ split-returns-then-part_of_earlier t c =
 
 pub split-still_hopeful-left-requires : goal.split-still_hopeful-left-requires
 split-still_hopeful-left-requires t c =
-    let part = c.requires.0 in (part.plan, part.hearers_are, both_below part _ c.outside-free.ensures, part.hopeful_below)
+    let part = c.requires.0 in (both_below part _ c.outside-free.ensures, part.hopeful_below)
 
 pub split-returns-then-left-eq0 : goal.split-returns-then-left-eq0
 split-returns-then-left-eq0 t c =

@@ -1,8 +1,5 @@
-use Prim.Native.Nat.{◌<◌, ◌-◌, ◌^◌}
+use Prim.Native.Nat.{◌<◌, ◌^◌}
 use Rattle.partition.proofs.groups.decisive.Given as goal
 
 abbrev pub invariant-loop-c : goal.invariant-loop-c
-invariant-loop-c l = l.bad < 2 ^ l.p.n
-
-abbrev pub decreases-loop-c : goal.decreases-loop-c
-decreases-loop-c l = l.p.n - l.c
+invariant-loop-c l = l.bad < 2 ^ l.site.plan.n

@@ -3,22 +3,16 @@ use mathlib.Core.Path.{◌≡◌, subst}
 use native.Mathlib.Omega.{arith}
 use Rattle.quorum.specs.Quorum.{group_at}
 use Rattle.partition.specs.Search.{Least, PartOfOne}
-use Rattle.partition.proofs.Cuts.{groups_none, groups_next, group_together, groups_all}
+use Rattle.partition.proofs.Cuts.{groups_next, group_together, groups_all}
 use Rattle.partition.proofs.groups.of_all.Goals as goal
-
-pub loop-i-init : goal.loop-i-init
-loop-i-init c = (omega arith, groups_none _ _)
-
-pub bounds-groups-i : goal.bounds-groups-i
-bounds-groups-i c = c.loop-i-test.true
 
 pub of_group-least-requires : goal.of_group-least-requires
 unfolding group_at
-of_group-least-requires c = let g = c.requires in (g.0, g.1, group_together _ g.0 _ g.2.1 c.loop-i.i c.loop-i-test.true, c.loop-i.invariant.1.below, c.loop-i.invariant.0)
+of_group-least-requires c = let g = c.requires in (group_together _ c.args.site.now.sound _ g.1 c.loop-i.i c.loop-i-test.true, c.loop-i.invariant.below, omega arith)
 
 pub loop-i-preserved : goal.loop-i-preserved
 unfolding group_at
-loop-i-preserved c = (omega arith, groups_next _ _ c.loop-i.invariant.1 c.of_group-least.ensures)
+loop-i-preserved c = groups_next _ _ c.loop-i.invariant c.of_group-least.ensures
 
 pub returns : goal.returns
-returns c = let g = c.requires in let e : c.loop-i.i ≡ 16 = omega arith in groups_all _ g.0 _ g.2.1 (subst (λ (k : ℕ). Least c.args.p (PartOfOne c.args.p k) c.args.best c.loop-i.least) e c.loop-i.invariant.1)
+returns c = let g = c.requires in let e : c.loop-i.i ≡ 16 = omega arith in groups_all _ c.args.site.now.sound _ g.1 (subst (λ (k : ℕ). Least c.args.site.now.plan (PartOfOne c.args.site.now.plan k) c.args.best c.loop-i.least) e c.loop-i.invariant)

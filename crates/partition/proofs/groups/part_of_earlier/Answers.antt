@@ -1,5 +1,4 @@
 use mathlib.Core.Path.{refl}
-use native.Mathlib.Omega.{arith}
 use borrow.Author.Rules.{rules}
 use lib.ListN.{get_or}
 use mir.Val.{Fits}
@@ -8,17 +7,8 @@ use Rattle.sets.proofs.Bools.{clash}
 use Rattle.partition.proofs.Members.{inside_test}
 use Rattle.partition.proofs.groups.part_of_earlier.Goals as goal
 
-pub offset_bounds-groups-j : goal.offset_bounds-groups-j
-offset_bounds-groups-j c = let l = c.requires in omega arith
-
-pub bounds-groups-j : goal.bounds-groups-j
-bounds-groups-j c = let l = c.requires in omega arith
-
 pub returns-then-s-groups-eq0 : goal.returns-then-s-groups-eq0
 returns-then-s-groups-eq0 c = let l = c.requires in let a = c.args in let one : Fits w32 a.s = search rules in let other : Fits w32 (get_or a.groups c.loop-j.j 0) = search rules in λ e. (c.loop-j.j, c.loop-j-test.true, inside_test _ _ one.fits other.fits c.if-s-groups-eq0.true)
-
-pub overflow_add-j : goal.overflow_add-j
-overflow_add-j c = let l = c.requires in omega arith
 
 pub returns : goal.returns
 returns c = λ e. clash e refl

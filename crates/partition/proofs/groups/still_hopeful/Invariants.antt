@@ -3,7 +3,7 @@ use Rattle.partition.specs.Search.{Hopeful}
 use Rattle.partition.proofs.groups.still_hopeful.Given as goal
 
 abbrev pub invariant-loop-rest : goal.invariant-loop-rest
-invariant-loop-rest l = Hopeful l.p l.all l.hopeful l.rest
+invariant-loop-rest l = Hopeful l.site.plan l.all l.hopeful l.rest
 
 abbrev pub decreases-loop-rest : goal.decreases-loop-rest
-decreases-loop-rest l = count l.p.n (λ i. mem i l.rest)
+decreases-loop-rest l = count l.site.plan.n (λ i. mem i l.rest)

@@ -1,6 +1,5 @@
 -- Each return is the least of its part, and each call is given a narrower part. Assumes nothing.
 use native.Mathlib.Omega.{arith}
-use Rattle.plan.proofs.Laws.{sound}
 use Rattle.partition.proofs.Parts.{all_part, all_fewer, part_without, without_less, part_with, with_less}
 use Rattle.partition.proofs.Lows.{and_below, shut_part, shut_fewer, meets_low, seen_now, low_inside, none_free, none_hopeful, seen_first, both_low}
 use Rattle.partition.proofs.margin.+inside_split.Goals as goal
@@ -28,9 +27,6 @@ inside-returns t c =
     low_inside given.0 _ given.1 _ c.spread-all.ensures c.if-all-out-ne0.false _ c.reach-l.ensures _ c.lowered-now.ensures
     c.split.ensures
 
-pub split-outside-free-requires : goal.split-outside-free-requires
-split-outside-free-requires t c = (sound _ c.requires.0.plan).twenty
-
 pub split-returns-then-left-eq0 : goal.split-returns-then-left-eq0
 split-returns-then-left-eq0 t c =
     let given = c.requires in
@@ -40,9 +36,6 @@ pub split-returns-then-free-eq0 : goal.split-returns-then-free-eq0
 split-returns-then-free-eq0 t c =
     let given = c.requires in
     none_free given.0 _ given.1 _ given.2 c.barred-shut.ensures _ c.outside-free.ensures c.if-free-eq0.true
-
-pub split-outside-requires : goal.split-outside-requires
-split-outside-requires t c = (sound _ c.requires.0.plan).twenty
 
 pub split-inside-first-requires : goal.split-inside-first-requires
 split-inside-first-requires t c =

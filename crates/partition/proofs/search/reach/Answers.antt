@@ -5,10 +5,10 @@ use Rattle.partition.proofs.search.reach.Goals as goal
 
 pub spread-requires : goal.spread-requires
 spread-requires c =
-    let s = c.requires in
-    (s.0, first_below _ (sound _ s.0) _ _ _ s.1 s.2 c.singleton-source.ensures)
+    let s = c.args.site.now in
+    first_below _ (sound _ s.sound) _ _ _ s.hearers_are c.requires c.singleton-source.ensures
 
 pub returns : goal.returns
 returns c =
-    let s = c.requires in
-    spread_reached _ (sound _ s.0) _ _ _ s.1 s.2 c.singleton-source.ensures _ c.spread.ensures
+    let s = c.args.site.now in
+    spread_reached _ (sound _ s.sound) _ _ _ s.hearers_are c.requires c.singleton-source.ensures _ c.spread.ensures

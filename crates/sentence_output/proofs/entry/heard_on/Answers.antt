@@ -1,19 +1,12 @@
--- The last byte decides, then the reader. Assumes nothing.
-use Prim.Native.Nat.{◌-◌}
-use mathlib.Core.Path.{◌∙◌}
-use native.Mathlib.Omega.{arith}
-use lib.ListN.{length, length-take}
-use Rattle.sentence_output.proofs.Entries.{on_empty, on_line_lem, on_other}
+-- The line end, then the reader. Assumes nothing.
+use mathlib.Core.Path.{sym, ap, ◌∙◌}
+use Rattle.wording.specs.Heard.{heard_of}
+use Rattle.sentence_output.proofs.Entries.{last_is, on_line_lem, on_other}
 use Rattle.sentence_output.proofs.entry.heard_on.Goals as goal
 
-pub returns-then-end-eq0 : goal.returns-then-end-eq0
-returns-then-end-eq0 c = on_empty c.args.n c.args.bytes.now c.if-end-eq0.true
-
-pub slice_bounds-read_sentence-length : goal.slice_bounds-read_sentence-length
-slice_bounds-read_sentence-length c = omega (arith, length-take (length c.args.bytes.now - 1) c.args.bytes.now)
-
-pub returns-then-bytes-end-eq10 : goal.returns-then-bytes-end-eq10
-returns-then-bytes-end-eq10 c = c.read_sentence.ensures ∙ on_line_lem c.args.n c.args.bytes.now c.if-bytes-end-eq10.true
+pub returns-in_default : goal.returns-in_default
+returns-in_default c = on_other _ _ (sym (last_is c.args.bytes.now) ∙ (c.in_default.ensures {u = tt}).cases)
 
 pub returns : goal.returns
-returns c = on_other c.args.n c.args.bytes.now c.if-bytes-end-eq10.false
+returns c = let h = (c.in-Some.ensures {u = tt}).cases in
+    c.read_sentence.ensures ∙ ap (heard_of c.args.n) h.1 ∙ on_line_lem _ _ (sym (last_is c.args.bytes.now) ∙ h.0)

@@ -1,11 +1,8 @@
--- The number that was found below k. Assumes nothing.
-use Prim.Native.Nat.{◌≤◌, ◌-◌}
+-- No number from n on was found. Assumes nothing.
+use Prim.Native.Nat.{◌≤◌}
 use mathlib.Core.Path.{◌≡◌}
-use Rattle.sentence_output.specs.Heard.{terminals_below}
+use Rattle.sentence_output.specs.Heard.{terminals_below, terminals_in}
 use Rattle.sentence_output.proofs.entry.terminals.Given as goal
 
-abbrev pub invariant-loop-k : goal.invariant-loop-k
-invariant-loop-k l = (2 ≤ l.k) × (l.k ≤ 21) × (l.n ≡ terminals_below l.k l.file)
-
-abbrev pub decreases-loop-k : goal.decreases-loop-k
-decreases-loop-k l = 21 - l.k
+abbrev pub invariant-loop-n : goal.invariant-loop-n
+invariant-loop-n l = (2 ≤ l.n) × (terminals_below l.n l.file ≡ terminals_in l.file)

@@ -1,16 +1,16 @@
 -- The definition's choices by the tests that led there; the last is what the step promises. Assumes nothing.
 use Prim.Native.Nat.{ℕ}
-use mathlib.Core.Path.{◌≡◌, sym, ap, ◌∙◌}
+use mathlib.Core.Path.{sym, ap, ◌∙◌}
 use mathlib.Core.List.{List}
 use borrow.Author.Tests.{eq-eqb, ne_eqb}
-use lib.ListN.{take, length}
-use lib.Seq.{length-take-le}
+use lib.ListN.{take}
+use Rattle.std.proofs.Common.{rules}
 use Rattle.sets.proofs.Bools.{pick_yes, pick_no}
 use Rattle.terminal.specs.Channel.{shared_record_after}
 use Rattle.plan.specs.Plan.{heard_by}
-use Rattle.simulation.specs.Turns.{shared_record_of}
-use Rattle.sets.proofs.Tables.{table_length}
-use native.Mathlib.Omega.{arith}
+use Rattle.simulation.specs.Turns.{shared_in, shared_record_of}
+use Rattle.sets.proofs.Filled.{filled}
+use Rattle.simulation.proofs.Heard.{layout_heard}
 use Rattle.simulation.proofs.channel.record_of.Goals as goal
 
 pub returns-then-member : goal.returns-then-member
@@ -23,24 +23,11 @@ returns-then-t-eq0 c =
     c.start_record.ensures
     ∙ sym (pick_no _ _ _ (sym c.member.ensures ∙ c.if-member.false) ∙ pick_yes _ _ _ (eq-eqb _ _ c.if-t-eq0.true))
 
-pub heard-said-requires : goal.heard-said-requires
-heard-said-requires c =
-    let p = c.requires in
-    (p.0, p.1, omega arith, p.2)
-
-pub slice_bounds-shared_step-end : goal.slice_bounds-shared_step-end
-slice_bounds-shared_step-end c =
-    let a = c.args in
-    let l = c.requires.0 in
-    let e : length c.heard-said.result ≡ 20 = ap length c.heard-said.ensures ∙ table_length 20 _ in
-    sym (length-take-le a.t.plan.n c.heard-said.result (omega arith))
-
 pub returns : goal.returns
 unfolding shared_record_of heard_by
 returns c =
     let a = c.args in
     c.shared_step-stepped.ensures.1
-    ∙ ap (λ (l : List ℕ). shared_record_after a.t.plan.n a.t.plan.source a.t.plan.bound a.t.at (heard_by a.t.plan a.t.at) a.t.default a.before (take a.t.plan.n l)) c.heard-said.ensures
-    ∙ sym
-    (pick_no _ _ _ (sym c.member.ensures ∙ c.if-member.false)
-    ∙ pick_no _ _ _ (ne_eqb _ _ c.if-t-eq0.false))
+    ∙ ap (λ (l : List ℕ). shared_record_after a.t.plan.n a.t.plan.source a.t.plan.bound a.t.at (heard_by a.t.plan a.t.at) a.t.default a.before (take a.t.plan.n l))
+    (filled _ (shared_in a.t a.words.now) _ 0 20 c.from_fn-said.result (λ k y q l call. search (rules, layout_heard)) c.from_fn-said.ensures.items)
+    ∙ sym (pick_no _ _ _ (sym c.member.ensures ∙ c.if-member.false) ∙ pick_no _ _ _ (ne_eqb _ _ c.if-t-eq0.false))

@@ -2,20 +2,17 @@
 use mathlib.Core.Path.{sym, ◌∙◌}
 use Rattle.sets.proofs.Bools.{pick_yes, pick_no}
 use Rattle.plan.specs.Plan.{heard_by, hears}
-use Rattle.simulation.specs.Turns.{heard_in}
+use Rattle.simulation.specs.Turns.{heard_where}
 use Rattle.simulation.proofs.playing.heard_from.Goals as goal
 
-pub word-requires : goal.word-requires
-word-requires c = (c.requires.0, c.requires.2, c.requires.3, c.requires.4, c.requires.1)
-
-pub returns-then-member-2 : goal.returns-then-member-2
-unfolding heard_in hears heard_by
-returns-then-member-2 c = c.word.ensures ∙ sym (pick_yes _ _ _ (sym c.member.ensures ∙ c.if-member.true) ∙ pick_yes _ _ _ (sym c.member-then-member.ensures ∙ c.if-member-2.true))
+pub returns-then-not-member : goal.returns-then-not-member
+unfolding heard_where hears heard_by
+returns-then-not-member c = sym (pick_no _ _ _ (sym c.member.ensures ∙ c.if-not-member.true))
 
 pub returns-then-member : goal.returns-then-member
-unfolding heard_in hears heard_by
-returns-then-member c = sym (pick_yes _ _ _ (sym c.member.ensures ∙ c.if-member.true) ∙ pick_no _ _ _ (sym c.member-then-member.ensures ∙ c.if-member-2.false))
+unfolding heard_where hears heard_by
+returns-then-member c = sym (pick_yes _ _ _ (sym c.member.ensures ∙ c.if-not-member.false) ∙ pick_yes _ _ _ (sym c.member-else-not-member.ensures ∙ c.if-member.true))
 
-pub returns : goal.returns
-unfolding heard_in hears heard_by
-returns c = sym (pick_no _ _ _ (sym c.member.ensures ∙ c.if-member.false))
+pub returns-else-member : goal.returns-else-member
+unfolding heard_where hears heard_by
+returns-else-member c = sym (pick_yes _ _ _ (sym c.member.ensures ∙ c.if-not-member.false) ∙ pick_no _ _ _ (sym c.member-else-not-member.ensures ∙ c.if-member.false))

@@ -5,10 +5,10 @@ use Rattle.sets.proofs.Bools.{pick_yes, pick_no}
 use Rattle.simulation.specs.Turns.{next_turn}
 use Rattle.simulation.proofs.playing.next_turn.Goals as goal
 
-pub returns-then-at-plan : goal.returns-then-at-plan
+pub returns-then-t : goal.returns-then-t
 unfolding next_turn
-returns-then-at-plan c = sym (pick_yes _ _ _ (lt-ltb _ _ c.if-at-plan.true))
+returns-then-t c = rw c.says_in.ensures (sym (pick_yes _ _ _ (lt-ltb _ _ c.if-t.true)))
 
 pub returns : goal.returns
 unfolding next_turn
-returns c = sym (pick_no _ _ _ (le-ltb _ _ c.if-at-plan.false))
+returns c = rw c.says_in.ensures (sym (pick_no _ _ _ (le-ltb _ _ c.if-t.false)))

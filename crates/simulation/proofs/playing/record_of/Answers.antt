@@ -1,16 +1,15 @@
 -- The definition's choices by the tests that led there; the last is what the step promises. Assumes nothing.
 use Prim.Native.Nat.{ℕ}
-use mathlib.Core.Path.{◌≡◌, sym, ap, ◌∙◌}
+use mathlib.Core.Path.{sym, ap, ◌∙◌}
 use mathlib.Core.List.{List}
 use borrow.Author.Tests.{eq-eqb, ne_eqb}
-use lib.ListN.{take, length}
-use lib.Seq.{length-take-le}
+use lib.ListN.{take}
+use Rattle.std.proofs.Common.{rules}
 use Rattle.sets.proofs.Bools.{pick_yes, pick_no}
 use Rattle.terminal.specs.Answer.{record_after}
 use Rattle.plan.specs.Plan.{heard_by}
-use Rattle.simulation.specs.Turns.{issued_in, record_of}
-use Rattle.sets.proofs.Tables.{table_length}
-use native.Mathlib.Omega.{arith}
+use Rattle.simulation.specs.Turns.{heard_in, issued_in, record_of}
+use Rattle.sets.proofs.Filled.{filled}
 use Rattle.simulation.proofs.playing.record_of.Goals as goal
 
 pub returns-then-t-eq0 : goal.returns-then-t-eq0
@@ -21,22 +20,13 @@ pub returns-then-member : goal.returns-then-member
 unfolding record_of
 returns-then-member c = c.start.ensures ∙ sym (pick_no _ _ _ (ne_eqb _ _ c.if-t-eq0.false) ∙ pick_yes _ _ _ (sym c.member.ensures ∙ c.if-member.true))
 
-pub heard-said-requires : goal.heard-said-requires
-heard-said-requires c = (c.requires.0, c.requires.1, omega arith, c.requires.2)
-
-pub slice_bounds-step-end : goal.slice_bounds-step-end
-slice_bounds-step-end c = let e : length c.heard-said.result ≡ 20 = ap length c.heard-said.ensures ∙ table_length 20 _ in
-    sym (length-take-le c.args.t.plan.n c.heard-said.result (omega arith))
-
-pub issued-requires : goal.issued-requires
-issued-requires c = (omega arith, c.requires.2)
-
 pub returns : goal.returns
-unfolding record_of heard_by
+unfolding record_of heard_in heard_by
 returns c =
     let a = c.args in
     c.issued.ensures
     ∙ ap (issued_in a.t)
     (c.step-stepped.ensures.1
-    ∙ ap (λ (l : List ℕ). record_after a.t.plan.n a.t.plan.source a.t.plan.bound a.t.at (heard_by a.t.plan a.t.at) a.before (take a.t.plan.n l)) c.heard-said.ensures)
+    ∙ ap (λ (l : List ℕ). record_after a.t.plan.n a.t.plan.source a.t.plan.bound a.t.at (heard_by a.t.plan a.t.at) a.before (take a.t.plan.n l))
+    (filled _ (heard_in a.t a.words.now) _ 0 20 c.from_fn-said.result (λ k y q l call. search rules) c.from_fn-said.ensures.items))
     ∙ sym (pick_no _ _ _ (ne_eqb _ _ c.if-t-eq0.false) ∙ pick_no _ _ _ (sym c.member.ensures ∙ c.if-member.false))

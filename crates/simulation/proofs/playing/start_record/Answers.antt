@@ -6,10 +6,10 @@ use Rattle.terminal.specs.Shown.{shown}
 use Rattle.propagation.specs.Run.{start_record}
 use Rattle.simulation.proofs.playing.start_record.Goals as goal
 
-pub returns-then-t-plan : goal.returns-then-t-plan
+pub returns-then-t : goal.returns-then-t
 unfolding start_record
-returns-then-t-plan c = c.source_start.ensures ∙ ap shown (sym (pick_yes _ _ _ (eq-eqb _ _ c.if-t-plan.true)))
+returns-then-t c = c.source_start.ensures ∙ ap shown (sym (pick_yes _ _ _ (eq-eqb _ _ c.if-t.true)))
 
 pub returns : goal.returns
 unfolding start_record
-returns c = c.start.ensures ∙ ap shown (sym (pick_no _ _ _ (ne_eqb _ _ c.if-t-plan.false)))
+returns c = c.start.ensures ∙ ap shown (sym (pick_no _ _ _ (ne_eqb _ _ c.if-t.false)))

@@ -7,15 +7,17 @@ use Rattle.terminal.specs.Shown.{spoken_in}
 use Rattle.terminal.proofs.Laws.{taking_none, taking_some}
 use Rattle.terminal.proofs.Record.decide.Goals as goal
 
-pub returns-then-notice-eq0 : goal.returns-then-notice-eq0
-returns-then-notice-eq0 c =
+pub returns-then-notice-ne0 : goal.returns-then-notice-ne0
+returns-then-notice-ne0 c =
+    let r = c.args.self in
     let a = c.args in
-    let e = c.chosen-notice.ensures ∙ ap (chosen a.n a.source a.bound a.heard (map spoken_in a.self.notes)) c.held.ensures in
-    ap (λ (s : State). record { state = s; round = a.self.round; notes = a.self.notes }) (sym (taking_none a.self.round a.self.state _ (sym e ∙ c.if-notice-eq0.true)))
+    let e = c.chosen-notice.ensures ∙ ap (chosen a.n a.source a.bound a.heard (map spoken_in r.notes)) c.held.ensures in
+    ap (λ (s : State). record { state = s; round = r.round; notes = r.notes })
+    (sym (taking_some r.round r.state _ c.if-notice-ne0.true) ∙ ap (taking r.round r.state) e)
 
-pub returns : goal.returns
-returns c =
+pub returns-else-notice-ne0 : goal.returns-else-notice-ne0
+returns-else-notice-ne0 c =
+    let r = c.args.self in
     let a = c.args in
-    let e = c.chosen-notice.ensures ∙ ap (chosen a.n a.source a.bound a.heard (map spoken_in a.self.notes)) c.held.ensures in
-    ap (λ (s : State). record { state = s; round = a.self.round; notes = a.self.notes })
-    (sym (taking_some a.self.round a.self.state _ c.if-notice-eq0.false) ∙ ap (taking a.self.round a.self.state) e)
+    let e = c.chosen-notice.ensures ∙ ap (chosen a.n a.source a.bound a.heard (map spoken_in r.notes)) c.held.ensures in
+    ap (λ (s : State). record { state = s; round = r.round; notes = r.notes }) (sym (taking_none r.round r.state _ (sym e ∙ c.if-notice-ne0.false)))

@@ -1,6 +1,6 @@
 -- By the two cases of a state. Assumes nothing.
-use borrow.Author.Tests.{eq-eqb, ne_eqb}
 use borrow.Author.Rules.{rules}
+use borrow.Author.Tests.{eq-eqb, ne_eqb}
 use Rattle.sets.specs.Tests.{◌and◌}
 use Rattle.terminal.specs.Channel.{first_hearing}
 use Rattle.terminal.proofs.channel.first_hearing.Goals as goal

@@ -1,19 +1,7 @@
-use mathlib.Core.Path.{◌≡◌, refl, ◌∙◌}
-use lib.ListN.{length-set}
-use Rattle.sets.proofs.Tables.{filled_more, table_is}
-use native.Mathlib.Omega.{arith}
+-- Each place holds what was said. Assumes nothing.
+use borrow.Author.Rules.{rules}
+use Rattle.sets.proofs.Filled.{filled}
 use Rattle.terminal.proofs.channel.notices.Goals as goal
 
-pub loop-j-init : goal.loop-j-init
-loop-j-init c = (omega arith, refl, λ i h. absurd (omega arith))
-
-pub loop-j-preserved : goal.loop-j-preserved
-loop-j-preserved c = (
-  omega arith,
-  length-set c.loop-j.all c.loop-j.j c.notice_at.result ∙ c.loop-j.invariant.1,
-  filled_more _ c.loop-j.all c.loop-j.j _ (let e = c.loop-j.invariant.1 in omega arith) c.notice_at.ensures c.loop-j.invariant.2,
-)
-
 pub returns : goal.returns
-returns c = let e : c.loop-j.j ≡ 20 = omega arith in
-    table_is 20 _ 0 _ c.loop-j.invariant.1 (λ i h. c.loop-j.invariant.2 i (omega arith))
+returns c = filled _ _ _ 0 20 c.from_fn.result (λ k y q l call. search rules) c.from_fn.ensures.items

@@ -9,6 +9,6 @@ pub returns-then-word-eq0 : goal.returns-then-word-eq0
 unfolding word_or
 returns-then-word-eq0 c = sym (pick_yes _ _ _ (eq-eqb _ 0 c.if-word-eq0.true))
 
-pub returns : goal.returns
+pub returns-else-word-eq0 : goal.returns-else-word-eq0
 unfolding word_or
-returns c = sym (pick_no _ _ _ (ne_eqb _ 0 c.if-word-eq0.false))
+returns-else-word-eq0 c = sym (pick_no _ _ _ (ne_eqb _ 0 c.if-word-eq0.false))

@@ -14,4 +14,4 @@ returns-then-enough c =
 pub returns : goal.returns
 returns c =
     let a = c.args in
-    sym (few_none a.n a.bound a.notes a.who a.fickle a.value (sym c.enough.ensures ∙ c.if-enough.false))
+    sym (few_none a.n a.bound a.notes.now a.who a.fickle a.value (sym c.enough.ensures ∙ c.if-enough.false))

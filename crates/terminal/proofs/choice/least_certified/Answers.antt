@@ -8,12 +8,12 @@ pub least_of_firsts-requires : goal.least_of_firsts-requires
 least_of_firsts-requires c =
     let a = c.args in
     let p = c.requires in
-    (p.0, λ j m. p.2 j (fickle_heard a.n a.bound a.heard a.notes p.0 p.1 a.first.values p.5 j (ap (mem j) (sym p.4) ∙ m)))
+    (p.0, λ j m. p.2 j (fickle_heard a.n a.bound a.heard a.notes.now p.0 p.1 a.first.now.values p.5 j (ap (mem j) (sym p.4) ∙ m)))
 
 pub returns : goal.returns
 returns c =
     let a = c.args in
     let p = c.requires in
     c.least_of_firsts.ensures
-    ∙ firsts_found a.n a.bound a.heard a.notes p.0 p.1 a.first.values p.5 a.first.single a.first.fickle p.3 p.4
+    ∙ firsts_found a.n a.bound a.heard a.notes.now p.0 p.1 a.first.now.values p.5 a.first.now.single a.first.now.fickle p.3 p.4
     (sym c.enough.ensures ∙ c.if-enough.false)

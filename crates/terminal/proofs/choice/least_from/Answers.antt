@@ -7,17 +7,12 @@ use Rattle.terminal.specs.Shown.{values_in}
 use Rattle.terminal.proofs.Shown.{view_values}
 use Rattle.terminal.proofs.choice.least_from.Goals as goal
 
-pub least_of-requires : goal.least_of-requires
-least_of-requires c =
-    let p = c.requires in
-    (p.0, p.2, p.2 c.args.j (sym c.member.ensures ∙ c.if-member.true))
-
 pub returns-then-member : goal.returns-then-member
 unfolding least_from
 returns-then-member c =
     let a = c.args in
     c.least_of.ensures
-    ∙ ap (least_of (candidate a.n a.bound a.heard (map values_in a.notes))) (sym (view_values a.notes a.j))
+    ∙ ap (least_of (candidate a.n a.bound a.heard (map values_in a.notes.now))) (sym (view_values a.notes.now a.j))
     ∙ sym (pick_yes _ _ _ (sym c.member.ensures ∙ c.if-member.true))
 
 pub returns : goal.returns

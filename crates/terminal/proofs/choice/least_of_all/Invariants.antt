@@ -1,5 +1,4 @@
 -- `least_of_all` meets its contract. The invariant: `best` is the least that is found from the neighbours below `j`. Assumes nothing.
-use Prim.Native.Nat.{◌≤◌, ◌-◌}
 use mathlib.Core.Path.{◌≡◌}
 use mathlib.Core.List.{map}
 use Rattle.terminal.specs.Rule.{least, least_from}
@@ -7,7 +6,4 @@ use Rattle.terminal.specs.Shown.{values_in}
 use Rattle.terminal.proofs.choice.least_of_all.Given as goal
 
 abbrev pub invariant-loop-j : goal.invariant-loop-j
-invariant-loop-j l = (l.j ≤ l.n) × (l.best ≡ least l.j (least_from l.n l.bound l.heard (map values_in l.notes)))
-
-abbrev pub decreases-loop-j : goal.decreases-loop-j
-decreases-loop-j l = l.n - l.j
+invariant-loop-j l = l.best ≡ least l.j (least_from l.n l.bound l.heard (map values_in l.notes))

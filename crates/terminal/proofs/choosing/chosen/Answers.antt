@@ -18,5 +18,5 @@ returns c =
     let a = c.args in
     let e = c.newest-best.ensures in
     c.notice_of.ensures
-    ∙ (λ i. notice_of (e.0 i) ((e.1 c.if-best-eq0.false ∙ ap (layout_in a.n a.source a.bound a.heard (map spoken_in a.notes)) e.0) i))
+    ∙ (λ i. notice_of (e.0 i) ((e.1 c.if-best-eq0.false ∙ ap (layout_in a.n a.source a.bound a.heard (map spoken_in a.notes.now)) e.0) i))
     ∙ sym (pick_no _ _ _ (ne_eqb _ 0 (λ z. c.if-best-eq0.false (e.0 ∙ z))))

@@ -3,6 +3,6 @@ use mathlib.Core.Path.{sym, ◌∙◌}
 use Rattle.terminal.proofs.Editions.{few_choose}
 use Rattle.terminal.proofs.choosing.layout_in.Goals as goal
 
-pub returns : goal.returns
-returns c = let p = c.requires in
-    sym (few_choose _ _ _ _ _ p.0 p.2 (sym c.member.ensures ∙ c.if-member.false) (sym c.enough.ensures ∙ c.if-enough.false))
+pub returns-then-not-enough : goal.returns-then-not-enough
+returns-then-not-enough c = let p = c.requires in
+    sym (few_choose _ _ _ _ _ p.0 p.2 (sym c.member.ensures ∙ c.if-not-member.true) (sym c.enough.ensures ∙ c.if-not-enough.true))

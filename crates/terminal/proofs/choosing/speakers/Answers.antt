@@ -1,31 +1,17 @@
+-- `speakers` meets its contract. Assumes nothing.
 use Prim.Native.Nat.{ℕ}
-use mathlib.Core.Path.{◌≡◌, refl, ap, ◌∙◌}
-use native.Mathlib.Omega.{arith}
+use mathlib.Core.Path.{ap, ◌∙◌}
+use borrow.Author.Rules.{rules}
 use lib.Bits.{bit_and}
 use lib.Dec.{eqb}
-use Rattle.sets.specs.Tests.{◌and◌}
-use Rattle.sets.specs.Sets.{mem, mask}
-use Rattle.sets.proofs.Masks.{next_bit, byte_bit, mask_and}
+use Rattle.sets.proofs.Masks.{mask_few, mask_and}
 use Rattle.terminal.specs.Shown.{note_of}
 use Rattle.terminal.specs.Votes.{speakers_in}
 use Rattle.terminal.proofs.choosing.speakers.Goals as goal
-
-pub loop-j-init : goal.loop-j-init
-unfolding mask
-loop-j-init c = (omega arith, refl)
-
-pub loop-j-preserved : goal.loop-j-preserved
-loop-j-preserved c =
-    let a = c.args in
-    let l = c.loop-j in
-    (omega arith, next_bit _ _ _ _ (omega arith) l.invariant.1 (byte_bit (eqb (note_of a.notes l.j).edition a.edition)))
 
 pub returns : goal.returns
 unfolding speakers_in
 returns c =
     let a = c.args in
-    let l = c.loop-j in
-    let e : l.j ≡ a.n = omega arith in
-    ap (λ (x : ℕ). bit_and x a.heard) l.invariant.1
-    ∙ mask_and l.j (λ i. eqb (note_of a.notes i).edition a.edition) a.heard
-    ∙ ap (λ (k : ℕ). mask k (λ i. eqb (note_of a.notes i).edition a.edition and mem i a.heard)) e
+    let holds = c.those.ensures (λ j. eqb (note_of a.notes.now j).edition a.edition) (λ j b k h. search rules) ∙ mask_few a.n _ c.requires in
+    ap (λ (x : ℕ). bit_and x a.heard) holds ∙ mask_and a.n _ a.heard

@@ -1,12 +1,8 @@
--- The first i bytes are joined. Assumes nothing.
-use Prim.Native.Nat.{◌≤◌, ◌-◌}
+-- The bytes so far are joined. Assumes nothing.
 use mathlib.Core.Path.{◌≡◌}
-use lib.ListN.{length, take}
+use lib.ListN.{take}
 use Rattle.text.specs.Texts.{held, joined}
 use Rattle.text.proofs.Text.phrase.Given as goal
 
-abbrev pub invariant-loop-i : goal.invariant-loop-i
-invariant-loop-i l = (l.i ≤ length l.bytes) × (held l.t ≡ joined (held l.initial.t) (take l.i l.bytes))
-
-abbrev pub decreases-loop-i : goal.decreases-loop-i
-decreases-loop-i l = length l.bytes - l.i
+abbrev pub invariant-loop-b : goal.invariant-loop-b
+invariant-loop-b l = held l.self ≡ joined (held l.initial.self) (take l.b-index l.bytes)

@@ -6,10 +6,10 @@ use Rattle.text.specs.Texts.{held}
 use Rattle.text.proofs.Laws.{grown, full}
 use Rattle.text.proofs.Text.raw.Goals as goal
 
-pub returns-then-at-lt-ROOM : goal.returns-then-at-lt-ROOM
+pub returns-then-self-lt-ROOM : goal.returns-then-self-lt-ROOM
 unfolding held
-returns-then-at-lt-ROOM c = let e : length c.args.self.bytes ≡ 344 = search rules in grown _ _ _ e c.if-at-lt-ROOM.true
+returns-then-self-lt-ROOM c = let e : length c.args.self.bytes ≡ 344 = search rules in grown _ _ _ e c.if-self-lt-ROOM.true
 
-pub returns-else-at-lt-ROOM : goal.returns-else-at-lt-ROOM
+pub returns-else-self-lt-ROOM : goal.returns-else-self-lt-ROOM
 unfolding held
-returns-else-at-lt-ROOM c = let e : length c.args.self.bytes ≡ 344 = search rules in full _ _ _ e c.if-at-lt-ROOM.false
+returns-else-self-lt-ROOM c = let e : length c.args.self.bytes ≡ 344 = search rules in full _ _ _ e c.if-self-lt-ROOM.false

@@ -9,16 +9,13 @@ use Rattle.wording.proofs.Listings.{listing_next, listing_ends, joined_turn}
 use Rattle.wording.proofs.names.with_names.Goals as goal
 
 pub loop-i-init : goal.loop-i-init
-loop-i-init c = let a = c.args in (omega arith, c.requires.2, ap (λ (m : ℕ). joined (held a.t) (listing (members_from 0 m a.s))) (sub-zero a.n))
+loop-i-init c = let a = c.args in (c.requires.2, ap (λ (m : ℕ). joined (held a.t) (listing (members_from 0 m a.s))) (sub-zero a.n))
 
-pub with_one-all-requires : goal.with_one-all-requires
-with_one-all-requires c = (omega (arith, c.requires.0), c.loop-i.invariant.1)
-
-pub overflow_add-i : goal.overflow_add-i
-overflow_add-i c = omega (arith, c.requires.0)
+pub with_one-t-requires : goal.with_one-t-requires
+with_one-t-requires c = (omega (arith, c.requires.0), c.loop-i.invariant.0)
 
 pub loop-i-preserved : goal.loop-i-preserved
-loop-i-preserved c = let l = c.loop-i in let a = c.args in (omega arith, joined_length _ _ c.with_one-all.ensures, joined_turn _ _ _ c.with_one-all.ensures ∙ ap (joined (held l.all)) (sym (listing_next a.s a.n l.i (omega arith) c.requires.1)) ∙ l.invariant.2)
+loop-i-preserved c = let l = c.loop-i in let a = c.args in (joined_length _ _ c.with_one-t.ensures, joined_turn _ _ _ c.with_one-t.ensures ∙ ap (joined (held l.t)) (sym (listing_next a.s a.n l.i (omega arith) c.requires.1)) ∙ l.invariant.1)
 
 pub returns : goal.returns
-returns c = let l = c.loop-i in let a = c.args in joined_none _ l.invariant.1 ∙ ap (joined (held l.all)) (sym (listing_ends a.s a.n l.i (omega arith))) ∙ l.invariant.2
+returns c = let l = c.loop-i in let a = c.args in joined_none _ l.invariant.0 ∙ ap (joined (held l.t)) (sym (listing_ends a.s a.n l.i (omega arith))) ∙ l.invariant.1

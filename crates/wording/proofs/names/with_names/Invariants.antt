@@ -8,7 +8,4 @@ use Rattle.wording.proofs.names.with_names.Given as goal
 
 abbrev pub invariant-loop-i : goal.invariant-loop-i
 invariant-loop-i l =
-    (l.i ≤ l.n) × (length (held l.all) ≤ 344) × (joined (held l.all) (listing (members_from l.i (l.n - l.i) l.s)) ≡ joined (held l.initial.all) (listing (members l.n l.s)))
-
-abbrev pub decreases-loop-i : goal.decreases-loop-i
-decreases-loop-i l = l.n - l.i
+    (length (held l.t) ≤ 344) × (joined (held l.t) (listing (members_from l.i (l.n - l.i) l.s)) ≡ joined (held l.initial.t) (listing (members l.n l.s)))

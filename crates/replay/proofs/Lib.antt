@@ -1,2 +1,0 @@
--- The size of a small number below zero (Signed).
-mod Signed

@@ -1,9 +1,0 @@
--- Goes through the records once. Assumes nothing.
-use Rattle.std.proofs.Common.{◌≡◌, ◌-◌, ◌≤◌, length}
-use Rattle.replay.proofs.lent.records.Given as goal
-
-abbrev pub invariant-loop-b : goal.invariant-loop-b
-invariant-loop-b l = (l.b ≤ 5) × (length l.line ≡ length l.initial.line)
-
-abbrev pub decreases-loop-b : goal.decreases-loop-b
-decreases-loop-b l = 5 - l.b

@@ -1,9 +1,0 @@
--- Fills the rows place by place. Assumes nothing.
-use Rattle.std.proofs.Common.{◌≡◌, ◌-◌, ◌≤◌, length}
-use Rattle.replay.proofs.said.rows.Given as goal
-
-abbrev pub invariant-loop-b : goal.invariant-loop-b
-invariant-loop-b l = (l.b ≤ 20) × (length l.rows ≡ 20)
-
-abbrev pub decreases-loop-b : goal.decreases-loop-b
-decreases-loop-b l = 20 - l.b

@@ -1,6 +1,0 @@
--- The part that is lent has as many places as it was lent for. Assumes nothing.
-use Rattle.std.proofs.Common.{sym, length-take-le, rules}
-use Rattle.replay.proofs.texts.sentence.Goals as goal
-
-pub slice_bounds-sentence_into-end : goal.slice_bounds-sentence_into-end
-slice_bounds-sentence_into-end c = sym (length-take-le _ _ (search rules))
