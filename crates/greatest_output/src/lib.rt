@@ -59,7 +59,7 @@ pub fn greatest_text(text: &[u8], out: &mut [u8]) -> Written
     ensures out_after { out.new ≡ put_into (greatest_text text.now) out.old }
 {
     match frames::read_drawing(text) {
-        Ok(p) => output::put(answer(tolerance::greatest_bound(drawing_of(p.plan))), out),
+        Ok(p) => output::accepted(answer(tolerance::greatest_bound(drawing_of(p.plan))), out),
         Err(e) => output::refused(e, out),
     }
 }

@@ -41,7 +41,7 @@ pub fn margins_text(text: &[u8], out: &mut [u8]) -> Written
     ensures out_after { out.new ≡ put_into (margins_text text.now) out.old }
 {
     match frames::read_margins(text) {
-        Ok(p) => output::put(answer(p.plan), out),
+        Ok(p) => output::accepted(answer(p.plan), out),
         Err(e) => output::refused(e, out),
     }
 }

@@ -36,19 +36,27 @@ pub fn refusal(number: u8, line: u16) -> Text
     text::empty().byte(255).byte(number).pair(line).raw(10)
 }
 
-// What is said of an accepted file, at the front of the list, if it has room.
-pub fn put(said: Text, out: &mut [u8]) -> Written
+// Any text beside a file's number and line, at the front of the list, if it has room.
+pub fn put(number: u8, line: u16, said: Text, out: &mut [u8]) -> Written
+    ensures value { result ≡ on_line line (written_of number (length (held said)) (length out.old)) }
+    ensures out_after { out.new ≡ put_into (held said) out.old }
+{
+    on_line(line, said.put(number, out))
+}
+
+// What is said of an accepted file.
+pub fn accepted(said: Text, out: &mut [u8]) -> Written
     ensures value { result ≡ on_line 0 (written_of 0 (length (held said)) (length out.old)) }
     ensures out_after { out.new ≡ put_into (held said) out.old }
 {
-    on_line(0, said.put(0, out))
+    put(0, 0, said, out)
 }
 
-// Why a file is refused, likewise.
+// Why a file is refused.
 pub fn refused(e: Refusal, out: &mut [u8]) -> Written
     ensures value { result ≡ answer_on (answer (Err e)) (refusal_line (number e.cause) e.line) (length out.old) }
     ensures out_after { out.new ≡ put_into (refusal_line (number e.cause) e.line) out.old }
 {
     let number = u8::from(e.cause);
-    on_line(e.line, refusal(number, e.line).put(number, out))
+    put(number, e.line, refusal(number, e.line), out)
 }

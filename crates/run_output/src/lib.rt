@@ -134,7 +134,7 @@ pub fn run_text(text: &[u8], out: &mut [u8]) -> Written
     let mut words = [0u32; 16000];
     let mut later = [0u32; 40];
     match frames::read_run(text, &mut words, &mut later) {
-        Ok(p) => output::put(ran(p, &words, &later), out),
+        Ok(p) => output::accepted(ran(p, &words, &later), out),
         Err(e) => output::refused(e, out),
     }
 }

@@ -48,7 +48,7 @@ pub fn sentence_text(text: &[u8], out: &mut [u8]) -> Written
     ensures out_after { out.new ≡ put_into (sentence_text text.now) out.old }
 {
     match frames::read_plan(text) {
-        Ok(p) => output::put(answer(p.plan.n, partition::verdict(p.plan)), out),
+        Ok(p) => output::accepted(answer(p.plan.n, partition::verdict(p.plan)), out),
         Err(e) => output::refused(e, out),
     }
 }
@@ -59,7 +59,7 @@ pub fn heard_text(text: &[u8], out: &mut [u8]) -> Written
     ensures out_after { out.new ≡ put_into (heard_text text.now) out.old }
 {
     match entry::on_file(text) {
-        Ok(s) => output::put(verdict_output::line(1, s.f, s.l, s.r), out),
+        Ok(s) => output::accepted(verdict_output::line(1, s.f, s.l, s.r), out),
         Err(e) => {
             let (number, line) = (u8::from(e), entry::line_of(e));
             output::on_line(line, output::refusal(number, line).put(number, out))

@@ -46,7 +46,7 @@ pub fn verdict_text(text: &[u8], out: &mut [u8]) -> Written
     ensures out_after { out.new ≡ put_into (verdict_text text.now) out.old }
 {
     match frames::read_plan(text) {
-        Ok(p) => output::put(answer(partition::verdict(p.plan)), out),
+        Ok(p) => output::accepted(answer(partition::verdict(p.plan)), out),
         Err(e) => output::refused(e, out),
     }
 }
@@ -57,7 +57,7 @@ pub fn archive_text(text: &[u8], out: &mut [u8]) -> Written
     ensures out_after { out.new ≡ put_into (archive_text text.now) out.old }
 {
     match frames::read_archive(text) {
-        Ok(a) => output::put(answer(partition::verdict(a.progress.plan)), out),
+        Ok(a) => output::accepted(answer(partition::verdict(a.progress.plan)), out),
         Err(e) => output::refused(e, out),
     }
 }
@@ -68,7 +68,7 @@ pub fn quote_text(text: &[u8], out: &mut [u8]) -> Written
     ensures out_after { out.new ≡ put_into (quote_text text.now) out.old }
 {
     match frames::read_quote(text) {
-        Ok(p) => output::put(answer(partition::quote(p.plan)), out),
+        Ok(p) => output::accepted(answer(partition::quote(p.plan)), out),
         Err(e) => output::refused(e, out),
     }
 }

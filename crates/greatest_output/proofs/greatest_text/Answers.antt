@@ -12,7 +12,7 @@ answer-requires c = height_small _ _ c.greatest_bound.ensures
 pub returns-in-Ok : goal.returns-in-Ok
 unfolding greatest_text
 returns-in-Ok c = let g = c.greatest_bound.ensures ∙ ap greatest_of c.drawing_of.ensures in
-    let p = put_greatest _ _ _ _ _ (c.in-Ok.ensures {u = tt}) g c.answer.ensures c.put.ensures.value c.put.ensures.out_after in
+    let p = put_greatest _ _ _ _ _ (c.in-Ok.ensures {u = tt}) g c.answer.ensures c.accepted.ensures.value c.accepted.ensures.out_after in
     record { value = p.0; out_after = p.1 }
 
 pub returns-in-Err : goal.returns-in-Err

@@ -5,7 +5,7 @@ use Rattle.margin_output.proofs.margins_text.Goals as goal
 
 pub returns-in-Ok : goal.returns-in-Ok
 unfolding margins_text
-returns-in-Ok c = let p = put_margins _ _ _ _ (c.in-Ok.ensures {u = tt}) c.answer.ensures c.put.ensures.value c.put.ensures.out_after in
+returns-in-Ok c = let p = put_margins _ _ _ _ (c.in-Ok.ensures {u = tt}) c.answer.ensures c.accepted.ensures.value c.accepted.ensures.out_after in
     record { value = p.0; out_after = p.1 }
 
 pub returns-in-Err : goal.returns-in-Err

@@ -13,8 +13,8 @@ unfolding answer_on
 returns c = let e = c.args.e in
     let room = length c.args.out.now in
     let said : held c.refusal.result ≡ refusal_line (number e.cause) e.line = c.refusal.ensures ∙ ap (λ (k : ℕ). refusal_line k e.line) c.from-number.ensures in
-    let written = c.put.ensures.value ∙ ap (λ (k : ℕ). written_of k (length (held c.refusal.result)) room) c.from-number.ensures ∙ ap (λ (t : List ℕ). written_of (number e.cause) (length t) room) said in
+    let written = ap (λ (k : ℕ). written_of k (length (held c.refusal.result)) room) c.from-number.ensures ∙ ap (λ (t : List ℕ). written_of (number e.cause) (length t) room) said in
     record {
-      value = c.on_line.ensures ∙ ap (on_line e.line) written;
+      value = c.put.ensures.value ∙ ap (on_line e.line) written;
       out_after = c.put.ensures.out_after ∙ ap (λ (t : List ℕ). put_into t c.args.out.now) said;
     }

@@ -11,7 +11,7 @@ ran-requires c = let e = c.in-Ok.ensures {u = tt} in
 
 pub returns-in-Ok : goal.returns-in-Ok
 returns-in-Ok c = let e = c.in-Ok.ensures {u = tt} in
-    let put = put_ran _ _ _ _ _ (read_is _ _ _ _ e.value e.words_after e.later_after) (said_is _ _ _ _ e.value e.words_after e.later_after refl) c.ran.ensures c.put.ensures.value c.put.ensures.out_after in
+    let put = put_ran _ _ _ _ _ (read_is _ _ _ _ e.value e.words_after e.later_after) (said_is _ _ _ _ e.value e.words_after e.later_after refl) c.ran.ensures c.accepted.ensures.value c.accepted.ensures.out_after in
     record { value = put.0; out_after = put.1; rounds_left_out = put_left_out _ _ _ _ put.0 put.1 }
 
 pub returns-in-Err : goal.returns-in-Err

@@ -11,7 +11,7 @@ answer-requires c = answer_small most_quoted _ c.quote.result c.quote.ensures.an
 
 pub returns-in-Ok : goal.returns-in-Ok
 unfolding quote_of quote_text
-returns-in-Ok c = let p = put_verdict most_quoted _ _ _ _ _ (c.in-Ok.ensures {u = tt}) c.quote.ensures.answer c.answer.ensures c.put.ensures.value c.put.ensures.out_after in
+returns-in-Ok c = let p = put_verdict most_quoted _ _ _ _ _ (c.in-Ok.ensures {u = tt}) c.quote.ensures.answer c.answer.ensures c.accepted.ensures.value c.accepted.ensures.out_after in
     record { value = p.0; out_after = p.1 }
 
 pub returns-in-Err : goal.returns-in-Err

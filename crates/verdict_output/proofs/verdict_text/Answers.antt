@@ -11,7 +11,7 @@ answer-requires c = answer_small most_terminals _ c.verdict.result c.verdict.ens
 
 pub returns-in-Ok : goal.returns-in-Ok
 unfolding answer_of verdict_text
-returns-in-Ok c = let p = put_verdict most_terminals _ _ _ _ _ (c.in-Ok.ensures {u = tt}) c.verdict.ensures.answer c.answer.ensures c.put.ensures.value c.put.ensures.out_after in
+returns-in-Ok c = let p = put_verdict most_terminals _ _ _ _ _ (c.in-Ok.ensures {u = tt}) c.verdict.ensures.answer c.answer.ensures c.accepted.ensures.value c.accepted.ensures.out_after in
     record { value = p.0; out_after = p.1 }
 
 pub returns-in-Err : goal.returns-in-Err
