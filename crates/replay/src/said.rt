@@ -1,4 +1,6 @@
 // Numbers, plans and records out of a call's bytes, one after the other, high byte first; 0 past their end.
+ghost use Rattle.std.specs.Prelude.{◌+◌, ◌≤◌, length};
+
 use plan::Plan;
 use quorum::{Bound, BoundKind};
 use terminal::{Note, Record, State};
@@ -49,18 +51,35 @@ impl<'a> Call<'a> {
         self.fill(&mut list[..count], read)
     }
 
-    // 0 for f, else groups; f or their count; the groups, and 0 at the other places.
-    pub(crate) fn bound(&mut self) -> Bound {
-        let grouped = self.byte() != 0;
-        let number = self.count();
-        let mut groups = [0u32; 16];
-        self.listed(&mut groups, Call::quad);
-        let kind = if grouped {
-            BoundKind::Groups(number)
-        } else {
-            BoundKind::Most(number)
-        };
-        Bound { kind, groups }
+    // What is read of the next bytes, at most so many: past these it is 0, as past the call's end.
+    fn within<T, F: FnOnce(&mut Call<'a>) -> T>(&mut self, most: usize, read: F) -> T
+        requires { F.IsAlwaysCallable read }
+        ensures { length self.old.rest.now ≤ length self.new.rest.now + most }
+    {
+        let size = self.rest.len().min(most);
+        let mut part = Call::of(&self.rest[..size]);
+        let made = read(&mut part);
+        let taken = size.saturating_sub(part.rest.len());
+        self.rest = &self.rest[taken..];
+        made
+    }
+
+    // 0 for f, else groups; f or their count; the groups, and 0 at the other places: at most 67 bytes.
+    pub(crate) fn bound(&mut self) -> Bound
+        ensures { length self.old.rest.now ≤ length self.new.rest.now + 67 }
+    {
+        self.within(67, |call| {
+            let grouped = call.byte() != 0;
+            let number = call.count();
+            let mut groups = [0u32; 16];
+            call.listed(&mut groups, Call::quad);
+            let kind = if grouped {
+                BoundKind::Groups(number)
+            } else {
+                BoundKind::Most(number)
+            };
+            Bound { kind, groups }
+        })
     }
 
     fn rows(&mut self) -> [u32; 20] {
@@ -76,14 +95,19 @@ impl<'a> Call<'a> {
         }
     }
 
-    // n and source in a byte each, the bound, then the rows.
-    pub(crate) fn plan(&mut self) -> Plan {
-        Plan {
-            n: self.count(),
-            source: self.count(),
-            bound: self.bound(),
-            rows: self.rows(),
-        }
+    // n and source in a byte each, the bound, then the rows: at most 149 bytes.
+    pub(crate) fn plan(&mut self) -> Plan
+        ensures { length self.old.rest.now ≤ length self.new.rest.now + 149 }
+    {
+        self.within(
+            149,
+            |call| Plan {
+                n: call.count(),
+                source: call.count(),
+                bound: call.bound(),
+                rows: call.rows(),
+            },
+        )
     }
 
     // 0 for waiting, else 1; the round and the notice, which are there when it is waiting too.
@@ -111,12 +135,17 @@ impl<'a> Call<'a> {
         }
     }
 
-    // The state in six bytes, the round, then 20 notes.
-    pub(crate) fn record(&mut self) -> Record {
-        Record {
-            state: self.state(),
-            round: self.byte(),
-            notes: std::array::from_fn(|_| self.note()),
-        }
+    // The state in six bytes, the round, then 20 notes: at most 1,687 bytes.
+    pub(crate) fn record(&mut self) -> Record
+        ensures { length self.old.rest.now ≤ length self.new.rest.now + 1687 }
+    {
+        self.within(
+            1687,
+            |call| Record {
+                state: call.state(),
+                round: call.byte(),
+                notes: std::array::from_fn(|_| call.note()),
+            },
+        )
     }
 }
