@@ -181,12 +181,21 @@ pub extern "C" fn hulmayek_bound_shared_step(
     answer_of(&before, &stepped)
 }
 
-// The source's board takes a later notice of its office, in the round that its record shows.
+// The source's board takes a later notice of its office, in the round that its record shows. No note changes, so they
+// are copied from the record that went in, once.
 #[unsafe(no_mangle)]
 pub extern "C" fn hulmayek_issue(before: BoardRecord, notice: u32) -> BoardAnswer
     ensures { result ≡ board_issued before notice }
 {
-    answer_of(&before, &terminal::issue(record_of(&before), notice))
+    let answer = answer_of(&before, &terminal::issue(record_of(&before), notice));
+    let notes = before.notes;
+    BoardAnswer {
+        number: answer.number,
+        after: BoardRecord {
+            notes,
+            ..answer.after
+        },
+    }
 }
 
 // What the terminal says in the round after the one that its record shows: its notice if it took in

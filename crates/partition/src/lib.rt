@@ -148,8 +148,8 @@ pub fn quote(p: Plan) -> Result<Option<Witness>, VerdictError>
 pub fn check_witness(p: Plan, f: u32, l: u32, r: u32) -> Result<bool, Unsound>
     ensures { replied result ≡ reply_of p f l r }
 {
-    let site = site::of(p)?;
-    Ok(check::accepts(&site, f, l, r))
+    plan::check(p)?;
+    Ok(check::accepts(&p, f, l, r))
 }
 
 // How each terminal stands, or why the record is no plan with a bound f; one that lists a group has none.

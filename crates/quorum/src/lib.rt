@@ -157,15 +157,14 @@ pub fn rising(first: u16, later: &[u32]) -> bool
     ensures { result ≡ rising first later.now }
 {
     let mut last = first;
-    for notice in later {
-        if silent(*notice) {
-            continue;
+    for &notice in later {
+        if !silent(notice) {
+            let edition = edition_of(notice);
+            if edition <= last {
+                return false;
+            }
+            last = edition;
         }
-        let edition = edition_of(*notice);
-        if edition <= last {
-            return false;
-        }
-        last = edition;
     }
     true
 }

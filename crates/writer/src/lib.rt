@@ -53,8 +53,8 @@ fn put_link(out: &mut [u8], at: usize, from: usize, to: usize)
 }
 
 // Place k is that of sender k / 20 and hearer k % 20.
-fn linked(p: Plan, k: usize) -> bool
-    ensures { result ≡ hears p (k % 20) (k / 20) }
+fn linked(p: &Plan, k: usize) -> bool
+    ensures { result ≡ hears p.now (k % 20) (k / 20) }
 {
     sets::member(p.rows[k % 20], k / 20)
 }
@@ -64,7 +64,7 @@ fn links_len(p: Plan) -> usize
 {
     let mut len = 0;
     for k in 0..400 {
-        if linked(p, k) {
+        if linked(&p, k) {
             len += 7;
         }
     }
@@ -77,7 +77,7 @@ fn put_links(p: Plan, out: &mut [u8])
 {
     let mut at = 9;
     for k in 0..400 {
-        if linked(p, k) {
+        if linked(&p, k) {
             put_link(out, at, k / 20, k % 20);
             at += 7;
         }

@@ -20,4 +20,4 @@ ok_number (Err OverBound) = refl
 pub returns : goal.returns
 returns c =
     c.is_ok.ensures.value ∙ ok_number c.check_fault_set.result ∙ ap (λ (k : ℕ). eqb k 0) c.check_fault_set.ensures
-    ∙ fault_number _ _ c.args.site.now.sound
+    ∙ fault_number _ _ c.requires
