@@ -8,6 +8,8 @@ use borrow.Author.Tests.{ne_eqb, leb-true, ltb-true, lt-ltb}
 use lib.Dec.{eqb, leb}
 use lib.ListN.{length}
 use Rattle.sets.specs.Tests.{◌and◌, pick}
+use Rattle.sets.specs.Tables.{table}
+use Rattle.sets.proofs.Tables.{table_is}
 use Rattle.sets.proofs.Bools.{pick_no, pick_case, no_by, not_i, not_yes, and_l, and_r, and_no_r}
 use Rattle.sets.proofs.Causes.{cause_here, cause_later}
 use Rattle.quorum.specs.declared.BoundKind.TheVariants.{Most, Groups}
@@ -20,6 +22,7 @@ use Rattle.terminal.specs.declared.State.TheVariants.{Waiting, Taken}
 use Rattle.terminal.specs.declared.Note.{Note}
 use Rattle.terminal.specs.declared.Record.{Record}
 use Rattle.terminal.specs.Rule.{held_by}
+use Rattle.terminal.specs.Shown.{note_of}
 use Rattle.terminal.specs.Answer.{state_sound, cause_of, record_after, issue_cause, record_issued}
 use Rattle.terminal.specs.Channel.{shared_cause_of, shared_record_after}
 use Rattle.firmware.specs.declared.BoardRecord.{BoardRecord}
@@ -36,6 +39,10 @@ state_again (Taken at notice) round notes = refl
 pub again : (r : Record) → record_of (board_of r) ≡ r
 unfolding board_of
 again r = state_again r.state r.round r.notes
+
+-- twenty notes, one after the other, are the notes
+pub notes_again : (notes : List Note) → length notes ≡ 20 → table 20 (note_of notes) ≡ notes
+notes_again notes e = sym (table_is 20 (note_of notes) _ notes e (λ j k. refl))
 
 -- ---- the answers, by the terminal's
 

@@ -1,16 +1,23 @@
 -- What is looked at where the links end. Assumes nothing.
 use Prim.Native.Nat.{ℕ}
-use mathlib.Core.Path.{◌≡◌, refl, sym, ◌∙◌}
-use mathlib.Core.Bool.{true, false}
+use mathlib.Core.Path.{◌≡◌, refl, sym, ap, ◌∙◌}
+use mathlib.Core.Bool.{Bool, true, false}
 use native.Mathlib.Omega.{arith}
 use borrow.Author.Tests.{eq-eqb, ne_eqb}
+use Rattle.sets.specs.Tests.{◌or◌}
 use Rattle.sets.proofs.Bools.{and_i, and_yes, and_no_l, and_no_r, not_i, not_yes, pick_yes, pick_no, pick_case}
 use Rattle.sets.proofs.Causes.{cause_here, cause_later, cause_last, cause_none}
 use Rattle.plan.specs.Deaf.{deaf_set}
 use Rattle.lines.specs.declared.Frame.{Frame}
+use Rattle.frames.specs.declared.Stage.TheVariants.{Links, Grouped}
 use Rattle.frames.specs.declared.Progress.{Progress}
 use Rattle.frames.specs.declared.Reader.{Reader}
-use Rattle.frames.specs.Reading.{in_plan, lists_none, ends_links, links_cause, end_cause}
+use Rattle.frames.specs.Reading.{is_at, in_plan, lists_none, ends_links, links_cause, end_cause}
+
+-- not among the links, so among the groups or elsewhere
+pub past_links : (p : Progress) → is_at Links p ≡ false → in_plan p ≡ is_at Grouped p
+unfolding in_plan ◌or◌
+past_links p h = ap (λ (b : Bool). b or is_at Grouped p) h
 
 module _ (reader : Reader) (p : Progress) where
   -- before the head and after the place nothing is

@@ -169,6 +169,10 @@ pub key_low : (s : ℕ) → s < 2 ^ 20 → key s < 22020096
 unfolding key size
 key_low s h = omega (arith, count_le 20 (λ i. mem i s))
 
+pub key_members : (s : ℕ) → s < 2 ^ 20 → key s / 1048576 ≡ size 20 s
+unfolding key
+key_members s h = omega arith
+
 pub key_set : (s : ℕ) → s < 2 ^ 20 → key s % 1048576 ≡ s
 unfolding key
 key_set s h = omega arith

@@ -11,7 +11,7 @@ use lib.Pointwise.{pointwise}
 use lib.Seq.{take_all, take-suc}
 use borrow.Author.Tests.{eq-eqb, eqb-true}
 use Rattle.sets.specs.Tests.{◌and◌}
-use Rattle.sets.proofs.Bools.{clash, and_l, and_r, and_i}
+use Rattle.sets.proofs.Bools.{clash, and_l, and_r, and_i, no_by}
 use Rattle.text.specs.Texts.{joined}
 use Rattle.text.specs.Phrases.{same, begins}
 use Rattle.text.proofs.Laws.{then}
@@ -53,6 +53,17 @@ same_is (x ∷ xs) (y ∷ ys) h = ap₂ (λ (a : ℕ) (l : List ℕ). a ∷ l) (
 
 pub same_yes : (xs ys : List ℕ) → xs ≡ ys → same xs ys ≡ true
 same_yes xs ys e = ap (same xs) (sym e) ∙ same_refl xs
+
+pub same_no : (xs ys : List ℕ) → (xs ≡ ys → ⊥) → same xs ys ≡ false
+same_no xs ys f = no_by (λ h. f (same_is xs ys h))
+
+pub length_same : (xs bytes : List ℕ) → (length xs ≡ length bytes → ⊥) → same xs bytes ≡ false
+length_same xs bytes f = same_no xs bytes (λ q. f (ap length q))
+
+-- as many bytes: all of them are compared
+pub begins_is : (xs bytes : List ℕ) → length xs ≡ length bytes → begins xs bytes ≡ same xs bytes
+unfolding begins
+begins_is xs bytes e = ap (same xs) (take_all (length xs) bytes (omega arith))
 
 -- the library's test of two slices
 and_and : (a : Bool) {b c : Bool} → b ≡ c → (a && b) ≡ (a and c)
